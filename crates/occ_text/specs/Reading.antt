@@ -1,10 +1,11 @@
 -- Reading from left to right, as functions on lists that private clauses cite. Each answers what stands at the front,
 -- and what follows it; the laws in proofs/ join them to the relations of Spelling and Lines.
 -- Manual: nothing; this is (own).
-use Rattle.std.specs.Prelude.{◌≡◌, ℕ, zero, suc, ◌+◌, ◌-◌, ◌*◌, ◌/◌, ◌%◌, Bool, ◌&&◌, ◌==◌, nat_le, nat_lt, bytes_eq, if◌then◌else◌, List, [], ◌∷◌, ◌++◌, length, map, drop, Option, Some, None, Result, Ok, Err, pos}
+use Rattle.std.specs.Prelude.{◌≡◌, ℕ, zero, suc, ◌+◌, ◌-◌, ◌*◌, ◌/◌, ◌%◌, Bool, ◌&&◌, ◌==◌, nat_le, nat_lt, bytes_eq, if◌then◌else◌, List, [], ◌∷◌, ◌++◌, length, map, drop, Option, Some, None, Result, Ok, Err, option_map, pos}
 use Rattle.std.specs.Char.{is_ascii_alphabetic, is_ascii_digit, is_ascii_hexdigit}
 use Rattle.std.specs.Int.{w32, cast_signed}
 use Rattle.std.specs.List.{enumerate_from, prefix_len, take_while}
+use Rattle.std.specs.Borrow.{Bor}
 use Rattle.std.specs.Str.Lines.{lines}
 use Rattle.occ_text.specs.declared.class.Class.{Class}
 use Rattle.occ_text.specs.declared.class.Class.TheVariants as classes
@@ -12,9 +13,10 @@ use Rattle.occ_text.specs.declared.fault.TextFault.{TextFault}
 use Rattle.occ_text.specs.declared.fault.TextFault.TheVariants as faults
 use Rattle.occ_text.specs.declared.keyword.TheConstants.{KEYS_A, KEYS_B, KEYS_C, KEYS_E, KEYS_F, KEYS_I, KEYS_M, KEYS_N, KEYS_O, KEYS_P, KEYS_R, KEYS_S, KEYS_T, KEYS_V, KEYS_W}
 use Rattle.occ_text.specs.declared.token.Key.{Key}
+use Rattle.occ_text.specs.declared.token.Line.{Line}
 use Rattle.occ_text.specs.declared.token.Sym.{Sym}
 use Rattle.occ_text.specs.declared.token.Sym.TheVariants as s
-use Rattle.occ_text.specs.Words.{Word, key, name, lit, mark, number, byte, text, LogicalLine, logical_line}
+use Rattle.occ_text.specs.Words.{Word, key, name, lit, mark, number, byte, text, LogicalLine, logical_line, logical_line_of}
 use Rattle.occ_text.specs.Spelling.{is_name_part, is_plain, digit_of, value, escape_of}
 use Rattle.occ_text.specs.Lines.{Physical, begins_comment, goes_on, indent}
 
@@ -34,6 +36,11 @@ Gives view (Err e) read = Fails e read
 
 abbrev pub Reader : Type 0 → Type 0
 Reader A = List ℕ → Option (A × List ℕ)
+
+-- the answer, seen by view, is what read finds at the front of the bytes, with the bytes behind it; a fault says that it finds
+-- nothing there, or that memory ran out
+abbrev pub ReadsBytes : {X Y : Type 0} → (X → Y) → Result (X × Bor (List ℕ)) TextFault → Reader Y → List ℕ → Type 0
+ReadsBytes view result read bytes = Gives (λ x. (view x.0, x.1.now)) result (read bytes)
 
 abbrev pub guard : {A : Type 0} → Bool → A → Option A
 guard b x = if b then Some x else None
@@ -186,7 +193,11 @@ words_from skipped [] = Some []
 words_from (suc skipped) (b ∷ rest) = words_from skipped rest
 words_from zero (b ∷ rest) = if b == 32 then words_from 0 rest else (if begins_comment (b ∷ rest) then Some [] else (word_at (b ∷ rest) >>= λ x. words_from (length rest - length x.1) rest >>= λ ws. Some (x.0 ∷ ws)))
 
--- the logical line that goes on, if any, after one more physical line
+-- the logical line that goes on, if any
+abbrev pub going_on : Option Line → Option LogicalLine
+going_on pending = option_map logical_line_of pending
+
+-- the same after one more physical line
 abbrev pub joined_with : Option LogicalLine → ℕ → ℕ → List Word → Option (Option LogicalLine)
 joined_with pending n spaces [] = Some pending
 joined_with None n spaces (w ∷ ws) = guard (spaces % 2 == 0) (Some (logical_line n (spaces / 2) (w ∷ ws)))

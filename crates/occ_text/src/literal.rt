@@ -4,7 +4,7 @@ ghost use Rattle.std.specs.Prelude.{◌≡◌, IfErr};
 ghost use Rattle.occ_text.specs.Faults.{Names};
 ghost use Rattle.occ_text.specs.Words.{word};
 ghost use Rattle.occ_text.specs.Spelling.{escape_of, is_plain};
-ghost use Rattle.occ_text.specs.Reading.{Gives, byte_at, char_at, chars_from, code_at, escape_at, string_at};
+ghost use Rattle.occ_text.specs.Reading.{byte_at, char_at, chars_from, code_at, escape_at, string_at, ReadsBytes};
 
 use crate::class::digit;
 use crate::fault::TextFault;
@@ -37,7 +37,7 @@ fn stands_for_itself(quote: u8, byte: u8) -> bool
 
 /// Two hexadecimal digits.
 fn byte_code(line: u32, bytes: &[u8]) -> Result<(u8, &[u8]), TextFault>
-    ensures value { Gives (λ x. (x.0, x.1.now)) result (code_at bytes.now) }
+    ensures value { ReadsBytes (λ b. b) result code_at bytes.now }
     ensures line { IfErr result (Names line) }
 {
     match bytes {
@@ -51,7 +51,7 @@ fn byte_code(line: u32, bytes: &[u8]) -> Result<(u8, &[u8]), TextFault>
 /// What stands behind the `*` of an escape.
 #[tactic(auto, unfolding(crate::specs::Reading::escape_at))]
 fn escape(line: u32, bytes: &[u8]) -> Result<(u8, &[u8]), TextFault>
-    ensures value { Gives (λ x. (x.0, x.1.now)) result (escape_at bytes.now) }
+    ensures value { ReadsBytes (λ b. b) result escape_at bytes.now }
     ensures line { IfErr result (Names line) }
 {
     match bytes {
@@ -67,7 +67,7 @@ fn escape(line: u32, bytes: &[u8]) -> Result<(u8, &[u8]), TextFault>
 /// The byte that a character or an escape at the front stands for.
 #[tactic(auto, unfolding(crate::specs::Reading::char_at))]
 fn character(line: u32, quote: u8, bytes: &[u8]) -> Result<(u8, &[u8]), TextFault>
-    ensures value { Gives (λ x. (x.0, x.1.now)) result (char_at quote bytes.now) }
+    ensures value { ReadsBytes (λ b. b) result (char_at quote) bytes.now }
     ensures line { IfErr result (Names line) }
 {
     match bytes {
@@ -81,7 +81,7 @@ fn character(line: u32, quote: u8, bytes: &[u8]) -> Result<(u8, &[u8]), TextFaul
 /// A byte literal, behind its first quote.
 #[tactic(auto, unfolding(crate::specs::Reading::byte_at))]
 pub fn byte_literal(line: u32, bytes: &[u8]) -> Result<(Token, &[u8]), TextFault>
-    ensures value { Gives (λ x. (word x.0, x.1.now)) result (byte_at bytes.now) }
+    ensures value { ReadsBytes word result byte_at bytes.now }
     ensures line { IfErr result (Names line) }
 {
     let (byte, rest) = character(line, b'\'', bytes)?;
@@ -93,7 +93,7 @@ pub fn byte_literal(line: u32, bytes: &[u8]) -> Result<(Token, &[u8]), TextFault
 
 /// The bytes of a string, behind its first quote.
 fn characters(alloc: Global, line: u32, bytes: &[u8]) -> Result<(Vec<u8>, &[u8]), TextFault>
-    ensures value { Gives (λ x. (x.0.items, x.1.now)) result (chars_from 0 bytes.now) }
+    ensures value { ReadsBytes (λ v. v.items) result (chars_from 0) bytes.now }
     ensures line { IfErr result (Names line) }
 {
     let mut text = Vec::new(alloc);
@@ -112,7 +112,7 @@ fn characters(alloc: Global, line: u32, bytes: &[u8]) -> Result<(Vec<u8>, &[u8])
 /// A string, behind its first quote.
 #[tactic(auto, unfolding(crate::specs::Reading::string_at))]
 pub fn string(alloc: Global, line: u32, bytes: &[u8]) -> Result<(Token, &[u8]), TextFault>
-    ensures value { Gives (λ x. (word x.0, x.1.now)) result (string_at bytes.now) }
+    ensures value { ReadsBytes word result string_at bytes.now }
     ensures line { IfErr result (Names line) }
 {
     let (text, rest) = characters(alloc, line, bytes)?;

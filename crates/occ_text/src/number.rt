@@ -1,10 +1,10 @@
 //! Numbers.
 
-ghost use Rattle.std.specs.Prelude.{◌≡◌, ◌<◌, ◌^◌, IfErr, SomeIff};
+ghost use Rattle.std.specs.Prelude.{◌<◌, ◌^◌, IfErr, SomeIff};
 ghost use Rattle.occ_text.specs.Faults.{Names};
 ghost use Rattle.occ_text.specs.Words.{word};
 ghost use Rattle.occ_text.specs.Spelling.{value};
-ghost use Rattle.occ_text.specs.Reading.{Gives, decimal_at, pattern_at};
+ghost use Rattle.occ_text.specs.Reading.{decimal_at, pattern_at, ReadsBytes};
 
 use crate::class::{Class, digit, split_run};
 use crate::fault::TextFault;
@@ -33,7 +33,7 @@ fn number(base: u32, digits: &[u8]) -> Option<u32>
 /// A decimal number at the front, and what follows it.
 #[tactic(auto, unfolding(crate::specs::Reading::decimal_at))]
 pub fn decimal(line: u32, bytes: &[u8]) -> Result<(Token, &[u8]), TextFault>
-    ensures value { Gives (λ x. (word x.0, x.1.now)) result (decimal_at bytes.now) }
+    ensures value { ReadsBytes word result decimal_at bytes.now }
     ensures line { IfErr result (Names line) }
 {
     let (digits, rest) = split_run(Class::Digit, bytes);
@@ -46,7 +46,7 @@ pub fn decimal(line: u32, bytes: &[u8]) -> Result<(Token, &[u8]), TextFault>
 /// The digits of a 32-bit pattern, which stand behind `#`, and what follows them.
 #[tactic(auto, unfolding(crate::specs::Reading::pattern_at))]
 pub fn pattern(line: u32, bytes: &[u8]) -> Result<(Token, &[u8]), TextFault>
-    ensures value { Gives (λ x. (word x.0, x.1.now)) result (pattern_at bytes.now) }
+    ensures value { ReadsBytes word result pattern_at bytes.now }
     ensures line { IfErr result (Names line) }
 {
     let (digits, rest) = split_run(Class::HexDigit, bytes);

@@ -3,7 +3,7 @@
 ghost use Rattle.std.specs.Prelude.{◌≡◌, IfErr};
 ghost use Rattle.occ_text.specs.Faults.{Names};
 ghost use Rattle.occ_text.specs.Words.{word};
-ghost use Rattle.occ_text.specs.Reading.{Gives, double_of, single_of, symbol_at};
+ghost use Rattle.occ_text.specs.Reading.{double_of, single_of, symbol_at, ReadsBytes};
 
 use crate::fault::TextFault;
 use crate::token::{Sym, Token};
@@ -60,7 +60,7 @@ fn single(byte: u8) -> Option<Sym>
 /// The longest symbol at the front, and what follows it.
 #[tactic(auto, unfolding(crate::specs::Reading::symbol_at))]
 pub fn symbol(line: u32, bytes: &[u8]) -> Result<(Token, &[u8]), TextFault>
-    ensures value { Gives (λ x. (word x.0, x.1.now)) result (symbol_at bytes.now) }
+    ensures value { ReadsBytes word result symbol_at bytes.now }
     ensures line { IfErr result (Names line) }
 {
     if let [first, second, rest @ ..] = bytes

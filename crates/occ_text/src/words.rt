@@ -5,7 +5,7 @@ ghost use Rattle.occ_text.specs.declared.fault.TextFault.TheVariants.{Memory};
 ghost use Rattle.occ_text.specs.Faults.{Names};
 ghost use Rattle.occ_text.specs.Words.{word, words};
 ghost use Rattle.occ_text.specs.Lines.{begins_comment};
-ghost use Rattle.occ_text.specs.Reading.{Gives, name_at, word_at, words_from};
+ghost use Rattle.occ_text.specs.Reading.{Gives, name_at, word_at, words_from, ReadsBytes};
 
 use crate::class::{Class, split_run};
 use crate::fault::TextFault;
@@ -19,7 +19,7 @@ use std::alloc::Global;
 /// A name or a reserved word.
 #[tactic(auto, unfolding(crate::specs::Reading::name_at))]
 fn name_or_key(alloc: Global, bytes: &[u8]) -> Result<(Token, &[u8]), TextFault>
-    ensures value { Gives (λ x. (word x.0, x.1.now)) result (name_at bytes.now) }
+    ensures value { ReadsBytes word result name_at bytes.now }
     ensures memory { IfErr result (λ e. e ≡ Memory) }
 {
     let (letters, rest) = split_run(Class::NamePart, bytes);
@@ -32,7 +32,7 @@ fn name_or_key(alloc: Global, bytes: &[u8]) -> Result<(Token, &[u8]), TextFault>
 /// The word at the front, and what follows it.
 #[tactic(auto, unfolding(crate::specs::Reading::word_at))]
 fn next_word(alloc: Global, line: u32, bytes: &[u8]) -> Result<(Token, &[u8]), TextFault>
-    ensures value { Gives (λ x. (word x.0, x.1.now)) result (word_at bytes.now) }
+    ensures value { ReadsBytes word result word_at bytes.now }
     ensures line { IfErr result (Names line) }
 {
     let [first, rest @ ..] = bytes else {

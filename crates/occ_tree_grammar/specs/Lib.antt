@@ -1,4 +1,5 @@
 pub mod Expressions
+pub mod Fronts
 pub mod Limits
 pub mod Lines
 pub mod Lists

@@ -1,15 +1,15 @@
 //! Reading the first lines of declarations.
 
-ghost use Rattle.std.specs.Prelude.{◌≡◌, ◌+◌, map, option_map};
+ghost use Rattle.std.specs.Prelude.{◌≡◌, option_map};
 ghost use Rattle.occ_text.specs.Words.{words};
 ghost use Rattle.occ_tree_grammar.specs.Many.{ended};
-ghost use Rattle.occ_tree_grammar.specs.Expressions.Trees.{expression_of, expressions};
+ghost use Rattle.occ_tree_grammar.specs.Expressions.Trees.{listed_expressions};
 ghost use Rattle.occ_tree_grammar.specs.Expressions.Reading.{Gives};
-ghost use Rattle.occ_tree_grammar.specs.Lines.Views.{part_of, sort_of, value_type_of};
-ghost use Rattle.occ_tree_grammar.specs.Lines.Heads.{names as the_names, value as the_value, parts as the_parts};
-ghost use Rattle.occ_tree_grammar.specs.Lines.HeadViews.{decl_head_of, tag_head_of};
+ghost use Rattle.occ_tree_grammar.specs.Lines.Views.{sort_of, value_type_of};
+ghost use Rattle.occ_tree_grammar.specs.Lines.HeadViews.{tag_head_of, names_head, value_head, parts_head};
 ghost use Rattle.occ_tree_grammar.specs.Lines.HeadReading.{names_at, sort_at, named_value_at, value_at, protocol_at, procedure_at, declared_at, decl_head_at, tag_head_at, has_colon, declares};
-ghost use Rattle.occ_tree_grammar.specs.Limits.{most_levels};
+ghost use Rattle.occ_tree_grammar.specs.Limits.{brackets};
+ghost use Rattle.occ_tree_lines.specs.Reads.{ReadsDeclHead};
 
 use occ_text::{Key, Sym, Token};
 use occ_tree_grammar::ParseFault;
@@ -33,7 +33,7 @@ fn only_names(
     all: OneOrMore<Vec<u8>>,
     rest: &[Token],
 ) -> Result<DeclHead, ParseFault>
-    ensures { Gives decl_head_of result (ended (the_names (expressions (map expression_of sizes.items)) (sort_of sort) all.first.items (map (λ v. v.items) all.others.items)) (words rest.now)) }
+    ensures { ReadsDeclHead result (ended (names_head sizes sort all)) rest.now }
 {
     match rest {
         [] => Ok(DeclHead::Names(sizes, Box::new(alloc, sort)?, all)),
@@ -50,7 +50,7 @@ fn only_value(
     value: Expr,
     rest: &[Token],
 ) -> Result<DeclHead, ParseFault>
-    ensures { Gives decl_head_of result (ended (the_value (option_map value_type_of of) name.items (expression_of value)) (words rest.now)) }
+    ensures { ReadsDeclHead result (ended (value_head of name value)) rest.now }
 {
     match rest {
         [] => Ok(DeclHead::Value(of, name, Box::new(alloc, value)?)),
@@ -66,7 +66,7 @@ fn only_parts(
     all: OneOrMore<Part>,
     rest: &[Token],
 ) -> Result<DeclHead, ParseFault>
-    ensures { Gives decl_head_of result (ended (the_parts name.items (part_of all.first) (map part_of all.others.items)) (words rest.now)) }
+    ensures { ReadsDeclHead result (ended (parts_head name all)) rest.now }
 {
     match rest {
         [] => Ok(DeclHead::Parts(name, Box::new(alloc, all)?)),
@@ -82,7 +82,8 @@ fn declared_names(
     sort: Sort,
     tokens: &[Token],
 ) -> Result<DeclHead, ParseFault>
-    ensures { Gives decl_head_of result (names_at (most_levels + 1) (expressions (map expression_of sizes.items)) (sort_of sort) (words tokens.now)) }
+    ensures { ReadsDeclHead result
+        (names_at brackets (listed_expressions sizes) (sort_of sort)) tokens.now }
 {
     let (first, rest) = name(alloc, line, tokens)?;
     let (others, rest) = further::<Vec<u8>>(alloc, Separator::Comma, line, rest)?;
@@ -97,7 +98,7 @@ fn behind_sizes(
     sizes: Vec<Expr>,
     tokens: &[Token],
 ) -> Result<DeclHead, ParseFault>
-    ensures { Gives decl_head_of result (sort_at (most_levels + 1) (expressions (map expression_of sizes.items)) (words tokens.now)) }
+    ensures { ReadsDeclHead result (sort_at brackets (listed_expressions sizes)) tokens.now }
 {
     match tokens {
         [Token::Key(Key::Chan), Token::Key(Key::Of), rest @ ..] => {
@@ -117,7 +118,8 @@ fn named_value(
     of: Option<ValueType>,
     tokens: &[Token],
 ) -> Result<DeclHead, ParseFault>
-    ensures { Gives decl_head_of result (named_value_at (most_levels + 1) (option_map value_type_of of) (words tokens.now)) }
+    ensures { ReadsDeclHead result
+        (named_value_at brackets (option_map value_type_of of)) tokens.now }
 {
     let (name, rest) = name(alloc, line, tokens)?;
     let rest = is(line, rest)?;
@@ -128,7 +130,7 @@ fn named_value(
 
 /// What follows `VAL`.
 fn behind_val(alloc: Global, line: u32, tokens: &[Token]) -> Result<DeclHead, ParseFault>
-    ensures { Gives decl_head_of result (value_at (most_levels + 1) (words tokens.now)) }
+    ensures { ReadsDeclHead result (value_at brackets) tokens.now }
 {
     match tokens {
         [Token::Name(_), ..] => named_value(alloc, line, None, tokens),
@@ -141,7 +143,7 @@ fn behind_val(alloc: Global, line: u32, tokens: &[Token]) -> Result<DeclHead, Pa
 
 /// What follows `PROTOCOL`.
 fn behind_protocol(alloc: Global, line: u32, tokens: &[Token]) -> Result<DeclHead, ParseFault>
-    ensures { Gives decl_head_of result (protocol_at (most_levels + 1) (words tokens.now)) }
+    ensures { ReadsDeclHead result (protocol_at brackets) tokens.now }
 {
     match tokens {
         [Token::Name(name)] => Ok(DeclHead::Tags(Vec::from_slice(alloc, name)?)),
@@ -158,7 +160,7 @@ fn behind_protocol(alloc: Global, line: u32, tokens: &[Token]) -> Result<DeclHea
 
 /// What follows `PROC`.
 fn behind_proc(alloc: Global, line: u32, tokens: &[Token]) -> Result<DeclHead, ParseFault>
-    ensures { Gives decl_head_of result (procedure_at (most_levels + 1) (words tokens.now)) }
+    ensures { ReadsDeclHead result (procedure_at brackets) tokens.now }
 {
     match tokens {
         [Token::Name(name), Token::Sym(Sym::OpenParen), rest @ ..] => {
@@ -174,7 +176,7 @@ fn behind_proc(alloc: Global, line: u32, tokens: &[Token]) -> Result<DeclHead, P
 }
 
 fn declared(alloc: Global, line: u32, tokens: &[Token]) -> Result<DeclHead, ParseFault>
-    ensures { Gives decl_head_of result (declared_at (most_levels + 1) (words tokens.now)) }
+    ensures { ReadsDeclHead result (declared_at brackets) tokens.now }
 {
     let (sizes, rest) = declared_sizes(alloc, line, tokens)?;
     behind_sizes(alloc, line, sizes, rest)
@@ -183,7 +185,7 @@ fn declared(alloc: Global, line: u32, tokens: &[Token]) -> Result<DeclHead, Pars
 /// The first line of a declaration. At most 64 brackets stand open at one place.
 #[tactic(auto, unfolding(occ_tree_grammar::specs::Lines::HeadReading::decl_head_at))]
 pub fn decl_head(alloc: Global, line: u32, tokens: &[Token]) -> Result<DeclHead, ParseFault>
-    ensures { Gives decl_head_of result (decl_head_at (most_levels + 1) (words tokens.now)) }
+    ensures { ReadsDeclHead result (decl_head_at brackets) tokens.now }
 {
     match tokens {
         [Token::Key(Key::Val), rest @ ..] => behind_val(alloc, line, rest),
@@ -196,7 +198,7 @@ pub fn decl_head(alloc: Global, line: u32, tokens: &[Token]) -> Result<DeclHead,
 /// A line of a protocol of variants.
 #[tactic(auto, unfolding(occ_tree_grammar::specs::Lines::HeadReading::tag_head_at))]
 pub fn tag_head(alloc: Global, line: u32, tokens: &[Token]) -> Result<TagHead, ParseFault>
-    ensures { Gives tag_head_of result (tag_head_at (most_levels + 1) (words tokens.now)) }
+    ensures { Gives tag_head_of result (tag_head_at brackets (words tokens.now)) }
 {
     match tokens {
         [Token::Name(tag), rest @ ..] => {

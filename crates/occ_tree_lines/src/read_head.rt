@@ -1,15 +1,17 @@
 //! Reading the lines at the head of processes and of their parts.
 
-ghost use Rattle.std.specs.Prelude.{◌≡◌, ◌∷◌, ◌+◌, Some, map, option_map};
+ghost use Rattle.std.specs.Prelude.{◌≡◌, ◌∷◌, Some, option_map};
 ghost use Rattle.occ_text.specs.Words.{key, words};
 ghost use Rattle.occ_tree_grammar.specs.Many.{ended};
+ghost use Rattle.occ_tree_grammar.specs.Fronts.{words_found};
 ghost use Rattle.occ_tree_grammar.specs.Expressions.Trees.{expression_of};
 ghost use Rattle.occ_tree_grammar.specs.Expressions.Reading.{Gives};
 ghost use Rattle.occ_tree_grammar.specs.Lines.Views.{var_of, received_of};
-ghost use Rattle.occ_tree_grammar.specs.Lines.Heads.{act, chosen, values as the_values, guarded, on_skip};
-ghost use Rattle.occ_tree_grammar.specs.Lines.HeadViews.{action_of, process_head_of, choice_head_of, option_head_of, arm_head_of, variant_head_of};
+ghost use Rattle.occ_tree_grammar.specs.Lines.Heads.{act, chosen, guarded, on_skip};
+ghost use Rattle.occ_tree_grammar.specs.Lines.HeadViews.{action_of, process_head_of, arm_head_of, variant_head_of, values_head};
 ghost use Rattle.occ_tree_grammar.specs.Lines.HeadReading.{received_head as head_received, received_arm as arm_received, assignment_at, after_var, var_first, after_open, name_first, process_head_at, choice_head_at, option_head_at, reception_at, boolean_at, after_and, channel_first, after_condition, by_priority, guard_at, arm_head_at, variant_head_at};
-ghost use Rattle.occ_tree_grammar.specs.Limits.{most_levels};
+ghost use Rattle.occ_tree_grammar.specs.Limits.{brackets};
+ghost use Rattle.occ_tree_lines.specs.Reads.{ReadsProcessHead, ReadsChoiceHead, ReadsOptionHead, ReadsArmHead};
 
 use occ_text::{Key, Sym, Token};
 use occ_tree_grammar::ParseFault;
@@ -33,7 +35,7 @@ fn only_action(
     action: Action,
     rest: &[Token],
 ) -> Result<ProcessHead, ParseFault>
-    ensures { Gives process_head_of result (ended (act (action_of action)) (words rest.now)) }
+    ensures { ReadsProcessHead result (ended (act (action_of action))) rest.now }
 {
     match rest {
         [] => Ok(ProcessHead::Action(Box::new(alloc, action)?)),
@@ -47,7 +49,7 @@ fn assignment(
     first: Var,
     tokens: &[Token],
 ) -> Result<ProcessHead, ParseFault>
-    ensures { Gives process_head_of result (assignment_at (most_levels + 1) (var_of first) (words tokens.now)) }
+    ensures { ReadsProcessHead result (assignment_at brackets (var_of first)) tokens.now }
 {
     let (others, rest) = further::<Var>(alloc, Separator::Comma, line, tokens)?;
     let targets = OneOrMore { first, others };
@@ -82,7 +84,7 @@ fn behind_var(
     first: Var,
     tokens: &[Token],
 ) -> Result<ProcessHead, ParseFault>
-    ensures { Gives process_head_of result (after_var (most_levels + 1) (var_of first) (words tokens.now)) }
+    ensures { ReadsProcessHead result (after_var brackets (var_of first)) tokens.now }
 {
     match tokens {
         [Token::Sym(Sym::Question), rest @ ..] => {
@@ -110,14 +112,14 @@ fn var_in_front(
     name: &[u8],
     tokens: &[Token],
 ) -> Result<ProcessHead, ParseFault>
-    ensures { Gives process_head_of result (var_first (most_levels + 1) name.now (words tokens.now)) }
+    ensures { ReadsProcessHead result (var_first brackets name.now) tokens.now }
 {
     let (first, rest) = var_behind(alloc, line, name, tokens)?;
     behind_var(alloc, line, first, rest)
 }
 
 fn open(tokens: &[Token]) -> Option<&[Token]>
-    ensures { option_map (λ r. words r.now) result ≡ after_open (words tokens.now) }
+    ensures { words_found result ≡ after_open (words tokens.now) }
 {
     match tokens {
         [Token::Sym(Sym::OpenParen), rest @ ..] => Some(rest),
@@ -132,7 +134,7 @@ fn behind_name(
     name: &[u8],
     tokens: &[Token],
 ) -> Result<ProcessHead, ParseFault>
-    ensures { Gives process_head_of result (name_first (most_levels + 1) name.now (words tokens.now)) }
+    ensures { ReadsProcessHead result (name_first brackets name.now) tokens.now }
 {
     let Some(rest) = open(tokens) else {
         return var_in_front(alloc, line, name, tokens);
@@ -145,7 +147,8 @@ fn behind_name(
 /// The value behind `CASE`.
 #[tactic(auto, unfolding(occ_tree_grammar::specs::Lines::HeadReading::process_head_at))]
 fn behind_case(alloc: Global, line: u32, tokens: &[Token]) -> Result<ProcessHead, ParseFault>
-    ensures { Gives process_head_of result (process_head_at (most_levels + 1) (key Key.Case ∷ words tokens.now)) }
+    ensures { Gives process_head_of result
+        (process_head_at brackets (key Key.Case ∷ words tokens.now)) }
 {
     let (value, rest) = expression(alloc, line, tokens)?;
     match rest {
@@ -157,7 +160,8 @@ fn behind_case(alloc: Global, line: u32, tokens: &[Token]) -> Result<ProcessHead
 /// The condition behind `WHILE`.
 #[tactic(auto, unfolding(occ_tree_grammar::specs::Lines::HeadReading::process_head_at))]
 fn behind_while(alloc: Global, line: u32, tokens: &[Token]) -> Result<ProcessHead, ParseFault>
-    ensures { Gives process_head_of result (process_head_at (most_levels + 1) (key Key.While ∷ words tokens.now)) }
+    ensures { Gives process_head_of result
+        (process_head_at brackets (key Key.While ∷ words tokens.now)) }
 {
     let (condition, rest) = expression(alloc, line, tokens)?;
     match rest {
@@ -169,7 +173,7 @@ fn behind_while(alloc: Global, line: u32, tokens: &[Token]) -> Result<ProcessHea
 /// The line of a process. At most 64 brackets stand open at one place.
 #[tactic(auto, unfolding(occ_tree_grammar::specs::Lines::HeadReading::process_head_at))]
 pub fn process_head(alloc: Global, line: u32, tokens: &[Token]) -> Result<ProcessHead, ParseFault>
-    ensures { Gives process_head_of result (process_head_at (most_levels + 1) (words tokens.now)) }
+    ensures { ReadsProcessHead result (process_head_at brackets) tokens.now }
 {
     match tokens {
         [Token::Key(Key::Skip), rest @ ..] => only_action(alloc, line, Action::Skip, rest),
@@ -201,7 +205,7 @@ fn only_condition(
     condition: Expr,
     rest: &[Token],
 ) -> Result<ChoiceHead, ParseFault>
-    ensures { Gives choice_head_of result (ended (chosen (expression_of condition)) (words rest.now)) }
+    ensures { ReadsChoiceHead result (ended (chosen (expression_of condition))) rest.now }
 {
     match rest {
         [] => Ok(ChoiceHead::When(Box::new(alloc, condition)?)),
@@ -212,7 +216,7 @@ fn only_condition(
 /// The line of a choice.
 #[tactic(auto, unfolding(occ_tree_grammar::specs::Lines::HeadReading::choice_head_at))]
 pub fn choice_head(alloc: Global, line: u32, tokens: &[Token]) -> Result<ChoiceHead, ParseFault>
-    ensures { Gives choice_head_of result (choice_head_at (most_levels + 1) (words tokens.now)) }
+    ensures { ReadsChoiceHead result (choice_head_at brackets) tokens.now }
 {
     match tokens {
         [Token::Key(Key::If), rest @ ..] => Ok(ChoiceHead::If(replicator(alloc, line, rest)?)),
@@ -230,7 +234,7 @@ fn only_values(
     values: OneOrMore<Expr>,
     rest: &[Token],
 ) -> Result<OptionHead, ParseFault>
-    ensures { Gives option_head_of result (ended (the_values (expression_of values.first) (map expression_of values.others.items)) (words rest.now)) }
+    ensures { ReadsOptionHead result (ended (values_head values)) rest.now }
 {
     match rest {
         [] => Ok(OptionHead::Values(Box::new(alloc, values)?)),
@@ -241,7 +245,7 @@ fn only_values(
 /// The line of an option.
 #[tactic(auto, unfolding(occ_tree_grammar::specs::Lines::HeadReading::option_head_at))]
 pub fn option_head(alloc: Global, line: u32, tokens: &[Token]) -> Result<OptionHead, ParseFault>
-    ensures { Gives option_head_of result (option_head_at (most_levels + 1) (words tokens.now)) }
+    ensures { ReadsOptionHead result (option_head_at brackets) tokens.now }
 {
     match tokens {
         [Token::Key(Key::Else)] => Ok(OptionHead::Else),
@@ -260,7 +264,8 @@ fn received_arm(
     condition: Option<Expr>,
     received: Received,
 ) -> Result<ArmHead, ParseFault>
-    ensures { Gives arm_head_of result (Some (arm_received (option_map expression_of condition) (received_of received))) }
+    ensures { Gives arm_head_of result (Some
+        (arm_received (option_map expression_of condition) (received_of received))) }
 {
     match received {
         Received::Input(input) => {
@@ -276,7 +281,7 @@ fn received_arm(
 
 /// A channel and what is received from it.
 fn reception(alloc: Global, line: u32, tokens: &[Token]) -> Result<Received, ParseFault>
-    ensures { Gives received_of result (reception_at (most_levels + 1) (words tokens.now)) }
+    ensures { Gives received_of result (reception_at brackets (words tokens.now)) }
 {
     let (channel, rest) = var(alloc, line, tokens)?;
     let rest = question(line, rest)?;
@@ -290,7 +295,7 @@ fn only_skip(
     condition: Expr,
     rest: &[Token],
 ) -> Result<ArmHead, ParseFault>
-    ensures { Gives arm_head_of result (ended (guarded (on_skip (expression_of condition))) (words rest.now)) }
+    ensures { ReadsArmHead result (ended (guarded (on_skip (expression_of condition)))) rest.now }
 {
     match rest {
         [] => Ok(ArmHead::Guarded(Box::new(alloc, Guard::Skip(condition))?)),
@@ -304,7 +309,7 @@ fn boolean(
     condition: Expr,
     tokens: &[Token],
 ) -> Result<ArmHead, ParseFault>
-    ensures { Gives arm_head_of result (boolean_at (most_levels + 1) (expression_of condition) (words tokens.now)) }
+    ensures { ReadsArmHead result (boolean_at brackets (expression_of condition)) tokens.now }
 {
     let received = reception(alloc, line, tokens)?;
     received_arm(alloc, Some(condition), received)
@@ -317,7 +322,7 @@ fn behind_and(
     condition: Expr,
     tokens: &[Token],
 ) -> Result<ArmHead, ParseFault>
-    ensures { Gives arm_head_of result (after_and (most_levels + 1) (expression_of condition) (words tokens.now)) }
+    ensures { ReadsArmHead result (after_and brackets (expression_of condition)) tokens.now }
 {
     match tokens {
         [Token::Key(Key::Skip), rest @ ..] => only_skip(alloc, line, condition, rest),
@@ -332,7 +337,7 @@ fn behind_channel(
     channel: Option<Var>,
     tokens: &[Token],
 ) -> Result<ArmHead, ParseFault>
-    ensures { Gives arm_head_of result (channel_first (most_levels + 1) (option_map var_of channel) (words tokens.now)) }
+    ensures { ReadsArmHead result (channel_first brackets (option_map var_of channel)) tokens.now }
 {
     let Some(channel) = channel else {
         return Err(ParseFault::Unexpected { line });
@@ -349,7 +354,7 @@ fn behind_condition(
     condition: Expr,
     tokens: &[Token],
 ) -> Result<ArmHead, ParseFault>
-    ensures { Gives arm_head_of result (after_condition (most_levels + 1) (expression_of condition) (words tokens.now)) }
+    ensures { ReadsArmHead result (after_condition brackets (expression_of condition)) tokens.now }
 {
     match tokens {
         [Token::Sym(Sym::Question), rest @ ..] => {
@@ -363,7 +368,7 @@ fn behind_condition(
 
 /// What follows `PRI` at the front of an arm.
 fn behind_pri(alloc: Global, line: u32, tokens: &[Token]) -> Result<ArmHead, ParseFault>
-    ensures { Gives arm_head_of result (by_priority (most_levels + 1) (words tokens.now)) }
+    ensures { ReadsArmHead result (by_priority brackets) tokens.now }
 {
     match tokens {
         [Token::Key(Key::Alt), rest @ ..] => Ok(ArmHead::Alt(true, replicator(alloc, line, rest)?)),
@@ -373,7 +378,7 @@ fn behind_pri(alloc: Global, line: u32, tokens: &[Token]) -> Result<ArmHead, Par
 
 /// The guard of an arm.
 fn guard(alloc: Global, line: u32, tokens: &[Token]) -> Result<ArmHead, ParseFault>
-    ensures { Gives arm_head_of result (guard_at (most_levels + 1) (words tokens.now)) }
+    ensures { ReadsArmHead result (guard_at brackets) tokens.now }
 {
     let (condition, rest) = expression(alloc, line, tokens)?;
     behind_condition(alloc, line, condition, rest)
@@ -382,7 +387,7 @@ fn guard(alloc: Global, line: u32, tokens: &[Token]) -> Result<ArmHead, ParseFau
 /// The line of an arm.
 #[tactic(auto, unfolding(occ_tree_grammar::specs::Lines::HeadReading::arm_head_at))]
 pub fn arm_head(alloc: Global, line: u32, tokens: &[Token]) -> Result<ArmHead, ParseFault>
-    ensures { Gives arm_head_of result (arm_head_at (most_levels + 1) (words tokens.now)) }
+    ensures { ReadsArmHead result (arm_head_at brackets) tokens.now }
 {
     match tokens {
         [Token::Key(Key::Alt), rest @ ..] => {
@@ -396,7 +401,7 @@ pub fn arm_head(alloc: Global, line: u32, tokens: &[Token]) -> Result<ArmHead, P
 /// The line of a variant.
 #[tactic(auto, unfolding(occ_tree_grammar::specs::Lines::HeadReading::variant_head_at))]
 pub fn variant_head(alloc: Global, line: u32, tokens: &[Token]) -> Result<VariantHead, ParseFault>
-    ensures { Gives variant_head_of result (variant_head_at (most_levels + 1) (words tokens.now)) }
+    ensures { Gives variant_head_of result (variant_head_at brackets (words tokens.now)) }
 {
     match tokens {
         [Token::Name(tag), rest @ ..] => {

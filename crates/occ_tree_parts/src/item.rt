@@ -1,13 +1,13 @@
 //! Variables, targets and items of a line.
 
-ghost use Rattle.std.specs.Prelude.{◌≡◌, ◌+◌};
 ghost use Rattle.occ_text.specs.Words.{words};
 ghost use Rattle.occ_tree_grammar.specs.Many.{ended};
+ghost use Rattle.occ_tree_grammar.specs.Fronts.{ReadsWords};
 ghost use Rattle.occ_tree_grammar.specs.Expressions.Trees.{expression_of};
 ghost use Rattle.occ_tree_grammar.specs.Expressions.Reading.{Gives, expression_at};
 ghost use Rattle.occ_tree_grammar.specs.Lines.Views.{var_of, target_of, out_of, received_of, replicator_of, optional_replicator_of, actuals_of};
 ghost use Rattle.occ_tree_grammar.specs.Lines.Reading.{var_named, var_at, target_at, out_at, received_at, targets_whole, replicator_at, actuals_at};
-ghost use Rattle.occ_tree_grammar.specs.Limits.{most_levels};
+ghost use Rattle.occ_tree_grammar.specs.Limits.{brackets};
 
 use crate::expressions::read::{expr, indices};
 use crate::expressions::symbol::close;
@@ -28,7 +28,7 @@ pub fn expression(
     line: u32,
     tokens: &[Token],
 ) -> Result<(Expr, &[Token]), ParseFault>
-    ensures { Gives (λ x. (expression_of x.0, words x.1.now)) result (expression_at (most_levels + 1) (words tokens.now)) }
+    ensures { ReadsWords expression_of result (expression_at brackets) tokens.now }
 {
     expr(alloc, MOST_LEVELS + 1, line, tokens)
 }
@@ -40,7 +40,7 @@ pub fn var_behind<'a>(
     name: &[u8],
     tokens: &'a [Token],
 ) -> Result<(Var, &'a [Token]), ParseFault>
-    ensures { Gives (λ x. (var_of x.0, words x.1.now)) result (var_named (most_levels + 1) name.now (words tokens.now)) }
+    ensures { ReadsWords var_of result (var_named brackets name.now) tokens.now }
 {
     let (subscripts, rest) = indices(alloc, MOST_LEVELS, line, tokens)?;
     let name = Vec::from_slice(alloc, name)?;
@@ -50,7 +50,7 @@ pub fn var_behind<'a>(
 /// A name with its subscripts.
 #[tactic(auto, unfolding(occ_tree_grammar::specs::Lines::Reading::var_at))]
 pub fn var(alloc: Global, line: u32, tokens: &[Token]) -> Result<(Var, &[Token]), ParseFault>
-    ensures { Gives (λ x. (var_of x.0, words x.1.now)) result (var_at (most_levels + 1) (words tokens.now)) }
+    ensures { ReadsWords var_of result (var_at brackets) tokens.now }
 {
     match tokens {
         [Token::Name(name), rest @ ..] => var_behind(alloc, line, name, rest),
@@ -61,7 +61,7 @@ pub fn var(alloc: Global, line: u32, tokens: &[Token]) -> Result<(Var, &[Token])
 /// What an input puts an item into.
 #[tactic(auto, unfolding(occ_tree_grammar::specs::Lines::Reading::target_at))]
 pub fn target(alloc: Global, line: u32, tokens: &[Token]) -> Result<(Target, &[Token]), ParseFault>
-    ensures { Gives (λ x. (target_of x.0, words x.1.now)) result (target_at (most_levels + 1) (words tokens.now)) }
+    ensures { ReadsWords target_of result (target_at brackets) tokens.now }
 {
     let (first, rest) = var(alloc, line, tokens)?;
     match rest {
@@ -76,7 +76,7 @@ pub fn target(alloc: Global, line: u32, tokens: &[Token]) -> Result<(Target, &[T
 /// An item of an output.
 #[tactic(auto, unfolding(occ_tree_grammar::specs::Lines::Reading::out_at))]
 pub fn out(alloc: Global, line: u32, tokens: &[Token]) -> Result<(Out, &[Token]), ParseFault>
-    ensures { Gives (λ x. (out_of x.0, words x.1.now)) result (out_at (most_levels + 1) (words tokens.now)) }
+    ensures { ReadsWords out_of result (out_at brackets) tokens.now }
 {
     let (first, rest) = expression(alloc, line, tokens)?;
     match rest {
@@ -89,7 +89,8 @@ pub fn out(alloc: Global, line: u32, tokens: &[Token]) -> Result<(Out, &[Token])
 }
 
 fn items(alloc: Global, line: u32, channel: Var, tokens: &[Token]) -> Result<Received, ParseFault>
-    ensures { Gives received_of result (targets_whole (most_levels + 1) (var_of channel) (words tokens.now)) }
+    ensures { Gives received_of result
+        (targets_whole brackets (var_of channel) (words tokens.now)) }
 {
     let (first, rest) = target(alloc, line, tokens)?;
     let (others, rest) = further::<Target>(alloc, Separator::Semicolon, line, rest)?;
@@ -107,7 +108,7 @@ pub fn behind_question(
     channel: Var,
     tokens: &[Token],
 ) -> Result<Received, ParseFault>
-    ensures { Gives received_of result (received_at (most_levels + 1) (var_of channel) (words tokens.now)) }
+    ensures { Gives received_of result (received_at brackets (var_of channel) (words tokens.now)) }
 {
     match tokens {
         [Token::Key(Key::Case)] => Ok(Received::Variants(channel)),
@@ -130,7 +131,8 @@ fn only_replicator(
     replicator: Replicator,
     rest: &[Token],
 ) -> Result<Option<Box<Replicator>>, ParseFault>
-    ensures { Gives optional_replicator_of result (ended (Some (replicator_of replicator)) (words rest.now)) }
+    ensures { Gives optional_replicator_of result
+        (ended (Some (replicator_of replicator)) (words rest.now)) }
 {
     match rest {
         [] => Ok(Some(Box::new(alloc, replicator)?)),
@@ -145,7 +147,7 @@ pub fn replicator(
     line: u32,
     tokens: &[Token],
 ) -> Result<Option<Box<Replicator>>, ParseFault>
-    ensures { Gives optional_replicator_of result (replicator_at (most_levels + 1) (words tokens.now)) }
+    ensures { Gives optional_replicator_of result (replicator_at brackets (words tokens.now)) }
 {
     match tokens {
         [] => Ok(None),
@@ -167,7 +169,7 @@ pub fn actuals(
     line: u32,
     tokens: &[Token],
 ) -> Result<(Option<OneOrMore<Expr>>, &[Token]), ParseFault>
-    ensures { Gives (λ x. (actuals_of x.0, words x.1.now)) result (actuals_at (most_levels + 1) (words tokens.now)) }
+    ensures { ReadsWords actuals_of result (actuals_at brackets) tokens.now }
 {
     match tokens {
         [Token::Sym(Sym::CloseParen), rest @ ..] => Ok((None, rest)),

@@ -1,12 +1,11 @@
 //! Types, parts of messages and formals.
 
-ghost use Rattle.std.specs.Prelude.{◌≡◌, ◌+◌, map};
-ghost use Rattle.occ_text.specs.Words.{words};
+ghost use Rattle.occ_tree_grammar.specs.Fronts.{each_as, ReadsWords};
 ghost use Rattle.occ_tree_grammar.specs.Expressions.Trees.{expression_of};
-ghost use Rattle.occ_tree_grammar.specs.Expressions.Reading.{Gives, indices_with, expression_at};
+ghost use Rattle.occ_tree_grammar.specs.Expressions.Reading.{indices_with, expression_at};
 ghost use Rattle.occ_tree_grammar.specs.Lines.Views.{part_of, carried_of, size_of, value_type_of, spec_of, formal_of, formals_of};
 ghost use Rattle.occ_tree_grammar.specs.Lines.Reading.{part_after, part_at, carried_at, size_with, sizes_at, value_type_at, spec_after, spec_at, formal_at, formals_at};
-ghost use Rattle.occ_tree_grammar.specs.Limits.{most_levels};
+ghost use Rattle.occ_tree_grammar.specs.Limits.{brackets};
 
 use crate::expressions::read::{DIMENSIONS, index, indices};
 use crate::expressions::symbol::{close, open_bracket, prim};
@@ -26,7 +25,8 @@ pub fn declared_sizes(
     line: u32,
     tokens: &[Token],
 ) -> Result<(Vec<Expr>, &[Token]), ParseFault>
-    ensures { Gives (λ x. (map expression_of x.0.items, words x.1.now)) result (indices_with (expression_at (most_levels + 1)) (words tokens.now)) }
+    ensures { ReadsWords
+        (each_as expression_of) result (indices_with (expression_at brackets)) tokens.now }
 {
     indices(alloc, MOST_LEVELS + 1, line, tokens)
 }
@@ -37,7 +37,7 @@ fn part_behind(
     of: Prim,
     tokens: &[Token],
 ) -> Result<(Part, &[Token]), ParseFault>
-    ensures { Gives (λ x. (part_of x.0, words x.1.now)) result (part_after (map expression_of sizes.items) of (words tokens.now)) }
+    ensures { ReadsWords part_of result (part_after (each_as expression_of sizes) of) tokens.now }
 {
     match tokens {
         [
@@ -56,7 +56,7 @@ fn part_behind(
 /// A part of a message.
 #[tactic(auto, unfolding(occ_tree_grammar::specs::Lines::Reading::part_at))]
 pub fn part(alloc: Global, line: u32, tokens: &[Token]) -> Result<(Part, &[Token]), ParseFault>
-    ensures { Gives (λ x. (part_of x.0, words x.1.now)) result (part_at (most_levels + 1) (words tokens.now)) }
+    ensures { ReadsWords part_of result (part_at brackets) tokens.now }
 {
     let (sizes, rest) = declared_sizes(alloc, line, tokens)?;
     let (of, rest) = prim(line, rest)?;
@@ -70,7 +70,7 @@ pub fn carried(
     line: u32,
     tokens: &[Token],
 ) -> Result<(Carried, &[Token]), ParseFault>
-    ensures { Gives (λ x. (carried_of x.0, words x.1.now)) result (carried_at (most_levels + 1) (words tokens.now)) }
+    ensures { ReadsWords carried_of result (carried_at brackets) tokens.now }
 {
     match tokens {
         [Token::Name(name), rest @ ..] => {
@@ -84,7 +84,7 @@ pub fn carried(
 }
 
 fn size(alloc: Global, line: u32, tokens: &[Token]) -> Result<(Size, &[Token]), ParseFault>
-    ensures { Gives (λ x. (size_of x.0, words x.1.now)) result (size_with (most_levels + 1) (words tokens.now)) }
+    ensures { ReadsWords size_of result (size_with brackets) tokens.now }
 {
     match tokens {
         [Token::Sym(Sym::CloseBracket), rest @ ..] => Ok((Size::Open, rest)),
@@ -97,7 +97,7 @@ fn size(alloc: Global, line: u32, tokens: &[Token]) -> Result<(Size, &[Token]), 
 
 /// Sizes that may be left open.
 fn sizes(alloc: Global, line: u32, tokens: &[Token]) -> Result<(Vec<Size>, &[Token]), ParseFault>
-    ensures { Gives (λ x. (map size_of x.0.items, words x.1.now)) result (sizes_at (most_levels + 1) (words tokens.now)) }
+    ensures { ReadsWords (each_as size_of) result (sizes_at brackets) tokens.now }
 {
     let mut all = Vec::new(alloc);
     let mut rest = tokens;
@@ -119,7 +119,7 @@ pub fn value_type(
     line: u32,
     tokens: &[Token],
 ) -> Result<(ValueType, &[Token]), ParseFault>
-    ensures { Gives (λ x. (value_type_of x.0, words x.1.now)) result (value_type_at (most_levels + 1) (words tokens.now)) }
+    ensures { ReadsWords value_type_of result (value_type_at brackets) tokens.now }
 {
     let (sizes, rest) = sizes(alloc, line, tokens)?;
     let (of, rest) = prim(line, rest)?;
@@ -132,7 +132,7 @@ fn spec_behind(
     sizes: Vec<Size>,
     tokens: &[Token],
 ) -> Result<(Spec, &[Token]), ParseFault>
-    ensures { Gives (λ x. (spec_of x.0, words x.1.now)) result (spec_after (most_levels + 1) (map size_of sizes.items) (words tokens.now)) }
+    ensures { ReadsWords spec_of result (spec_after brackets (each_as size_of sizes)) tokens.now }
 {
     match tokens {
         [Token::Key(Key::Chan), Token::Key(Key::Of), rest @ ..] => {
@@ -149,7 +149,7 @@ fn spec_behind(
 /// What a formal stands for.
 #[tactic(auto, unfolding(occ_tree_grammar::specs::Lines::Reading::spec_at))]
 fn spec(alloc: Global, line: u32, tokens: &[Token]) -> Result<(Spec, &[Token]), ParseFault>
-    ensures { Gives (λ x. (spec_of x.0, words x.1.now)) result (spec_at (most_levels + 1) (words tokens.now)) }
+    ensures { ReadsWords spec_of result (spec_at brackets) tokens.now }
 {
     match tokens {
         [Token::Key(Key::Val), rest @ ..] => {
@@ -166,7 +166,7 @@ fn spec(alloc: Global, line: u32, tokens: &[Token]) -> Result<(Spec, &[Token]), 
 /// A formal that isn't the first.
 #[tactic(auto, unfolding(occ_tree_grammar::specs::Lines::Reading::formal_at))]
 pub fn formal(alloc: Global, line: u32, tokens: &[Token]) -> Result<(Formal, &[Token]), ParseFault>
-    ensures { Gives (λ x. (formal_of x.0, words x.1.now)) result (formal_at (most_levels + 1) (words tokens.now)) }
+    ensures { ReadsWords formal_of result (formal_at brackets) tokens.now }
 {
     match tokens {
         [Token::Name(name), rest @ ..] => {
@@ -194,7 +194,7 @@ pub fn formals(
     line: u32,
     tokens: &[Token],
 ) -> Result<(Option<Box<Formals>>, &[Token]), ParseFault>
-    ensures { Gives (λ x. (formals_of x.0, words x.1.now)) result (formals_at (most_levels + 1) (words tokens.now)) }
+    ensures { ReadsWords formals_of result (formals_at brackets) tokens.now }
 {
     match tokens {
         [Token::Sym(Sym::CloseParen), rest @ ..] => Ok((None, rest)),

@@ -1,14 +1,15 @@
 //! Lists in a line: what stands behind the first part, each part behind a separator.
 
-ghost use Rattle.std.specs.Prelude.{◌≡◌, ◌+◌, ℕ, List, map};
-ghost use Rattle.occ_text.specs.Words.{Word, words};
+ghost use Rattle.std.specs.Prelude.{ℕ, List};
+ghost use Rattle.occ_text.specs.Words.{Word};
 ghost use Rattle.occ_tree_grammar.specs.Many.{Reader};
+ghost use Rattle.occ_tree_grammar.specs.Fronts.{each_as, ReadsWords};
 ghost use Rattle.occ_tree_grammar.specs.Expressions.Trees.{Expression, expression_of};
-ghost use Rattle.occ_tree_grammar.specs.Expressions.Reading.{Gives, expression_at};
+ghost use Rattle.occ_tree_grammar.specs.Expressions.Reading.{expression_at};
 ghost use Rattle.occ_tree_grammar.specs.Lines.Trees as trees;
 ghost use Rattle.occ_tree_grammar.specs.Lines.Views.{var_of, target_of, out_of, part_of, formal_of};
 ghost use Rattle.occ_tree_grammar.specs.Lines.Reading.{listed_at, name_at, var_at, target_at, out_at, part_at, formal_at};
-ghost use Rattle.occ_tree_grammar.specs.Limits.{most_levels};
+ghost use Rattle.occ_tree_grammar.specs.Limits.{brackets};
 
 use crate::item::{expression, out, target, var};
 use crate::kind::{formal, part};
@@ -33,7 +34,7 @@ pub trait Listed: Drop + Sized {
 
     /// One from the front of the words.
     fn read(alloc: Global, line: u32, tokens: &[Token]) -> Result<(Self, &[Token]), ParseFault>
-        ensures { Gives (λ x. (form x.0, words x.1.now)) result (reads (words tokens.now)) };
+        ensures { ReadsWords form result reads tokens.now };
 }
 
 /// Further ones of a kind, each behind the separator.
@@ -43,7 +44,7 @@ pub fn further<T: Listed>(
     line: u32,
     tokens: &[Token],
 ) -> Result<(Vec<T>, &[Token]), ParseFault>
-    ensures { Gives (λ x. (map T.form x.0.items, words x.1.now)) result (listed_at by T.reads (words tokens.now)) }
+    ensures { ReadsWords (each_as T.form) result (listed_at by T.reads) tokens.now }
 {
     let mut all = Vec::new(alloc);
     let mut rest = tokens;
@@ -76,7 +77,7 @@ impl Listed for Var {
 
     ghost form = { var_of };
 
-    ghost reads = { var_at (most_levels + 1) };
+    ghost reads = { var_at brackets };
 
     fn read(alloc: Global, line: u32, tokens: &[Token]) -> Result<(Var, &[Token]), ParseFault> {
         var(alloc, line, tokens)
@@ -88,7 +89,7 @@ impl Listed for Expr {
 
     ghost form = { expression_of };
 
-    ghost reads = { expression_at (most_levels + 1) };
+    ghost reads = { expression_at brackets };
 
     fn read(alloc: Global, line: u32, tokens: &[Token]) -> Result<(Expr, &[Token]), ParseFault> {
         expression(alloc, line, tokens)
@@ -100,7 +101,7 @@ impl Listed for Target {
 
     ghost form = { target_of };
 
-    ghost reads = { target_at (most_levels + 1) };
+    ghost reads = { target_at brackets };
 
     fn read(alloc: Global, line: u32, tokens: &[Token]) -> Result<(Target, &[Token]), ParseFault> {
         target(alloc, line, tokens)
@@ -112,7 +113,7 @@ impl Listed for Out {
 
     ghost form = { out_of };
 
-    ghost reads = { out_at (most_levels + 1) };
+    ghost reads = { out_at brackets };
 
     fn read(alloc: Global, line: u32, tokens: &[Token]) -> Result<(Out, &[Token]), ParseFault> {
         out(alloc, line, tokens)
@@ -124,7 +125,7 @@ impl Listed for Part {
 
     ghost form = { part_of };
 
-    ghost reads = { part_at (most_levels + 1) };
+    ghost reads = { part_at brackets };
 
     fn read(alloc: Global, line: u32, tokens: &[Token]) -> Result<(Part, &[Token]), ParseFault> {
         part(alloc, line, tokens)
@@ -136,7 +137,7 @@ impl Listed for Formal {
 
     ghost form = { formal_of };
 
-    ghost reads = { formal_at (most_levels + 1) };
+    ghost reads = { formal_at brackets };
 
     fn read(alloc: Global, line: u32, tokens: &[Token]) -> Result<(Formal, &[Token]), ParseFault> {
         formal(alloc, line, tokens)

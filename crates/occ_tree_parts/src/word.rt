@@ -1,8 +1,8 @@
 //! Single words of a line that must or may stand at the front.
 
-ghost use Rattle.std.specs.Prelude.{◌≡◌, option_map};
+ghost use Rattle.std.specs.Prelude.{◌≡◌};
 ghost use Rattle.occ_text.specs.Words.{words};
-ghost use Rattle.occ_tree_grammar.specs.Expressions.Reading.{Gives};
+ghost use Rattle.occ_tree_grammar.specs.Fronts.{ReadsWords, StepsOver, words_found};
 ghost use Rattle.occ_tree_grammar.specs.Lines.Reading.{after_separator, name_at, after_assign, after_question, after_for, after_is, after_colon};
 
 use occ_text::{Key, Sym, Token};
@@ -12,7 +12,7 @@ use std::alloc::Global;
 
 /// The words after the separator, where it stands.
 pub fn separated(by: Separator, tokens: &[Token]) -> Option<&[Token]>
-    ensures { option_map (λ r. words r.now) result ≡ after_separator by (words tokens.now) }
+    ensures { words_found result ≡ after_separator by (words tokens.now) }
 {
     match (by, tokens) {
         (Separator::Comma, [Token::Sym(Sym::Comma), rest @ ..]) => Some(rest),
@@ -23,7 +23,7 @@ pub fn separated(by: Separator, tokens: &[Token]) -> Option<&[Token]>
 
 /// A name.
 pub fn name(alloc: Global, line: u32, tokens: &[Token]) -> Result<(Vec<u8>, &[Token]), ParseFault>
-    ensures { Gives (λ x. (x.0.items, words x.1.now)) result (name_at (words tokens.now)) }
+    ensures { ReadsWords (λ v. v.items) result name_at tokens.now }
 {
     match tokens {
         [Token::Name(name), rest @ ..] => Ok((Vec::from_slice(alloc, name)?, rest)),
@@ -32,7 +32,7 @@ pub fn name(alloc: Global, line: u32, tokens: &[Token]) -> Result<(Vec<u8>, &[To
 }
 
 pub fn assign(line: u32, tokens: &[Token]) -> Result<&[Token], ParseFault>
-    ensures { Gives (λ r. words r.now) result (after_assign (words tokens.now)) }
+    ensures { StepsOver result after_assign tokens.now }
 {
     match tokens {
         [Token::Sym(Sym::Assign), rest @ ..] => Ok(rest),
@@ -41,7 +41,7 @@ pub fn assign(line: u32, tokens: &[Token]) -> Result<&[Token], ParseFault>
 }
 
 pub fn question(line: u32, tokens: &[Token]) -> Result<&[Token], ParseFault>
-    ensures { Gives (λ r. words r.now) result (after_question (words tokens.now)) }
+    ensures { StepsOver result after_question tokens.now }
 {
     match tokens {
         [Token::Sym(Sym::Question), rest @ ..] => Ok(rest),
@@ -50,7 +50,7 @@ pub fn question(line: u32, tokens: &[Token]) -> Result<&[Token], ParseFault>
 }
 
 pub fn for_count(line: u32, tokens: &[Token]) -> Result<&[Token], ParseFault>
-    ensures { Gives (λ r. words r.now) result (after_for (words tokens.now)) }
+    ensures { StepsOver result after_for tokens.now }
 {
     match tokens {
         [Token::Key(Key::For), rest @ ..] => Ok(rest),
@@ -59,7 +59,7 @@ pub fn for_count(line: u32, tokens: &[Token]) -> Result<&[Token], ParseFault>
 }
 
 pub fn is(line: u32, tokens: &[Token]) -> Result<&[Token], ParseFault>
-    ensures { Gives (λ r. words r.now) result (after_is (words tokens.now)) }
+    ensures { StepsOver result after_is tokens.now }
 {
     match tokens {
         [Token::Key(Key::Is), rest @ ..] => Ok(rest),
@@ -68,7 +68,7 @@ pub fn is(line: u32, tokens: &[Token]) -> Result<&[Token], ParseFault>
 }
 
 pub fn colon(line: u32, tokens: &[Token]) -> Result<&[Token], ParseFault>
-    ensures { Gives (λ r. words r.now) result (after_colon (words tokens.now)) }
+    ensures { StepsOver result after_colon tokens.now }
 {
     match tokens {
         [Token::Sym(Sym::Colon), rest @ ..] => Ok(rest),

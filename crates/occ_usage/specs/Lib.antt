@@ -1,5 +1,7 @@
 pub mod Clashes
 pub mod Noted
+pub mod Parts
 pub mod Indexes
 pub mod Heads
 pub mod Refusals
+pub mod Walked

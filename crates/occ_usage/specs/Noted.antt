@@ -1,6 +1,6 @@
 -- Uses as the code notes them: a list, each of cells or channels one after another.
 -- Manual: nothing; this is (own).
-use Rattle.std.specs.Prelude.{Bool, List, None, Option, Some, [], false, nat_le, nat_lt, true, ℕ, ⊤, ◌&&◌, ◌*◌, ◌+◌, ◌/◌, ◌||◌, ◌∷◌, ◌≡◌, ◌⊎◌}
+use Rattle.std.specs.Prelude.{Bool, List, None, Option, Some, [], false, map, nat_le, nat_lt, true, ℕ, ⊤, ◌&&◌, ◌*◌, ◌+◌, ◌/◌, ◌||◌, ◌∷◌, ◌≡◌, ◌⊎◌}
 use Rattle.occ_term.specs.Terms.{Place, place, Branches, no_branches, and_branch}
 use Rattle.occ_term.specs.Messages.{product}
 use Rattle.occ_term.specs.Values.{Span, span}
@@ -78,6 +78,9 @@ pub record Leaves (others : Uses) (other_clashes : Clash → Bool) (whole : Uses
 abbrev pub all_uses : List Uses → Uses
 all_uses [] = no_use
 all_uses (u ∷ us) = with_use u (all_uses us)
+
+abbrev pub uses_in_all : List (List Use) → Uses
+uses_in_all lists = all_uses (map uses_in lists)
 
 -- of branches one after another: one, and a later one
 abbrev pub with_one : Clash → Uses → List Uses → Bool

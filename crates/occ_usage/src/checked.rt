@@ -3,7 +3,7 @@
 //! At each PAR, a variable that one branch writes is used in no other branch, and a channel is input
 //! from in at most one branch and output to in at most one. The keyboard, the screen and the error
 //! channel count as branches beside the program.
-ghost use Rattle.std.specs.Prelude.{◌≡◌, ◌||◌, IfOk, IfErr};
+ghost use Rattle.std.specs.Prelude.{◌≡◌, IfOk, IfErr};
 ghost use Rattle.occ_term.specs.UnfoldedProgram.{Lawful};
 ghost use Rattle.occ_usage.specs.Refusals.{UsageRefuses};
 ghost use Rattle.occ_term.specs.Uses.{inputting, only, outputting, uses_of, with_use};
@@ -103,7 +103,8 @@ impl Checked {
 /// the screen and the error channel stand before the program. `Memory` for a refused growth.
 pub fn check_usage(alloc: Global, unfolded: Unfolded) -> Result<Checked, Refused>
     ensures accepted { IfOk result (λ c. (c ≡ unfolded) × Lawful c) }
-    ensures refused { IfErr result (λ r. (r.unfolded ≡ unfolded) × UsageRefuses r.fault r.unfolded) }
+    ensures refused { IfErr result
+        (λ r. (r.unfolded ≡ unfolded) × UsageRefuses r.fault r.unfolded) }
 {
     match find_clash(alloc, unfolded.term()) {
         Ok(None) => Ok(Checked { unfolded }),
@@ -142,7 +143,8 @@ fn find_clash(alloc: Global, term: &Term) -> Result<Option<Found>, AllocError>
 
 /// The keyboard outputs on channel 0, the screen inputs on 1, and the error channel's sink on 2.
 fn uses_beside(alloc: Global) -> Result<Noted, AllocError>
-    ensures { IfOk result (λ noted. uses_in noted.uses ≡ with_use (outputting (only 0)) (with_use (inputting (only 1)) (inputting (only 2)))) }
+    ensures { IfOk result (λ noted. uses_in noted.uses ≡ with_use
+        (outputting (only 0)) (with_use (inputting (only 1)) (inputting (only 2)))) }
 {
     let mut noted = Noted::new(alloc, 0);
     noted.push(Kind::Output, 0, 1, 0)?;

@@ -1,6 +1,6 @@
 //! The first use of a branch that clashes with an earlier branch.
 ghost use Rattle.std.specs.Prelude.{◌≡◌, IfOk, map};
-ghost use Rattle.occ_usage.specs.Noted.{Finds, between, clash_among, all_uses, use_of, uses_in};
+ghost use Rattle.occ_usage.specs.Noted.{Finds, between, clash_among, use_of, uses_in, uses_in_all};
 ghost use Rattle.occ_usage.specs.Indexes.{AreIndexes, IsOne, Tells, indexed};
 
 use crate::index::Index;
@@ -32,7 +32,8 @@ fn clash_across(
     left: &[Items<Use>],
     right: &[Items<Use>],
 ) -> Result<Option<Found>, AllocError>
-    ensures { IfOk result (λ found. Finds found (λ clash. clash (all_uses (map uses_in left.now)) (all_uses (map uses_in right.now)))) }
+    ensures { IfOk result (λ found. Finds found
+        (λ clash. clash (uses_in_all left.now) (uses_in_all right.now))) }
 {
     let mut first = Noted::new(alloc, 0);
     first.extend_all(left)?;
@@ -48,7 +49,8 @@ pub fn clash_between(
     left: &[Use],
     right: &[Use],
 ) -> Result<Option<Found>, AllocError>
-    ensures { IfOk result (λ found. Finds found (λ clash. clash (uses_in left.now) (uses_in right.now))) }
+    ensures { IfOk result (λ found. Finds found
+        (λ clash. clash (uses_in left.now) (uses_in right.now))) }
 {
     let all = Indexes::new(alloc, left)?;
     for one in right {
@@ -71,7 +73,7 @@ pub struct Indexes {
 
 impl Indexes {
     fn new(alloc: Global, uses: &[Use]) -> Result<Indexes, AllocError>
-        ensures sound { IfOk result (λ all. AreIndexes all) }
+        ensures sound { IfOk result AreIndexes }
         ensures uses { IfOk result (λ all. indexed all ≡ uses_in uses.now) }
     {
         Ok(Indexes {
@@ -86,7 +88,8 @@ impl Indexes {
 /// The clash of a use with one of those before, at the first number where there is one.
 fn clash_of(all: &Indexes, one: Use) -> Option<Found>
     requires { AreIndexes all.now }
-    ensures { Finds result (λ clash. clash (indexed all.now) (use_of one.kind (between one.first one.end))) }
+    ensures { Finds result (λ clash. clash
+        (indexed all.now) (use_of one.kind (between one.first one.end))) }
 {
     match one.kind {
         Kind::Read => {

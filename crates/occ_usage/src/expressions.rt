@@ -1,10 +1,11 @@
 //! The uses of expressions, items, targets and declarations.
-ghost use Rattle.std.specs.Prelude.{◌≡◌, ◌+◌, ◌<◌, ◌^◌, IfOk, map};
-ghost use Rattle.occ_term.specs.Uses.{with_use, reading, reads_of, reads_in_place, reads_in_subscripts, named_by, reads_of_array, reads_of_item, reads_of_items, uses_of_target, uses_of_targets, uses_of_declaration, uses_of_declarations, uses_of_replicator, union, written_place, input_place, output_place, only, writing, numbers_in};
+ghost use Rattle.std.specs.Prelude.{◌+◌, ◌<◌, ◌^◌, map};
+ghost use Rattle.occ_term.specs.Uses.{with_use, reading, reads_of, reads_in_place, reads_in_subscripts, named_by, reads_of_array, reads_of_item, uses_of_target, uses_of_declaration, uses_of_declarations, uses_of_replicator, union, only, writing, numbers_in};
 ghost use Rattle.occ_term.specs.Terms.{Clearing, Naming};
 ghost use Rattle.occ_term.specs.Values.{span};
-ghost use Rattle.occ_usage.specs.Noted.{use_of, Adds};
-ghost use Rattle.occ_term.specs.View.{expression_of, place_of, subscripts, array_of, item_of, items_of, target_of, targets_of, declaration_of, declarations_of, replicator_of};
+ghost use Rattle.occ_usage.specs.Noted.{use_of};
+ghost use Rattle.occ_usage.specs.Parts.{NotesUses, place_named, place_used, written_to, input_from, output_to, targets_written, items_read};
+ghost use Rattle.occ_term.specs.View.{expression_of, place_of, subscripts, array_of, item_of, target_of, declaration_of, declarations_of, replicator_of};
 
 use crate::noted::{Kind, Noted};
 use crate::places::{cells_of, named};
@@ -13,7 +14,7 @@ use std::alloc::AllocError;
 
 #[cycle(reads)]
 pub fn note_expression(e: &TermExpr, noted: &mut Noted) -> Result<(), AllocError>
-    ensures { IfOk result (λ _. Adds noted.old.uses (reading (reads_of (expression_of e.now))) noted.new.uses) }
+    ensures { NotesUses result noted.old noted.new (reading (reads_of (expression_of e.now))) }
 {
     match e {
         TermExpr::Constant(_) => Ok(()),
@@ -43,7 +44,8 @@ pub fn note_expression(e: &TermExpr, noted: &mut Noted) -> Result<(), AllocError
 /// The value of a place: what it names is read, and what its subscripts read.
 #[cycle(reads)]
 fn note_value(place: &Place, noted: &mut Noted) -> Result<(), AllocError>
-    ensures { IfOk result (λ _. Adds noted.old.uses (reading (union (named_by (place_of place.now)) (reads_in_place (place_of place.now)))) noted.new.uses) }
+    ensures { NotesUses result noted.old noted.new (reading
+        (union (named_by (place_of place.now)) (reads_in_place (place_of place.now)))) }
 {
     note_place(Kind::Read, place, noted)?;
     Ok(())
@@ -52,7 +54,7 @@ fn note_value(place: &Place, noted: &mut Noted) -> Result<(), AllocError>
 /// What the place names, used so, and then what its subscripts read.
 #[cycle(reads)]
 pub fn note_place(kind: Kind, place: &Place, noted: &mut Noted) -> Result<(), AllocError>
-    ensures { IfOk result (λ _. Adds noted.old.uses (with_use (use_of kind (named_by (place_of place.now))) (reading (reads_in_place (place_of place.now)))) noted.new.uses) }
+    ensures { NotesUses result noted.old noted.new (place_used kind place.now) }
 {
     note_named(kind, place, noted)?;
     note_subscripts(place.subscripts.as_slice(), noted)?;
@@ -61,7 +63,8 @@ pub fn note_place(kind: Kind, place: &Place, noted: &mut Noted) -> Result<(), Al
 
 #[cycle(reads)]
 fn note_subscripts(list: &[TermExpr], noted: &mut Noted) -> Result<(), AllocError>
-    ensures { IfOk result (λ _. Adds noted.old.uses (reading (reads_in_subscripts (subscripts (map expression_of list.now)))) noted.new.uses) }
+    ensures { NotesUses result noted.old noted.new
+        (reading (reads_in_subscripts (subscripts (map expression_of list.now)))) }
 {
     for subscript in list {
         note_expression(subscript, noted)?;
@@ -70,14 +73,14 @@ fn note_subscripts(list: &[TermExpr], noted: &mut Noted) -> Result<(), AllocErro
 }
 
 fn note_cell(line: u32, cell: u32, noted: &mut Noted) -> Result<(), AllocError>
-    ensures { IfOk result (λ _. Adds noted.old.uses (reading (only cell)) noted.new.uses) }
+    ensures { NotesUses result noted.old noted.new (reading (only cell)) }
 {
     note_span(Kind::Read, line, u64::from(cell), 1, noted)?;
     Ok(())
 }
 
 fn note_named(kind: Kind, place: &Place, noted: &mut Noted) -> Result<(), AllocError>
-    ensures { IfOk result (λ _. Adds noted.old.uses (use_of kind (named_by (place_of place.now))) noted.new.uses) }
+    ensures { NotesUses result noted.old noted.new (place_named kind place.now) }
 {
     let span = named(place);
     note_span(kind, place.line, span.first, span.count, noted)?;
@@ -93,13 +96,13 @@ fn note_span(
     noted: &mut Noted,
 ) -> Result<(), AllocError>
     requires { first + count < 2 ^ 64 }
-    ensures { IfOk result (λ _. Adds noted.old.uses (use_of kind (numbers_in (span first count))) noted.new.uses) }
+    ensures { NotesUses result noted.old noted.new (use_of kind (numbers_in (span first count))) }
 {
     noted.push(kind, first, first + count, line)
 }
 
 fn note_array(array: &Array, noted: &mut Noted) -> Result<(), AllocError>
-    ensures { IfOk result (λ _. Adds noted.old.uses (reading (reads_of_array (array_of array.now))) noted.new.uses) }
+    ensures { NotesUses result noted.old noted.new (reading (reads_of_array (array_of array.now))) }
 {
     match array {
         Array::Cells(place) => note_value(place, noted),
@@ -108,7 +111,7 @@ fn note_array(array: &Array, noted: &mut Noted) -> Result<(), AllocError>
 }
 
 fn note_item(item: &Item, noted: &mut Noted) -> Result<(), AllocError>
-    ensures { IfOk result (λ _. Adds noted.old.uses (reading (reads_of_item (item_of item.now))) noted.new.uses) }
+    ensures { NotesUses result noted.old noted.new (reading (reads_of_item (item_of item.now))) }
 {
     match item {
         Item::One(_, value) => note_expression(value, noted),
@@ -118,7 +121,8 @@ fn note_item(item: &Item, noted: &mut Noted) -> Result<(), AllocError>
 }
 
 fn note_counted(count: &TermExpr, array: &Array, noted: &mut Noted) -> Result<(), AllocError>
-    ensures { IfOk result (λ _. Adds noted.old.uses (reading (union (reads_of (expression_of count.now)) (reads_of_array (array_of array.now)))) noted.new.uses) }
+    ensures { NotesUses result noted.old noted.new (reading
+        (union (reads_of (expression_of count.now)) (reads_of_array (array_of array.now)))) }
 {
     note_expression(count, noted)?;
     note_array(array, noted)?;
@@ -126,7 +130,7 @@ fn note_counted(count: &TermExpr, array: &Array, noted: &mut Noted) -> Result<()
 }
 
 pub fn note_items(items: &[Item], noted: &mut Noted) -> Result<(), AllocError>
-    ensures { IfOk result (λ _. Adds noted.old.uses (reading (reads_of_items (items_of items.now))) noted.new.uses) }
+    ensures { NotesUses result noted.old noted.new (items_read items.now) }
 {
     for item in items {
         note_item(item, noted)?;
@@ -135,7 +139,7 @@ pub fn note_items(items: &[Item], noted: &mut Noted) -> Result<(), AllocError>
 }
 
 fn note_target(target: &Target, noted: &mut Noted) -> Result<(), AllocError>
-    ensures { IfOk result (λ _. Adds noted.old.uses (uses_of_target (target_of target.now)) noted.new.uses) }
+    ensures { NotesUses result noted.old noted.new (uses_of_target (target_of target.now)) }
 {
     match target {
         Target::Into(place) => note_written(place, noted),
@@ -144,14 +148,15 @@ fn note_target(target: &Target, noted: &mut Noted) -> Result<(), AllocError>
 }
 
 fn note_written(place: &Place, noted: &mut Noted) -> Result<(), AllocError>
-    ensures { IfOk result (λ _. Adds noted.old.uses (written_place (place_of place.now)) noted.new.uses) }
+    ensures { NotesUses result noted.old noted.new (written_to place.now) }
 {
     note_place(Kind::Write, place, noted)?;
     Ok(())
 }
 
 fn note_both_written(count: &Place, array: &Place, noted: &mut Noted) -> Result<(), AllocError>
-    ensures { IfOk result (λ _. Adds noted.old.uses (with_use (written_place (place_of count.now)) (written_place (place_of array.now))) noted.new.uses) }
+    ensures { NotesUses result noted.old noted.new
+        (with_use (written_to count.now) (written_to array.now)) }
 {
     note_place(Kind::Write, count, noted)?;
     note_place(Kind::Write, array, noted)?;
@@ -159,21 +164,21 @@ fn note_both_written(count: &Place, array: &Place, noted: &mut Noted) -> Result<
 }
 
 pub fn note_input(channel: &Place, noted: &mut Noted) -> Result<(), AllocError>
-    ensures { IfOk result (λ _. Adds noted.old.uses (input_place (place_of channel.now)) noted.new.uses) }
+    ensures { NotesUses result noted.old noted.new (input_from channel.now) }
 {
     note_place(Kind::Input, channel, noted)?;
     Ok(())
 }
 
 pub fn note_output(channel: &Place, noted: &mut Noted) -> Result<(), AllocError>
-    ensures { IfOk result (λ _. Adds noted.old.uses (output_place (place_of channel.now)) noted.new.uses) }
+    ensures { NotesUses result noted.old noted.new (output_to channel.now) }
 {
     note_place(Kind::Output, channel, noted)?;
     Ok(())
 }
 
 pub fn note_targets(targets: &[Target], noted: &mut Noted) -> Result<(), AllocError>
-    ensures { IfOk result (λ _. Adds noted.old.uses (uses_of_targets (targets_of targets.now)) noted.new.uses) }
+    ensures { NotesUses result noted.old noted.new (targets_written targets.now) }
 {
     for target in targets {
         note_target(target, noted)?;
@@ -183,7 +188,7 @@ pub fn note_targets(targets: &[Target], noted: &mut Noted) -> Result<(), AllocEr
 
 /// A declared variable, which is written where it begins.
 pub fn note_clearing(line: u32, first: u32, count: u32, noted: &mut Noted) -> Result<(), AllocError>
-    ensures { IfOk result (λ _. Adds noted.old.uses (uses_of_declaration (Clearing first count)) noted.new.uses) }
+    ensures { NotesUses result noted.old noted.new (uses_of_declaration (Clearing first count)) }
 {
     note_span(Kind::Write, line, u64::from(first), u64::from(count), noted)?;
     Ok(())
@@ -191,7 +196,8 @@ pub fn note_clearing(line: u32, first: u32, count: u32, noted: &mut Noted) -> Re
 
 /// A named value, whose cells are written where it begins.
 pub fn note_naming(line: u32, first: u32, value: &Item, noted: &mut Noted) -> Result<(), AllocError>
-    ensures { IfOk result (λ _. Adds noted.old.uses (uses_of_declaration (Naming first (item_of value.now))) noted.new.uses) }
+    ensures { NotesUses result noted.old noted.new
+        (uses_of_declaration (Naming first (item_of value.now))) }
 {
     note_item(value, noted)?;
     let count = cells_of(value);
@@ -200,7 +206,8 @@ pub fn note_naming(line: u32, first: u32, value: &Item, noted: &mut Noted) -> Re
 }
 
 pub fn note_declaration(declaration: &Declaration, noted: &mut Noted) -> Result<(), AllocError>
-    ensures { IfOk result (λ _. Adds noted.old.uses (uses_of_declaration (declaration_of declaration.now)) noted.new.uses) }
+    ensures { NotesUses result noted.old noted.new
+        (uses_of_declaration (declaration_of declaration.now)) }
 {
     match declaration {
         Declaration::Clearing(line, first, count) => note_clearing(*line, *first, *count, noted),
@@ -209,7 +216,8 @@ pub fn note_declaration(declaration: &Declaration, noted: &mut Noted) -> Result<
 }
 
 pub fn note_declarations(declarations: &[Declaration], noted: &mut Noted) -> Result<(), AllocError>
-    ensures { IfOk result (λ _. Adds noted.old.uses (uses_of_declarations (declarations_of declarations.now)) noted.new.uses) }
+    ensures { NotesUses result noted.old noted.new
+        (uses_of_declarations (declarations_of declarations.now)) }
 {
     for declaration in declarations {
         note_declaration(declaration, noted)?;
@@ -219,7 +227,7 @@ pub fn note_declarations(declarations: &[Declaration], noted: &mut Noted) -> Res
 
 /// Base and count, and then the index.
 pub fn note_replicator(over: &Replicator, noted: &mut Noted) -> Result<(), AllocError>
-    ensures { IfOk result (λ _. Adds noted.old.uses (uses_of_replicator (replicator_of over.now)) noted.new.uses) }
+    ensures { NotesUses result noted.old noted.new (uses_of_replicator (replicator_of over.now)) }
 {
     note_expression(&over.base, noted)?;
     note_expression(&over.count, noted)?;
@@ -228,7 +236,7 @@ pub fn note_replicator(over: &Replicator, noted: &mut Noted) -> Result<(), Alloc
 }
 
 fn note_index(line: u32, index: u32, noted: &mut Noted) -> Result<(), AllocError>
-    ensures { IfOk result (λ _. Adds noted.old.uses (writing (only index)) noted.new.uses) }
+    ensures { NotesUses result noted.old noted.new (writing (only index)) }
 {
     note_span(Kind::Write, line, u64::from(index), 1, noted)?;
     Ok(())

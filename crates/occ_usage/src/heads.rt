@@ -1,10 +1,9 @@
 //! What a term, or a part of one, uses before what stands within it.
-ghost use Rattle.std.specs.Prelude.{IfOk};
 ghost use Rattle.occ_term.specs.Terms as terms;
-ghost use Rattle.occ_term.specs.Uses.{with_use, reading, reads_of, reads_of_items, uses_of_targets, input_place, output_place};
-ghost use Rattle.occ_term.specs.View.{arm_of, choice_of, items_of, option_of, place_of, targets_of, term_of, test_of, variant_of};
-ghost use Rattle.occ_usage.specs.Noted.{Adds};
+ghost use Rattle.occ_term.specs.Uses.{with_use};
+ghost use Rattle.occ_term.specs.View.{arm_of, choice_of, option_of, term_of, variant_of};
 ghost use Rattle.occ_usage.specs.Heads.{head_of, head_of_arms, head_of_choices, head_of_options, head_of_variants};
+ghost use Rattle.occ_usage.specs.Parts.{NotesUses, input_from, output_to, targets_written, items_read, test_read};
 
 use crate::expressions::{
     note_clearing, note_declaration, note_declarations, note_expression, note_input, note_items,
@@ -16,7 +15,7 @@ use std::alloc::AllocError;
 
 /// Notes what a term uses itself, before the terms that stand within it.
 pub fn note_head(term: &Term, noted: &mut Noted) -> Result<(), AllocError>
-    ensures { IfOk result (λ _. Adds noted.old.uses (head_of (term_of term.now)) noted.new.uses) }
+    ensures { NotesUses result noted.old noted.new (head_of (term_of term.now)) }
 {
     match term {
         Term::Skip => Ok(()),
@@ -43,7 +42,8 @@ pub fn note_head(term: &Term, noted: &mut Noted) -> Result<(), AllocError>
 
 /// The targets stand first, and so are told first.
 fn note_assignment(targets: &[Target], values: &[Item], noted: &mut Noted) -> Result<(), AllocError>
-    ensures { IfOk result (λ _. Adds noted.old.uses (with_use (reading (reads_of_items (items_of values.now))) (uses_of_targets (targets_of targets.now))) noted.new.uses) }
+    ensures { NotesUses result noted.old noted.new
+        (with_use (items_read values.now) (targets_written targets.now)) }
 {
     note_targets(targets, noted)?;
     note_items(values, noted)?;
@@ -51,7 +51,8 @@ fn note_assignment(targets: &[Target], values: &[Item], noted: &mut Noted) -> Re
 }
 
 fn note_input_to(channel: &Place, targets: &[Target], noted: &mut Noted) -> Result<(), AllocError>
-    ensures { IfOk result (λ _. Adds noted.old.uses (with_use (input_place (place_of channel.now)) (uses_of_targets (targets_of targets.now))) noted.new.uses) }
+    ensures { NotesUses result noted.old noted.new
+        (with_use (input_from channel.now) (targets_written targets.now)) }
 {
     note_input(channel, noted)?;
     note_targets(targets, noted)?;
@@ -59,7 +60,8 @@ fn note_input_to(channel: &Place, targets: &[Target], noted: &mut Noted) -> Resu
 }
 
 fn note_output_of(channel: &Place, items: &[Item], noted: &mut Noted) -> Result<(), AllocError>
-    ensures { IfOk result (λ _. Adds noted.old.uses (with_use (output_place (place_of channel.now)) (reading (reads_of_items (items_of items.now)))) noted.new.uses) }
+    ensures { NotesUses result noted.old noted.new
+        (with_use (output_to channel.now) (items_read items.now)) }
 {
     note_output(channel, noted)?;
     note_items(items, noted)?;
@@ -68,7 +70,7 @@ fn note_output_of(channel: &Place, items: &[Item], noted: &mut Noted) -> Result<
 
 /// Notes what an arm uses before its process, or before the arms behind it.
 pub fn note_arm_head(arm: &Arm, noted: &mut Noted) -> Result<(), AllocError>
-    ensures { IfOk result (λ _. Adds noted.old.uses (head_of_arms (arm_of arm.now terms.no_arms)) noted.new.uses) }
+    ensures { NotesUses result noted.old noted.new (head_of_arms (arm_of arm.now terms.no_arms)) }
 {
     match arm {
         Arm::SkipArm(test, _) => note_expression(test, noted),
@@ -79,7 +81,8 @@ pub fn note_arm_head(arm: &Arm, noted: &mut Noted) -> Result<(), AllocError>
 }
 
 fn note_guard(test: &Option<TermExpr>, channel: &Place, noted: &mut Noted) -> Result<(), AllocError>
-    ensures { IfOk result (λ _. Adds noted.old.uses (with_use (reading (reads_of (terms.tested (test_of test.now)))) (input_place (place_of channel.now))) noted.new.uses) }
+    ensures { NotesUses result noted.old noted.new
+        (with_use (test_read test.now) (input_from channel.now)) }
 {
     note_test(test, noted)?;
     note_input(channel, noted)?;
@@ -88,7 +91,7 @@ fn note_guard(test: &Option<TermExpr>, channel: &Place, noted: &mut Noted) -> Re
 
 // an arm without a Boolean reads nothing for it
 fn note_test(test: &Option<TermExpr>, noted: &mut Noted) -> Result<(), AllocError>
-    ensures { IfOk result (λ _. Adds noted.old.uses (reading (reads_of (terms.tested (test_of test.now)))) noted.new.uses) }
+    ensures { NotesUses result noted.old noted.new (test_read test.now) }
 {
     match test {
         None => Ok(()),
@@ -98,7 +101,8 @@ fn note_test(test: &Option<TermExpr>, noted: &mut Noted) -> Result<(), AllocErro
 
 /// Notes what a choice uses before its process, or before the choices behind it.
 pub fn note_choice_head(choice: &Choice, noted: &mut Noted) -> Result<(), AllocError>
-    ensures { IfOk result (λ _. Adds noted.old.uses (head_of_choices (choice_of choice.now terms.no_choices)) noted.new.uses) }
+    ensures { NotesUses result noted.old noted.new
+        (head_of_choices (choice_of choice.now terms.no_choices)) }
 {
     match choice {
         Choice::When(test, _) => note_expression(test, noted),
@@ -109,7 +113,8 @@ pub fn note_choice_head(choice: &Choice, noted: &mut Noted) -> Result<(), AllocE
 
 /// Notes what is declared before the process of an option.
 pub fn note_option_head(option: &Selection, noted: &mut Noted) -> Result<(), AllocError>
-    ensures { IfOk result (λ _. Adds noted.old.uses (head_of_options (option_of option.now terms.no_options)) noted.new.uses) }
+    ensures { NotesUses result noted.old noted.new
+        (head_of_options (option_of option.now terms.no_options)) }
 {
     match option {
         Selection::Among(_, declarations, _) => note_declarations(declarations.as_slice(), noted),
@@ -119,7 +124,8 @@ pub fn note_option_head(option: &Selection, noted: &mut Noted) -> Result<(), All
 
 /// Notes what is declared before the process of a variant, and its targets.
 pub fn note_variant_head(variant: &Variant, noted: &mut Noted) -> Result<(), AllocError>
-    ensures { IfOk result (λ _. Adds noted.old.uses (head_of_variants (variant_of variant.now terms.no_variants)) noted.new.uses) }
+    ensures { NotesUses result noted.old noted.new
+        (head_of_variants (variant_of variant.now terms.no_variants)) }
 {
     note_declarations(variant.declarations.as_slice(), noted)?;
     note_targets(variant.targets.as_slice(), noted)?;

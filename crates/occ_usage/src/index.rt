@@ -28,8 +28,9 @@ pub struct Index {
 impl Index {
     /// The numbers that are used so.
     pub fn new(alloc: Global, uses: &[Use], kind: Kind) -> Result<Index, AllocError>
-        ensures sound { IfOk result (λ index. IsIndex index) }
-        ensures numbers { IfOk result (λ index. covered index.spans.items ≡ used kind (uses_in uses.now)) }
+        ensures sound { IfOk result IsIndex }
+        ensures numbers { IfOk result
+            (λ index. covered index.spans.items ≡ used kind (uses_in uses.now)) }
     {
         let mut spans = spans_of(alloc, uses, kind)?;
         spans.sort_unstable_by_key(|span| span.first);
@@ -65,7 +66,8 @@ impl Index {
         requires { IsIndex self.now }
         ensures bound { result ≤ length self.now.spans.items }
         ensures begun { AllWithin (λ s. s.first ≤ number) self.now.spans.items 0 result }
-        ensures later { AllWithin (λ s. number < s.first) self.now.spans.items result (length self.now.spans.items) }
+        ensures later { AllWithin (λ s. number < s.first)
+            self.now.spans.items result (length self.now.spans.items) }
     {
         self.spans.partition_point(|span| span.first <= number)
     }

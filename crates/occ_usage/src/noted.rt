@@ -1,6 +1,7 @@
 //! Uses of cells and channels, in the order of the program.
-ghost use Rattle.std.specs.Prelude.{◌≡◌, [], IfOk, map};
-ghost use Rattle.occ_usage.specs.Noted.{all_uses, between, use_of, uses_in, Adds, IsOneOf};
+ghost use Rattle.std.specs.Prelude.{◌≡◌, []};
+ghost use Rattle.occ_usage.specs.Noted.{between, use_of, uses_in, IsOneOf, uses_in_all};
+ghost use Rattle.occ_usage.specs.Parts.{NotesUses};
 
 use sqlite_items::Items;
 use std::alloc::{AllocError, Global};
@@ -79,7 +80,7 @@ impl Noted {
 
     /// Notes one more use, of the numbers from the first up to the end.
     pub fn push(&mut self, kind: Kind, first: u64, end: u64, line: u32) -> Result<(), AllocError>
-        ensures { IfOk result (λ _. Adds self.old.uses (use_of kind (between first end)) self.new.uses) }
+        ensures { NotesUses result self.old self.new (use_of kind (between first end)) }
     {
         let order = self.next;
         self.uses.push(Use {
@@ -95,7 +96,7 @@ impl Noted {
 
     /// Notes the uses of a list after these.
     pub fn extend(&mut self, list: &[Use]) -> Result<(), AllocError>
-        ensures { IfOk result (λ _. Adds self.old.uses (uses_in list.now) self.new.uses) }
+        ensures { NotesUses result self.old self.new (uses_in list.now) }
     {
         for one in list {
             self.uses.push(*one)?;
@@ -105,7 +106,7 @@ impl Noted {
 
     /// Notes the uses of all lists after these.
     pub fn extend_all(&mut self, lists: &[Items<Use>]) -> Result<(), AllocError>
-        ensures { IfOk result (λ _. Adds self.old.uses (all_uses (map uses_in lists.now)) self.new.uses) }
+        ensures { NotesUses result self.old self.new (uses_in_all lists.now) }
     {
         for list in lists {
             self.extend(list.as_slice())?;

@@ -1,5 +1,5 @@
 //! Which cells or channels a place names.
-ghost use Rattle.std.specs.Prelude.{◌≡◌, ◌+◌, ◌≤◌, ◌<◌, ◌^◌};
+ghost use Rattle.std.specs.Prelude.{◌≡◌, ◌+◌, ◌<◌, ◌^◌};
 ghost use Rattle.occ_term.specs.Messages.{product};
 ghost use Rattle.occ_term.specs.Values.{span, Value};
 ghost use Rattle.occ_term.specs.Uses.{constant_subscript, cells_of_item, components_of};
@@ -48,7 +48,8 @@ pub fn named(place: &Place) -> Span
 /// The part of a span that a constant subscript names.
 fn component(span: Span, subscript: &TermExpr, size: u32) -> Option<Span>
     requires { span.first + span.count < 2 ^ 33 }
-    ensures { result ≡ on_component (constant_subscript (expression_of subscript.now) size) span size }
+    ensures { result
+        ≡ on_component (constant_subscript (expression_of subscript.now) size) span size }
 {
     match constant_index(subscript, size) {
         None => None,

@@ -1,10 +1,8 @@
 //! The uses of a term, and the first clash of the branches of its PARs.
-ghost use Rattle.std.specs.Prelude.{◌≡◌, ◌||◌, IfOk, map};
-ghost use Rattle.occ_term.specs.Terms as terms;
-ghost use Rattle.occ_term.specs.Uses.{uses_of, uses_of_terms, uses_of_branches, uses_of_arms, uses_of_reception, uses_of_variants, uses_of_choices, uses_of_options};
-ghost use Rattle.occ_usage.specs.Clashes.{clash_in, clash_in_terms, clash_in_branches, clash_in_arms, clash_in_reception, clash_in_variants, clash_in_choices, clash_in_options};
-ghost use Rattle.occ_usage.specs.Noted.{Covers, FindsAfter, Leaves, all_uses, branch_uses, clash_among, clash_within, uses_in};
-ghost use Rattle.occ_term.specs.View.{arm_of, arms_of, branches_of, choice_of, choices_of, option_of, options_of, reception_of, term_of, terms_of, variants_of};
+ghost use Rattle.std.specs.Prelude.{◌≡◌, IfOk, map, OnOk};
+ghost use Rattle.occ_usage.specs.Noted.{FindsAfter, branch_uses, clash_within, uses_in};
+ghost use Rattle.occ_usage.specs.Walked.{CoversTerm, CoversTerms, CoversBranches, CoversArms, CoversReception, CoversVariants, CoversChoices, CoversOptions, CoversLists, LeavesArms, LeavesChoices, LeavesOptions};
+ghost use Rattle.occ_term.specs.View.{branches_of};
 
 use crate::clashes::first_clash;
 use crate::expressions::note_targets;
@@ -24,7 +22,7 @@ pub fn note_term(
     noted: &mut Noted,
     found: &mut Option<Found>,
 ) -> Result<(), AllocError>
-    ensures { IfOk result (λ _. Covers (uses_of (term_of term.now)) (λ clash. clash_in clash (term_of term.now)) noted.old.uses noted.new.uses found.old found.new) }
+    ensures { CoversTerm result term.now noted.old noted.new found.old found.new }
 {
     note_head(term, noted)?;
     match term {
@@ -53,7 +51,7 @@ fn note_terms(
     noted: &mut Noted,
     found: &mut Option<Found>,
 ) -> Result<(), AllocError>
-    ensures { IfOk result (λ _. Covers (uses_of_terms (terms_of parts.now)) (λ clash. clash_in_terms clash (terms_of parts.now)) noted.old.uses noted.new.uses found.old found.new) }
+    ensures { CoversTerms result parts.now noted.old noted.new found.old found.new }
 {
     for part in parts {
         note_term(alloc, part, noted, found)?;
@@ -69,7 +67,7 @@ fn note_branches(
     noted: &mut Noted,
     found: &mut Option<Found>,
 ) -> Result<(), AllocError>
-    ensures { IfOk result (λ _. Covers (uses_of_branches (branches_of branches.now)) (λ clash. clash_in_branches clash (branches_of branches.now)) noted.old.uses noted.new.uses found.old found.new) }
+    ensures { CoversBranches result branches.now noted.old noted.new found.old found.new }
 {
     let lists = uses_of_each(alloc, branches, noted, found)?;
     note_lists(alloc, &lists, noted, found)?;
@@ -85,8 +83,10 @@ fn uses_of_each(
     found: &mut Option<Found>,
 ) -> Result<Vec<Items<Use>>, AllocError>
     ensures noted { noted.new.uses ≡ noted.old.uses }
-    ensures uses { IfOk result (λ lists. map uses_in lists.items ≡ branch_uses (branches_of branches.now)) }
-    ensures finds { IfOk result (λ _. FindsAfter found.old found.new (clash_within (branches_of branches.now))) }
+    ensures uses { IfOk result
+        (λ lists. map uses_in lists.items ≡ branch_uses (branches_of branches.now)) }
+    ensures finds { OnOk result
+        (FindsAfter found.old found.new (clash_within (branches_of branches.now))) }
 {
     let mut lists = Vec::new(alloc);
     for branch in branches {
@@ -105,7 +105,7 @@ fn note_lists(
     noted: &mut Noted,
     found: &mut Option<Found>,
 ) -> Result<(), AllocError>
-    ensures { IfOk result (λ _. Covers (all_uses (map uses_in lists.now)) (clash_among (map uses_in lists.now)) noted.old.uses noted.new.uses found.old found.new) }
+    ensures { CoversLists result lists.now noted.old noted.new found.old found.new }
 {
     let across = first_clash(alloc, lists)?;
     *found = earlier(*found, across);
@@ -120,7 +120,7 @@ fn note_arms(
     noted: &mut Noted,
     found: &mut Option<Found>,
 ) -> Result<(), AllocError>
-    ensures { IfOk result (λ _. Covers (uses_of_arms (arms_of arms.now)) (λ clash. clash_in_arms clash (arms_of arms.now)) noted.old.uses noted.new.uses found.old found.new) }
+    ensures { CoversArms result arms.now noted.old noted.new found.old found.new }
 {
     for arm in arms {
         note_arm(alloc, arm, noted, found)?;
@@ -135,7 +135,7 @@ fn note_arm(
     noted: &mut Noted,
     found: &mut Option<Found>,
 ) -> Result<(), AllocError>
-    ensures { IfOk result (λ _. (others : terms.Arms) → Leaves (uses_of_arms others) (λ clash. clash_in_arms clash others) (uses_of_arms (arm_of arm.now others)) (λ clash. clash_in_arms clash (arm_of arm.now others)) noted.old.uses noted.new.uses found.old found.new) }
+    ensures { LeavesArms result arm.now noted.old noted.new found.old found.new }
 {
     note_arm_head(arm, noted)?;
     match arm {
@@ -153,7 +153,7 @@ fn note_reception(
     noted: &mut Noted,
     found: &mut Option<Found>,
 ) -> Result<(), AllocError>
-    ensures { IfOk result (λ _. Covers (uses_of_reception (reception_of list.now)) (λ clash. clash_in_reception clash (reception_of list.now)) noted.old.uses noted.new.uses found.old found.new) }
+    ensures { CoversReception result list.now noted.old noted.new found.old found.new }
 {
     match list {
         Reception::Plain(targets, body) => {
@@ -171,7 +171,7 @@ fn note_variants(
     noted: &mut Noted,
     found: &mut Option<Found>,
 ) -> Result<(), AllocError>
-    ensures { IfOk result (λ _. Covers (uses_of_variants (variants_of variants.now)) (λ clash. clash_in_variants clash (variants_of variants.now)) noted.old.uses noted.new.uses found.old found.new) }
+    ensures { CoversVariants result variants.now noted.old noted.new found.old found.new }
 {
     for variant in variants {
         note_variant_head(variant, noted)?;
@@ -187,7 +187,7 @@ fn note_choices(
     noted: &mut Noted,
     found: &mut Option<Found>,
 ) -> Result<(), AllocError>
-    ensures { IfOk result (λ _. Covers (uses_of_choices (choices_of choices.now)) (λ clash. clash_in_choices clash (choices_of choices.now)) noted.old.uses noted.new.uses found.old found.new) }
+    ensures { CoversChoices result choices.now noted.old noted.new found.old found.new }
 {
     for choice in choices {
         note_choice(alloc, choice, noted, found)?;
@@ -202,7 +202,7 @@ fn note_choice(
     noted: &mut Noted,
     found: &mut Option<Found>,
 ) -> Result<(), AllocError>
-    ensures { IfOk result (λ _. (others : terms.Choices) → Leaves (uses_of_choices others) (λ clash. clash_in_choices clash others) (uses_of_choices (choice_of choice.now others)) (λ clash. clash_in_choices clash (choice_of choice.now others)) noted.old.uses noted.new.uses found.old found.new) }
+    ensures { LeavesChoices result choice.now noted.old noted.new found.old found.new }
 {
     note_choice_head(choice, noted)?;
     match choice {
@@ -219,7 +219,7 @@ fn note_options(
     noted: &mut Noted,
     found: &mut Option<Found>,
 ) -> Result<(), AllocError>
-    ensures { IfOk result (λ _. Covers (uses_of_options (options_of options.now)) (λ clash. clash_in_options clash (options_of options.now)) noted.old.uses noted.new.uses found.old found.new) }
+    ensures { CoversOptions result options.now noted.old noted.new found.old found.new }
 {
     for option in options {
         note_option(alloc, option, noted, found)?;
@@ -234,7 +234,7 @@ fn note_option(
     noted: &mut Noted,
     found: &mut Option<Found>,
 ) -> Result<(), AllocError>
-    ensures { IfOk result (λ _. (others : terms.Options) → Leaves (uses_of_options others) (λ clash. clash_in_options clash others) (uses_of_options (option_of option.now others)) (λ clash. clash_in_options clash (option_of option.now others)) noted.old.uses noted.new.uses found.old found.new) }
+    ensures { LeavesOptions result option.now noted.old noted.new found.old found.new }
 {
     note_option_head(option, noted)?;
     match option {

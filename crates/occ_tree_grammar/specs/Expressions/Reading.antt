@@ -20,7 +20,7 @@ use Rattle.occ_tree_grammar.specs.Many.{◌>>=◌, Reader, many}
 use Rattle.occ_tree_grammar.specs.Expressions.Trees.{Expression, alone, two, one, convert, limit, chain, Operand, variable, literal, truth, parens, operands, expressions}
 use Rattle.occ_tree_grammar.specs.Expressions.Shown.{dimensions}
 
--- what a function returned, seen by view, is what reading gives, unless memory ran out
+-- a fault where reading gives nothing, unless memory ran out
 abbrev pub Fails : {Y : Type 0} → ParseFault → Option Y → Type 0
 Fails Memory read = Unit {0}
 Fails (Unexpected line) read = read ≡ None
@@ -28,6 +28,7 @@ Fails (Level line) read = read ≡ None
 Fails (Missing line) read = read ≡ None
 Fails (TooDeep line) read = read ≡ None
 
+-- what a function returned, seen by view, is what reading gives, unless memory ran out
 abbrev pub Gives : {X Y : Type 0} → (X → Y) → Result X ParseFault → Option Y → Type 0
 Gives view (Ok x) read = read ≡ Some (view x)
 Gives view (Err e) read = Fails e read

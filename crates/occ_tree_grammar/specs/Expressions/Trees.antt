@@ -1,6 +1,6 @@
 -- The tree of an expression.
 -- Manual: expressions; literals.
-use Rattle.std.specs.Prelude.{ℕ, List, [], ◌∷◌, Bool, true, false, Option}
+use Rattle.std.specs.Prelude.{ℕ, List, [], ◌∷◌, Bool, true, false, Option, Vec, map}
 use Rattle.occ_text.specs.Words.{Lit, number, byte, text}
 use Rattle.occ_tree_grammar.specs.declared.tree.expr.Primitive.{Primitive}
 use Rattle.occ_tree_grammar.specs.declared.tree.expr.Dyadic.{Dyadic}
@@ -60,18 +60,22 @@ abbrev mutual
   expression_of (exprs.Convert p a) = convert p (operand_of a)
   expression_of exprs.MostPos = limit true
   expression_of exprs.MostNeg = limit false
-  expression_of (exprs.Chain' l a b shape logical_line) = chain l (operand_of a) (operand_of b) (held_operands logical_line)
+  expression_of (exprs.Chain' l a b shape others) = chain l (operand_of a) (operand_of b) (held_operands others)
 
   pub operand_of : OperandTree → Operand
-  operand_of (operandTrees.Variable' v shape logical_line) = variable v.items (held_expressions logical_line)
+  operand_of (operandTrees.Variable' v shape subscripts) = variable v.items (held_expressions subscripts)
   operand_of (operandTrees.Literal l t) = literal (lit_of l) t
   operand_of (operandTrees.Truth b) = truth b
   operand_of (operandTrees.Parens' p e) = parens (expression_of e)
 
   pub held_operands : {m : _} → Row_of-Operand m → Operands
   held_operands end_of-Operand = no_operand
-  held_operands (more_of-Operand a logical_line) = more_operands (operand_of a) (held_operands logical_line)
+  held_operands (more_of-Operand a others) = more_operands (operand_of a) (held_operands others)
 
   pub held_expressions : {m : _} → Row_of-Expr m → Expressions
   held_expressions end_of-Expr = no_expression
-  held_expressions (more_of-Expr e logical_line) = more_expressions (expression_of e) (held_expressions logical_line)
+  held_expressions (more_of-Expr e others) = more_expressions (expression_of e) (held_expressions others)
+
+-- the expressions of a list
+abbrev pub listed_expressions : {A : Type 0} → Vec Expr A → Expressions
+listed_expressions es = expressions (map expression_of es.items)

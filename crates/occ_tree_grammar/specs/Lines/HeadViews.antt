@@ -1,6 +1,6 @@
 -- The heads that the code reads, without where they lie in memory.
 -- Manual: nothing; this is (own).
-use Rattle.std.specs.Prelude.{map, option_map}
+use Rattle.std.specs.Prelude.{ℕ, Option, Vec, map, option_map}
 use Rattle.occ_tree_grammar.specs.declared.tree.line.Action.{Action as ActionTree}
 use Rattle.occ_tree_grammar.specs.declared.tree.line.Action.TheVariants as actions
 use Rattle.occ_tree_grammar.specs.declared.tree.line.Guard.{Guard as GuardTree}
@@ -17,7 +17,12 @@ use Rattle.occ_tree_grammar.specs.declared.lines.head.VariantHead.{VariantHead a
 use Rattle.occ_tree_grammar.specs.declared.lines.head.DeclHead.{DeclHead as DeclHeadTree}
 use Rattle.occ_tree_grammar.specs.declared.lines.head.DeclHead.TheVariants as declarations
 use Rattle.occ_tree_grammar.specs.declared.lines.head.TagHead.{TagHead as TagHeadTree}
-use Rattle.occ_tree_grammar.specs.Expressions.Trees.{expression_of, expressions}
+use Rattle.occ_tree_grammar.specs.declared.tree.expr.Expr.{Expr}
+use Rattle.occ_tree_grammar.specs.declared.tree.line.OneOrMore.{OneOrMore}
+use Rattle.occ_tree_grammar.specs.declared.tree.line.Part.{Part as PartTree}
+use Rattle.occ_tree_grammar.specs.declared.tree.line.Sort.{Sort as SortTree}
+use Rattle.occ_tree_grammar.specs.declared.tree.line.ValueType.{ValueType as ValueTypeTree}
+use Rattle.occ_tree_grammar.specs.Expressions.Trees.{expression_of, listed_expressions}
 use Rattle.occ_tree_grammar.specs.Lines.Views.{var_of, target_of, out_of, input_of, optional_replicator_of, part_of, sort_of, value_type_of, formals_of, actuals_of}
 use Rattle.occ_tree_grammar.specs.Lines.Heads.{Action, skip, stop, assign, input, output, call, ProcessHead, act, input_variants, sequence, parallel, alternation, conditional, selection, loop, ChoiceHead, chosen, nested_conditional, OptionHead, values, otherwise, Guard, on_input, on_skip, ArmHead, guarded, guarded_variants, nested_alternation, VariantHead, tag, DeclHead, names, value, parts, tags, procedure, TagHead, tag_parts}
 
@@ -43,8 +48,12 @@ abbrev pub choice_head_of : ChoiceHeadTree → ChoiceHead
 choice_head_of (choices.When e) = chosen (expression_of e.value)
 choice_head_of (choices.If r) = nested_conditional (optional_replicator_of r)
 
+-- values from which one is chosen
+abbrev pub values_head : OneOrMore Expr → OptionHead
+values_head es = values (expression_of es.first) (map expression_of es.others.items)
+
 abbrev pub option_head_of : OptionHeadTree → OptionHead
-option_head_of (options.Values es) = values (expression_of es.value.first) (map expression_of es.value.others.items)
+option_head_of (options.Values es) = values_head es.value
 option_head_of options.Else = otherwise
 
 abbrev pub guard_of : GuardTree → Guard
@@ -59,10 +68,22 @@ arm_head_of (arms.Alt pri r) = nested_alternation pri (optional_replicator_of r)
 abbrev pub variant_head_of : VariantHeadTree → VariantHead
 variant_head_of h = tag h.tag.items (map target_of h.targets.items)
 
+-- names, by the sizes and by what they are declared as
+abbrev pub names_head : {A B : Type 0} → Vec Expr A → SortTree → OneOrMore (Vec ℕ B) → DeclHead
+names_head es t vs = names (listed_expressions es) (sort_of t) vs.first.items (map (λ v. v.items) vs.others.items)
+
+-- a named value, with its type where that is given
+abbrev pub value_head : {A : Type 0} → Option ValueTypeTree → Vec ℕ A → Expr → DeclHead
+value_head t v e = value (option_map value_type_of t) v.items (expression_of e)
+
+-- a protocol of these parts
+abbrev pub parts_head : {A : Type 0} → Vec ℕ A → OneOrMore PartTree → DeclHead
+parts_head v ps = parts v.items (part_of ps.first) (map part_of ps.others.items)
+
 abbrev pub decl_head_of : DeclHeadTree → DeclHead
-decl_head_of (declarations.Names es t vs) = names (expressions (map expression_of es.items)) (sort_of t.value) vs.first.items (map (λ v. v.items) vs.others.items)
-decl_head_of (declarations.Value t v e) = value (option_map value_type_of t) v.items (expression_of e.value)
-decl_head_of (declarations.Parts v ps) = parts v.items (part_of ps.value.first) (map part_of ps.value.others.items)
+decl_head_of (declarations.Names es t vs) = names_head es t.value vs
+decl_head_of (declarations.Value t v e) = value_head t v e.value
+decl_head_of (declarations.Parts v ps) = parts_head v ps.value
 decl_head_of (declarations.Tags v) = tags v.items
 decl_head_of (declarations.Proc v fs) = procedure v.items (formals_of fs)
 

@@ -1,7 +1,7 @@
 -- What keeps to the bounds: fewer than b brackets open at one place, and fewer than n levels, its own and those under it.
 -- Manual: nothing; this is (own).
-use Rattle.std.specs.Prelude.{◌+◌, ℕ, zero, suc, ◌<◌, List}
-use Rattle.occ_tree_grammar.specs.Limits.{most_levels}
+use Rattle.std.specs.Prelude.{ℕ, zero, suc, ◌<◌, List}
+use Rattle.occ_tree_grammar.specs.Limits.{brackets, most_levels}
 use Rattle.occ_tree_grammar.specs.Lists.{Each}
 use Rattle.occ_tree_grammar.specs.Lines.Heads.{names, value, parts, procedure, tag_parts, FitsProcessHead, FitsChoiceHead, FitsOptionHead, FitsArmHead, FitsVariantHead, FitsDeclHead, FitsTagHead}
 use Rattle.occ_tree_grammar.specs.Processes.Trees.{Kind, process, choice, option, arm, variant, Head, Tag, tag_line, Protocol, of_parts, of_tags, Node, node, Body, no_body, single_body, bodies, Nodes, no_node, more_nodes, Decls, no_decl, more_decls, Decl, declares, item, Item, value_item, protocol_item, proc_item}
@@ -49,6 +49,10 @@ abbrev mutual
   FitsItem b n (protocol_item p) = FitsProtocol b n p
   FitsItem b n (proc_item l v fs m end_line) = FitsDeclHead b (procedure v fs) × FitsNode b n m
 
+-- a text that keeps to these bounds
+abbrev pub FitsProgram : ℕ → ℕ → List Item → Type 0
+FitsProgram b n = Each (FitsItem b n)
+
 -- a text with at most 64 levels, at most 64 brackets open at one place, and at most four sizes or subscripts
 abbrev pub InBounds : List Item → Type 0
-InBounds = Each (FitsItem (most_levels + 1) most_levels)
+InBounds = FitsProgram brackets most_levels

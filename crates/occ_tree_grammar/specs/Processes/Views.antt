@@ -1,6 +1,6 @@
 -- The processes of the code and their parts, without where they lie in memory.
 -- Manual: nothing; this is (own).
-use Rattle.std.specs.Prelude.{List, map, Some, None, option_map}
+use Rattle.std.specs.Prelude.{List, Vec, map, Some, None, option_map}
 use Rattle.occ_tree_grammar.specs.declared.tree.process.Process.{Process as ProcessTree}
 use Rattle.occ_tree_grammar.specs.declared.tree.process.Process.TheVariants as processes
 use Rattle.occ_tree_grammar.specs.declared.tree.process.Stmt.{Row_of-Process, end_of-Process, more_of-Process, Row_of-Arm, end_of-Arm, more_of-Arm, Row_of-Choice, end_of-Choice, more_of-Choice, Row_of-Selection, end_of-Selection, more_of-Selection, Row_of-Variant, end_of-Variant, more_of-Variant}
@@ -25,7 +25,7 @@ use Rattle.occ_tree_grammar.specs.Expressions.Trees.{expression_of, expressions}
 use Rattle.occ_tree_grammar.specs.Lines.Views.{var_of, target_of, replicator_of, part_of, sort_of, value_type_of, formals_of}
 use Rattle.occ_tree_grammar.specs.Lines.Heads.{act, input_variants, sequence, parallel, alternation, conditional, selection, loop, chosen, nested_conditional, values, otherwise, guarded, guarded_variants, nested_alternation, tag}
 use Rattle.occ_tree_grammar.specs.Lines.HeadViews.{action_of, guard_of}
-use Rattle.occ_tree_grammar.specs.Processes.Trees.{process, choice, option, arm, variant, Tag, tag_line, Protocol, of_parts, of_tags, Node, node, no_body, single_body, bodies, Nodes, no_node, more_nodes, Decls, no_decl, more_decls, Decl, declares, item, Item, value_item, protocol_item, proc_item}
+use Rattle.occ_tree_grammar.specs.Processes.Trees.{process, choice, option, arm, variant, Tag, tag_line, Protocol, of_parts, of_tags, Node, node, no_body, single_body, bodies, Nodes, no_node, more_nodes, Decls, decls, no_decl, more_decls, Decl, declares, item, Item, value_item, protocol_item, proc_item}
 
 abbrev pub tag_of : TagTree → Tag
 tag_of t = tag_line t.line t.name.items (map part_of t.parts.items)
@@ -99,6 +99,10 @@ unfoldable mutual
   pub held_variants : {m : _} → Row_of-Variant m → Nodes variant
   held_variants end_of-Variant = no_node
   held_variants (more_of-Variant n ns) = more_nodes (variant_of n) (held_variants ns)
+
+-- the declarations of a list
+abbrev pub listed_decls : {A : Type 0} → Vec DeclTree A → Decls
+listed_decls ds = decls (map decl_of ds.items)
 
 abbrev pub program_of : Program → List Item
 program_of p = map item_of p.items.items

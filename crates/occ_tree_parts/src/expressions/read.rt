@@ -1,10 +1,10 @@
 //! Reading an expression from the front of the words of a line.
 
-ghost use Rattle.std.specs.Prelude.{◌≡◌, length, map};
-ghost use Rattle.occ_text.specs.Words.{words};
+ghost use Rattle.std.specs.Prelude.{length};
 ghost use Rattle.occ_tree_grammar.specs.Many.{many};
+ghost use Rattle.occ_tree_grammar.specs.Fronts.{each_as, ReadsWords};
 ghost use Rattle.occ_tree_grammar.specs.Expressions.Trees.{expression_of, operand_of};
-ghost use Rattle.occ_tree_grammar.specs.Expressions.Reading.{Gives, type_mark_at, index_with, indices_with, operand_with, after_logic, after_operand, expression_with, expression_at};
+ghost use Rattle.occ_tree_grammar.specs.Expressions.Reading.{type_mark_at, index_with, indices_with, operand_with, after_logic, after_operand, expression_with, expression_at};
 
 use crate::expressions::symbol::{close, close_bracket, int, joined, open_bracket, prim};
 use occ_text::{Key, Sym, Token};
@@ -18,7 +18,7 @@ pub const DIMENSIONS: usize = 4;
 
 /// The type of a literal, where it is given.
 fn type_mark(line: u32, tokens: &[Token]) -> Result<(Option<Prim>, &[Token]), ParseFault>
-    ensures { Gives (λ x. (x.0, words x.1.now)) result (type_mark_at (words tokens.now)) }
+    ensures { ReadsWords (λ p. p) result type_mark_at tokens.now }
 {
     match tokens {
         [Token::Sym(Sym::OpenParen), rest @ ..] => {
@@ -38,7 +38,7 @@ pub fn index(
     line: u32,
     tokens: &[Token],
 ) -> Result<(Expr, &[Token]), ParseFault>
-    ensures { Gives (λ x. (expression_of x.0, words x.1.now)) result (index_with (expression_at left) (words tokens.now)) }
+    ensures { ReadsWords expression_of result (index_with (expression_at left)) tokens.now }
 {
     let (index, rest) = expr(alloc, left, line, tokens)?;
     let rest = close_bracket(line, rest)?;
@@ -53,7 +53,8 @@ pub fn indices(
     line: u32,
     tokens: &[Token],
 ) -> Result<(Vec<Expr>, &[Token]), ParseFault>
-    ensures { Gives (λ x. (map expression_of x.0.items, words x.1.now)) result (indices_with (expression_at left) (words tokens.now)) }
+    ensures { ReadsWords
+        (each_as expression_of) result (indices_with (expression_at left)) tokens.now }
 {
     let mut all = Vec::new(alloc);
     let mut rest = tokens;
@@ -76,7 +77,7 @@ fn operand(
     line: u32,
     tokens: &[Token],
 ) -> Result<(Operand, &[Token]), ParseFault>
-    ensures { Gives (λ x. (operand_of x.0, words x.1.now)) result (operand_with (expression_at left) (words tokens.now)) }
+    ensures { ReadsWords operand_of result (operand_with (expression_at left)) tokens.now }
 {
     match tokens {
         [Token::Name(name), rest @ ..] => {
@@ -118,7 +119,8 @@ fn operands(
     logic: Logic,
     tokens: &[Token],
 ) -> Result<(Vec<Operand>, &[Token]), ParseFault>
-    ensures { Gives (λ x. (map operand_of x.0.items, words x.1.now)) result (many (after_logic logic) (operand_with (expression_at left)) (length tokens.now) (words tokens.now)) }
+    ensures { ReadsWords (each_as operand_of) result (many
+        (after_logic logic) (operand_with (expression_at left)) (length tokens.now)) tokens.now }
 {
     let mut all = Vec::new(alloc);
     let mut rest = tokens;
@@ -141,7 +143,7 @@ pub fn expr(
     line: u32,
     tokens: &[Token],
 ) -> Result<(Expr, &[Token]), ParseFault>
-    ensures { Gives (λ x. (expression_of x.0, words x.1.now)) result (expression_at left (words tokens.now)) }
+    ensures { ReadsWords expression_of result (expression_at left) tokens.now }
 {
     if left == 0 {
         return Err(ParseFault::TooDeep { line });
@@ -157,7 +159,7 @@ fn inside(
     line: u32,
     tokens: &[Token],
 ) -> Result<(Expr, &[Token]), ParseFault>
-    ensures { Gives (λ x. (expression_of x.0, words x.1.now)) result (expression_with (expression_at left) (words tokens.now)) }
+    ensures { ReadsWords expression_of result (expression_with (expression_at left)) tokens.now }
 {
     let [first, after @ ..] = tokens else {
         return Err(ParseFault::Unexpected { line });
@@ -195,7 +197,8 @@ fn linked(
     first: Operand,
     tokens: &[Token],
 ) -> Result<(Expr, &[Token]), ParseFault>
-    ensures { Gives (λ x. (expression_of x.0, words x.1.now)) result (after_operand (expression_at left) (operand_of first) (words tokens.now)) }
+    ensures { ReadsWords
+        expression_of result (after_operand (expression_at left) (operand_of first)) tokens.now }
 {
     let [word, after @ ..] = tokens else {
         return Ok((Expr::Operand(first), tokens));

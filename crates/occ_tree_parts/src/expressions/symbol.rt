@@ -1,15 +1,16 @@
 //! Single words that must or may stand at the front.
 
-ghost use Rattle.std.specs.Prelude.{◌≡◌, option_map};
+ghost use Rattle.std.specs.Prelude.{◌≡◌};
 ghost use Rattle.occ_text.specs.Words.{words};
-ghost use Rattle.occ_tree_grammar.specs.Expressions.Reading.{Gives, after_open_bracket, after_close, after_close_bracket, after_int, prim_at, after_logic};
+ghost use Rattle.occ_tree_grammar.specs.Fronts.{ReadsWords, StepsOver, words_found};
+ghost use Rattle.occ_tree_grammar.specs.Expressions.Reading.{after_open_bracket, after_close, after_close_bracket, after_int, prim_at, after_logic};
 
 use occ_text::{Key, Sym, Token};
 use occ_tree_grammar::ParseFault;
 use occ_tree_grammar::tree::expr::{Logic, Prim};
 
 pub fn open_bracket(tokens: &[Token]) -> Option<&[Token]>
-    ensures { option_map (λ r. words r.now) result ≡ after_open_bracket (words tokens.now) }
+    ensures { words_found result ≡ after_open_bracket (words tokens.now) }
 {
     match tokens {
         [Token::Sym(Sym::OpenBracket), rest @ ..] => Some(rest),
@@ -18,7 +19,7 @@ pub fn open_bracket(tokens: &[Token]) -> Option<&[Token]>
 }
 
 pub fn close(line: u32, tokens: &[Token]) -> Result<&[Token], ParseFault>
-    ensures { Gives (λ r. words r.now) result (after_close (words tokens.now)) }
+    ensures { StepsOver result after_close tokens.now }
 {
     match tokens {
         [Token::Sym(Sym::CloseParen), rest @ ..] => Ok(rest),
@@ -27,7 +28,7 @@ pub fn close(line: u32, tokens: &[Token]) -> Result<&[Token], ParseFault>
 }
 
 pub fn close_bracket(line: u32, tokens: &[Token]) -> Result<&[Token], ParseFault>
-    ensures { Gives (λ r. words r.now) result (after_close_bracket (words tokens.now)) }
+    ensures { StepsOver result after_close_bracket tokens.now }
 {
     match tokens {
         [Token::Sym(Sym::CloseBracket), rest @ ..] => Ok(rest),
@@ -36,7 +37,7 @@ pub fn close_bracket(line: u32, tokens: &[Token]) -> Result<&[Token], ParseFault
 }
 
 pub fn int(line: u32, tokens: &[Token]) -> Result<&[Token], ParseFault>
-    ensures { Gives (λ r. words r.now) result (after_int (words tokens.now)) }
+    ensures { StepsOver result after_int tokens.now }
 {
     match tokens {
         [Token::Key(Key::Int), rest @ ..] => Ok(rest),
@@ -46,7 +47,7 @@ pub fn int(line: u32, tokens: &[Token]) -> Result<&[Token], ParseFault>
 
 /// A primitive type.
 pub fn prim(line: u32, tokens: &[Token]) -> Result<(Prim, &[Token]), ParseFault>
-    ensures { Gives (λ x. (x.0, words x.1.now)) result (prim_at (words tokens.now)) }
+    ensures { ReadsWords (λ p. p) result prim_at tokens.now }
 {
     match tokens {
         [Token::Key(Key::Bool), rest @ ..] => Ok((Prim::Bool, rest)),
@@ -58,7 +59,7 @@ pub fn prim(line: u32, tokens: &[Token]) -> Result<(Prim, &[Token]), ParseFault>
 
 /// The words after the operator, where it stands.
 pub fn joined(logic: Logic, tokens: &[Token]) -> Option<&[Token]>
-    ensures { option_map (λ r. words r.now) result ≡ after_logic logic (words tokens.now) }
+    ensures { words_found result ≡ after_logic logic (words tokens.now) }
 {
     match (logic, tokens) {
         (Logic::And, [Token::Key(Key::And), rest @ ..]) => Some(rest),
