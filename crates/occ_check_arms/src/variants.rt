@@ -13,7 +13,8 @@ ghost use Rattle.occ_check_meaning.specs.Actions.{variant_tag};
 ghost use Rattle.occ_check_arms.specs.Variants.{storing, variants_taken, body_of_variant, declarations_of_variant, line_of_variant, targets_of_variant, variant_with_targets, variant_left, variant_with};
 ghost use Rattle.occ_check_names.specs.View.{Unfolds, numbers_of};
 ghost use Rattle.occ_check_opened.specs.Opened.{Begins, IsReady, LeavesWithin, OpensAt};
-ghost use Rattle.occ_check_opened.specs.Progress.{body_weight, counted, declared_weight, names_there, node_weight, nodes_weight, read_in};
+ghost use Rattle.occ_check_names.specs.Reading.{read_in};
+ghost use Rattle.occ_check_opened.specs.Progress.{body_weight, counted, declared_weight, names_there, node_weight, nodes_weight};
 ghost use Rattle.occ_check_opened.specs.Weights.{decl_nodes, variant_nodes};
 ghost use Rattle.occ_check_opened.specs.OpenBlocks.{Keeps};
 

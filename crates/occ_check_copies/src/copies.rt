@@ -8,7 +8,8 @@ ghost use Rattle.occ_check_meaning.specs.Scope.{within};
 ghost use Rattle.occ_check_copies.specs.Copies.{copies_counted, copies_there, numbered_copy, copy_left};
 ghost use Rattle.occ_check_opened.specs.Opened.{Begins, IsReady, LeavesWithin, Opens, body_unfolded};
 ghost use Rattle.occ_check_names.specs.View.{Unfolds, numbers_of};
-ghost use Rattle.occ_check_opened.specs.Progress.{body_weight, counted, meant_at, names_there, read_in, weight_at};
+ghost use Rattle.occ_check_names.specs.Reading.{read_in};
+ghost use Rattle.occ_check_opened.specs.Progress.{body_weight, counted, meant_at, names_there, weight_at};
 ghost use Rattle.occ_check_names.specs.declared.fault.CheckFault.TheVariants.{Memory};
 ghost use Rattle.occ_check_opened.specs.OpenBlocks.{Keeps};
 
