@@ -17,8 +17,8 @@ ghost use Rattle.occ_check_meaning.specs.Meant.{meant as with_meanings};
 ghost use Rattle.occ_check_acting.specs.Action.{listed_of};
 ghost use Rattle.occ_check_opened.specs.OneLine.{assigning, heading, outputting, receiving, tested, assignment_of, expressions_of, output_of, variables_of};
 ghost use Rattle.occ_check_names.specs.View.{TakesRoom, Unfolds, names_in, numbers_of, scope_in};
-ghost use Rattle.occ_check_opened.specs.Weights.{decl_nodes, deghost use Rattle.occ_check_names.specs.Reading.{read_in};
-cls_size};
+ghost use Rattle.occ_check_names.specs.Reading.{read_in};
+ghost use Rattle.occ_check_opened.specs.Weights.{decl_nodes, decls_size};
 ghost use Rattle.occ_check_opened.specs.Progress.{EntersAt, Reads, counted, meant_at, names_there, weight_at};
 ghost use Rattle.occ_check_opened.specs.OpenBlocks.{Keeps};
 
