@@ -3,7 +3,6 @@
 use Rattle.std.specs.Prelude.{List, Option, Some, Result, Ok, Err, ℕ, ℤ, ◌+◌, ◌≡◌}
 use Rattle.occ_tree_grammar.specs.Processes.Views.{process_of}
 use Rattle.occ_tree_grammar.specs.declared.tree.process.Process.{Process}
-use Rattle.occ_term.specs.Sizes.{Size}
 use Rattle.occ_term.specs.Terms as T
 use Rattle.occ_term.specs.declared.expression.Declaration.{Declaration}
 use Rattle.occ_term.specs.View.{declarations_of, replicator_of}
@@ -25,9 +24,10 @@ use Rattle.occ_tree_grammar.specs.Processes.Trees.{Kind, Node, Nodes}
 use Rattle.occ_check.specs.OpenBlocks.{seen_at, seen_inside}
 use Rattle.occ_check.specs.Weights.{decl_nodes, decls_size, node_size, nodes_size, weight}
 use Rattle.occ_tree_grammar.specs.declared.tree.process.Decl.{Decl}
-use Rattle.occ_check_names.specs.declared.context.Context.{Context}
 use Rattle.occ_check.specs.declared.unfolder.Call.{Call}
-use Rattle.occ_check_names.specs.View.{Counts, names_in, numbers_of, Refuses, Unfolds}
+use Rattle.occ_check_names.specs.View.{numbers_of, Refuses, Unfolds}
+pub use Rattle.occ_check_names.specs.Reading.{read_in}
+pub use Rattle.occ_check_names.specs.View.{TakesRoom}
 use Rattle.occ_check_names.specs.declared.fault.CheckFault.{CheckFault}
 use Rattle.occ_check_names.specs.declared.scope.Position.{Position}
 use Rattle.occ_check.specs.declared.unfolder.Unfolder.{Unfolder}
@@ -46,14 +46,6 @@ counted u = numbers_of u.numbers
 -- the names there, but for procedures
 abbrev pub names_there : Unfolder → Position → S.Names
 names_there u at = S.names_of (meant_at u at)
-
--- what a word gives under the names of a context, in its line
-abbrev pub read_in : {A : Type 0} → Context → (S.Names → ℕ → A) → A
-read_in c word = word (names_in c.scope) c.line
-
--- something of this size is counted, behind so many nodes
-abbrev pub TakesRoom : {X : Type 0} → Result X CheckFault → Numbers → Numbers → ℕ → Size → Type 0
-TakesRoom result old new depth size = Counts result new (N.room depth size (numbers_of old))
 
 -- what is answered is what a part of the tree unfolds to at a position, behind so many nodes
 abbrev pub Reads : {X Y : Type 0} → (X → Y) → Result X CheckFault → Unfolder → Unfolder → Position → ℕ → Under Y → Type 0
