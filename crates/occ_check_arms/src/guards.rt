@@ -8,8 +8,8 @@ ghost use Rattle.occ_term.specs.View.{arms_of, place_of, term_of, test_of as boo
 ghost use Rattle.occ_check_meaning.specs.Actions as meant;
 ghost use Rattle.occ_check_acting.specs.Action.{listed_of};
 ghost use Rattle.occ_check_arms.specs.Guards.{guarded_by, guarded_of, variants_guard_of, guard_size, guarding, guarding_variants, variants_guard_size};
-ghost use Rattle.occ_check_names.specs.View.{TakesRoom, Unfolds, nughost use Rattle.occ_check_names.specs.Reading.{read_in};
-mbers_of};
+ghost use Rattle.occ_check_names.specs.Reading.{read_in};
+ghost use Rattle.occ_check_names.specs.View.{TakesRoom, Unfolds, numbers_of};
 ghost use Rattle.occ_check_opened.specs.Progress.{counted, names_there};
 
 use occ_check_acting::action::{Listed, as_reception, received, test_of, with_tags};
