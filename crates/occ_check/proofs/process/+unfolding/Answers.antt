@@ -229,10 +229,10 @@ choices_unfolded-loop-choice-preserved t c =
     let u = c.choice_opened.new.unfolder in
     let opens : choice_in sc c.args.depth c.choice-item.result (counted c.loop-choice.unfolder) ≡ choice_left u (choices.Inner c.in-Inner.head c.in-Inner.list c.in-Inner.inside c.in-Inner.deep) =
     subst (λ f. choice_in (meant (scope_in (reverse f) c.args.at)) c.args.depth c.choice-item.result (counted c.loop-choice.unfolder) ≡ choice_left u c.in_ok-opened.opened) c.loop-choice.invariant.1 c.in_ok-opened.ensures.opens ∙ ap (choice_left u) c.in-Inner.is in
-    let this : choice_in sc c.args.depth c.choice-item.result (counted c.loop-choice.unfolder) ≡ Some (choices_of c.in_ok-made-in-Inner.made, counted c.choices_unfolded-in-Inner.new.unfolder) =
-    put_done (choices_within c.in-Inner.head) _ _ opens (choices_of c.in_ok-within-in-Inner.within) (counted c.choices_unfolded-in-Inner.new.unfolder) (choices_of c.in_ok-made-in-Inner.made) c.in_ok-within-in-Inner.ensures.choices c.in_ok-made-in-Inner.ensures in (
+    let this : choice_in sc c.args.depth c.choice-item.result (counted c.loop-choice.unfolder) ≡ Some (choices_of c.in_ok-made-in-Inner.made, counted c.choices_unfolded.new.unfolder) =
+    put_done (choices_within c.in-Inner.head) _ _ opens (choices_of c.in_ok-within-in-Inner.within) (counted c.choices_unfolded.new.unfolder) (choices_of c.in_ok-made-in-Inner.made) c.in_ok-within-in-Inner.ensures.choices c.in_ok-made-in-Inner.ensures in (
       gathered_next _ _ _ (choices_step sc c.args.depth) _ _ _ _ _ c.loop-choice.invariant.0 _ c.loop-choice-test.true c.choice-item.is _ _ _ this (λ r. choices_grown c.loop-choice.choices c.in_ok-made-in-Inner.made c.append-in-Inner.new.self r c.in_ok-append-in-Inner.ensures),
-      blocks_kept c.loop-choice.unfolder.blocks.blocks.items u.blocks.blocks.items c.choices_unfolded-in-Inner.new.unfolder.blocks.blocks.items c.close-in-Inner.new.self.blocks.items c.len-base.result c.len-base.ensures c.in_ok-opened.ensures.kept c.in_ok-within-in-Inner.ensures.kept c.close-in-Inner.ensures ∙ c.loop-choice.invariant.1,
+      blocks_kept c.loop-choice.unfolder.blocks.blocks.items u.blocks.blocks.items c.choices_unfolded.new.unfolder.blocks.blocks.items c.close-in-Inner.new.self.blocks.items c.len-base.result c.len-base.ensures c.in_ok-opened.ensures.kept c.in_ok-within-in-Inner.ensures.kept c.close-in-Inner.ensures ∙ c.loop-choice.invariant.1,
     )
 
 pub choices_unfolded-returns-clause-choices : goal.choices_unfolded-returns-clause-choices
@@ -570,10 +570,10 @@ arms_unfolded-loop-arm-preserved t c =
     let u = c.arm_opened.new.unfolder in
     let opens : arm_in sc c.args.depth c.arm-item.result (counted c.loop-arm.unfolder) ≡ arm_left u (arms.Inner c.in-Inner.head c.in-Inner.list c.in-Inner.inside c.in-Inner.deep) =
     subst (λ f. arm_in (meant (scope_in (reverse f) c.args.at)) c.args.depth c.arm-item.result (counted c.loop-arm.unfolder) ≡ arm_left u c.in_ok-opened.opened) c.loop-arm.invariant.1 c.in_ok-opened.ensures.opens ∙ ap (arm_left u) c.in-Inner.is in
-    let this : arm_in sc c.args.depth c.arm-item.result (counted c.loop-arm.unfolder) ≡ Some (arms_of c.in_ok-made-in-Inner.made, counted c.arms_unfolded-in-Inner.new.unfolder) =
-    put_done (arms_within c.in-Inner.head) _ _ opens (arms_of c.in_ok-within-in-Inner.within) (counted c.arms_unfolded-in-Inner.new.unfolder) (arms_of c.in_ok-made-in-Inner.made) c.in_ok-within-in-Inner.ensures.arms c.in_ok-made-in-Inner.ensures in (
+    let this : arm_in sc c.args.depth c.arm-item.result (counted c.loop-arm.unfolder) ≡ Some (arms_of c.in_ok-made-in-Inner.made, counted c.arms_unfolded.new.unfolder) =
+    put_done (arms_within c.in-Inner.head) _ _ opens (arms_of c.in_ok-within-in-Inner.within) (counted c.arms_unfolded.new.unfolder) (arms_of c.in_ok-made-in-Inner.made) c.in_ok-within-in-Inner.ensures.arms c.in_ok-made-in-Inner.ensures in (
       gathered_next _ _ _ (arms_step sc c.args.depth) _ _ _ _ _ c.loop-arm.invariant.0 _ c.loop-arm-test.true c.arm-item.is _ _ _ this (λ r. arms_grown c.loop-arm.arms c.in_ok-made-in-Inner.made c.append-in-Inner.new.self r c.in_ok-append-in-Inner.ensures),
-      blocks_kept c.loop-arm.unfolder.blocks.blocks.items u.blocks.blocks.items c.arms_unfolded-in-Inner.new.unfolder.blocks.blocks.items c.close-in-Inner.new.self.blocks.items c.len-base.result c.len-base.ensures c.in_ok-opened.ensures.kept c.in_ok-within-in-Inner.ensures.kept c.close-in-Inner.ensures ∙ c.loop-arm.invariant.1,
+      blocks_kept c.loop-arm.unfolder.blocks.blocks.items u.blocks.blocks.items c.arms_unfolded.new.unfolder.blocks.blocks.items c.close-in-Inner.new.self.blocks.items c.len-base.result c.len-base.ensures c.in_ok-opened.ensures.kept c.in_ok-within-in-Inner.ensures.kept c.close-in-Inner.ensures ∙ c.loop-arm.invariant.1,
     )
 
 pub arms_unfolded-returns-clause-arms : goal.arms_unfolded-returns-clause-arms
