@@ -1,15 +1,14 @@
 //! Reading whole texts.
 
-ghost use Rattle.std.specs.Prelude.{◌≡◌, ◌+◌, IfOk, List, Some, map, option_map};
+ghost use Rattle.std.specs.Prelude.{◌≡◌, IfOk};
 ghost use Rattle.occ_text.specs.Words.{logical_lines};
 ghost use Rattle.occ_tree_grammar.specs.Many.{as_many};
+ghost use Rattle.occ_tree_grammar.specs.Fronts.{each_as, ReadsLines, lines_found};
 ghost use Rattle.occ_tree_grammar.specs.Expressions.Reading.{Gives};
-ghost use Rattle.occ_tree_grammar.specs.Processes.Trees.{Item as ItemForm};
 ghost use Rattle.occ_tree_grammar.specs.Processes.Views.{item_of, program_of};
-ghost use Rattle.occ_tree_grammar.specs.Processes.Shown.{show_program};
-ghost use Rattle.occ_tree_grammar.specs.Processes.Fits.{InBounds};
 ghost use Rattle.occ_tree_grammar.specs.Processes.Reading.{at_any, item_at, program_at};
-ghost use Rattle.occ_tree_grammar.specs.Limits.{most_levels};
+ghost use Rattle.occ_tree_grammar.specs.Limits.{most_levels, brackets};
+ghost use Rattle.occ_tree.specs.Texts.{IsTreeIn, GivesTreeIn};
 
 use occ_text::{Line, Source};
 use occ_tree_grammar::ParseFault;
@@ -20,7 +19,7 @@ use std::alloc::Global;
 
 /// The lines, where there is one.
 fn lines_left(lines: &[Line]) -> Option<&[Line]>
-    ensures { option_map (λ r. logical_lines r.now) result ≡ at_any (logical_lines lines.now) }
+    ensures { lines_found result ≡ at_any (logical_lines lines.now) }
 {
     match lines {
         [] => None,
@@ -30,14 +29,15 @@ fn lines_left(lines: &[Line]) -> Option<&[Line]>
 
 #[tactic(auto, unfolding(occ_tree_grammar::specs::Processes::Reading::item_at))]
 fn item(alloc: Global, last: u32, lines: &[Line]) -> Result<(Item, &[Line]), ParseFault>
-    ensures { Gives (λ x. (item_of x.0, logical_lines x.1.now)) result (item_at (most_levels + 1) most_levels (logical_lines lines.now)) }
+    ensures { ReadsLines item_of result (item_at brackets most_levels) lines.now }
 {
     let (declaration, rest) = declaration(alloc, last, MOST_LEVELS, 0, lines)?;
     Ok((declaration.into_item()?, rest))
 }
 
 fn items(alloc: Global, last: u32, lines: &[Line]) -> Result<(Vec<Item>, &[Line]), ParseFault>
-    ensures { Gives (λ x. (map item_of x.0.items, logical_lines x.1.now)) result (as_many at_any (item_at (most_levels + 1) most_levels) (logical_lines lines.now)) }
+    ensures { ReadsLines (each_as item_of) result
+        (as_many at_any (item_at brackets most_levels)) lines.now }
 {
     let mut all = Vec::new(alloc);
     let mut rest = lines;
@@ -54,7 +54,7 @@ fn items(alloc: Global, last: u32, lines: &[Line]) -> Result<(Vec<Item>, &[Line]
 
 #[tactic(auto, unfolding(occ_tree_grammar::specs::Processes::Reading::program_at))]
 fn program(alloc: Global, last: u32, lines: &[Line]) -> Result<Program, ParseFault>
-    ensures { Gives program_of result (program_at (most_levels + 1) most_levels (logical_lines lines.now)) }
+    ensures { Gives program_of result (program_at brackets most_levels (logical_lines lines.now)) }
 {
     let (items, rest) = items(alloc, last, lines)?;
     match rest {
@@ -66,8 +66,8 @@ fn program(alloc: Global, last: u32, lines: &[Line]) -> Result<Program, ParseFau
 /// The one tree whose written form is these lines. At most 64 levels and 64 open brackets are
 /// read. A refusal for another cause than memory comes only where no tree has these lines.
 pub fn parse(alloc: Global, source: &Source) -> Result<Program, ParseFault>
-    ensures found { IfOk result (λ p. (show_program (program_of p) ≡ logical_lines source.now.lines.items) × InBounds (program_of p)) }
-    ensures only { (p : List ItemForm) → InBounds p → show_program p ≡ logical_lines source.now.lines.items → Gives program_of result (Some p) }
+    ensures found { IfOk result (IsTreeIn source.now) }
+    ensures only { GivesTreeIn source.now result }
 {
     let lines = source.lines.as_slice();
     let last = match lines {

@@ -2,7 +2,7 @@
 -- Manual: the syntax summary. The limits of levels and brackets: (own).
 use Rattle.std.specs.Prelude.{ℕ, zero, suc, ◌+◌, List, Some, None}
 use Rattle.occ_text.specs.Words.{LogicalLine}
-use Rattle.occ_tree_grammar.specs.Limits.{most_levels}
+use Rattle.occ_tree_grammar.specs.Limits.{brackets}
 use Rattle.occ_tree_grammar.specs.Many.{◌>>=◌, Reader, as_many}
 use Rattle.occ_tree_grammar.specs.Expressions.Trees.{expression_of}
 use Rattle.occ_tree_grammar.specs.Lines.Trees.{Formals}
@@ -20,7 +20,7 @@ use Rattle.occ_tree_processes.specs.declared.processes.opened.Order.{Order}
 use Rattle.occ_tree_processes.specs.declared.processes.opened.Order.TheVariants as orders
 use Rattle.occ_tree_processes.specs.declared.processes.opened.OpenedDecl.{OpenedDecl}
 use Rattle.occ_tree_processes.specs.declared.processes.opened.OpenedDecl.TheVariants as declarations
-use Rattle.occ_tree_processes.specs.Heads.{declaration_line_with}
+use Rattle.occ_tree_processes.specs.Heads.{decl_line_with}
 
 -- ---- processes
 
@@ -58,10 +58,14 @@ opened_head (openings.Variants v) = input_variants (var_of v)
 
 -- ---- declarations
 
+-- a declaration, where n levels are left from the next
+abbrev pub whole_decl_at : ℕ → ℕ → Reader LogicalLine Decl
+whole_decl_at n level = decl_with brackets n level (node_at brackets n (level + 1) process)
+
 -- the declarations before a node, where n levels are left, its own among them
 abbrev pub begun : ℕ → ℕ → Reader LogicalLine (List Decl)
 begun zero level lines = None
-begun (suc n) level lines = as_many (at_decl level) (decl_with (most_levels + 1) n level (node_at (most_levels + 1) n (level + 1) process)) lines
+begun (suc n) level lines = as_many (at_decl level) (whole_decl_at n level) lines
 
 -- a declaration whose first lines are read: it is whole, or the body of a procedure is left
 pub data DeclLeft : Type 0 where
@@ -77,13 +81,13 @@ left_behind n level l (names es t v vs) lines = Some (whole (declares l es t v v
 left_behind n level l (value t v e) lines = Some (whole (item (value_item l t v e)), lines)
 left_behind n level l (parts v p ps) lines = Some (whole (item (protocol_item (of_parts l v p ps))), lines)
 left_behind n level l (tags v) lines = do
-  p ← tags_at (most_levels + 1) n level l v lines
+  p ← tags_at brackets n level l v lines
   Some (whole (item (protocol_item p.0)), p.1)
 left_behind n level l (procedure v fs) lines = Some (body_of l v fs, lines)
 
 abbrev pub decl_left_at : ℕ → ℕ → Reader LogicalLine DeclLeft
 decl_left_at n level lines = do
-  h ← declaration_line_with level lines
+  h ← decl_line_with level lines
   left_behind n level h.0.0 h.0.1 h.1
 
 -- the line that ends a procedure, and the whole

@@ -1,13 +1,12 @@
 //! Declarations, but for the bodies of procedures.
 
-ghost use Rattle.std.specs.Prelude.{◌≡◌, ◌≤◌, ◌+◌};
-ghost use Rattle.occ_text.specs.Words.{logical_lines};
-ghost use Rattle.occ_tree_grammar.specs.Expressions.Reading.{Gives};
+ghost use Rattle.std.specs.Prelude.{◌≤◌, ◌+◌};
+ghost use Rattle.occ_tree_grammar.specs.Fronts.{ReadsLines};
 ghost use Rattle.occ_tree_grammar.specs.Lines.Views.{formals_of};
 ghost use Rattle.occ_tree_grammar.specs.Lines.HeadViews.{decl_head_of};
 ghost use Rattle.occ_tree_grammar.specs.Processes.Views.{decl_of, process_of};
 ghost use Rattle.occ_tree_grammar.specs.Limits.{most_levels};
-ghost use Rattle.occ_tree_processes.specs.Heads.{declaration_line_with};
+ghost use Rattle.occ_tree_processes.specs.Heads.{decl_line_with, ReadsHead};
 ghost use Rattle.occ_tree_processes.specs.Opened.{decl_left_at, decl_left_of, left_behind, procedure_with};
 
 use crate::processes::line::{end_line, line_of};
@@ -28,7 +27,7 @@ fn declaration_line(
     level: u32,
     lines: &[Line],
 ) -> Result<(u32, DeclHead, &[Line]), ParseFault>
-    ensures { Gives (λ x. ((x.0, decl_head_of x.1), logical_lines x.2.now)) result (declaration_line_with level (logical_lines lines.now)) }
+    ensures { ReadsHead decl_head_of result (decl_line_with level) lines.now }
 {
     let (first, rest) = line_of(last, level, lines)?;
     let line = first.number;
@@ -47,7 +46,8 @@ fn opened_behind(
     lines: &[Line],
 ) -> Result<(OpenedDecl, &[Line]), ParseFault>
     requires { level + left ≤ most_levels }
-    ensures { Gives (λ x. (decl_left_of x.0, logical_lines x.1.now)) result (left_behind left level line (decl_head_of head) (logical_lines lines.now)) }
+    ensures { ReadsLines
+        decl_left_of result (left_behind left level line (decl_head_of head)) lines.now }
 {
     match head {
         DeclHead::Names(sizes, sort, names) => Ok((
@@ -85,7 +85,7 @@ pub fn declaration_opened(
     lines: &[Line],
 ) -> Result<(OpenedDecl, &[Line]), ParseFault>
     requires { level + left ≤ most_levels }
-    ensures { Gives (λ x. (decl_left_of x.0, logical_lines x.1.now)) result (decl_left_at left level (logical_lines lines.now)) }
+    ensures { ReadsLines decl_left_of result (decl_left_at left level) lines.now }
 {
     let (line, head, rest) = declaration_line(alloc, last, level, lines)?;
     opened_behind(alloc, last, left, level, line, head, rest)
@@ -101,7 +101,8 @@ pub fn procedure_ended(
     body: Process,
     lines: &[Line],
 ) -> Result<(Decl, &[Line]), ParseFault>
-    ensures { Gives (λ x. (decl_of x.0, logical_lines x.1.now)) result (procedure_with level line name.items (formals_of formals) (process_of body) (logical_lines lines.now)) }
+    ensures { ReadsLines decl_of result (procedure_with
+        level line name.items (formals_of formals) (process_of body)) lines.now }
 {
     let (end, rest) = end_line(last, level, lines)?;
     Ok((Decl::Item(Item::Proc(line, name, formals, body, end)), rest))

@@ -1,13 +1,11 @@
 //! The lines at the head of processes and of their parts, and the parts that have one process under
 //! them.
 
-ghost use Rattle.std.specs.Prelude.{◌≡◌, map};
-ghost use Rattle.occ_text.specs.Words.{logical_lines};
-ghost use Rattle.occ_tree_grammar.specs.Expressions.Reading.{Gives};
+ghost use Rattle.std.specs.Prelude.{◌≡◌};
 ghost use Rattle.occ_tree_grammar.specs.Lines.HeadViews.{choice_head_of, option_head_of, arm_head_of, variant_head_of};
-ghost use Rattle.occ_tree_grammar.specs.Processes.Trees.{decls, node, single_body, process as the_process, choice as the_choice, option as the_option, arm as the_arm, variant as the_variant};
-ghost use Rattle.occ_tree_grammar.specs.Processes.Views.{decl_of, process_of, selection_of, variant_of};
-ghost use Rattle.occ_tree_processes.specs.Heads.{line_with};
+ghost use Rattle.occ_tree_grammar.specs.Processes.Trees.{node, single_body, process as the_process, choice as the_choice, option as the_option, arm as the_arm, variant as the_variant};
+ghost use Rattle.occ_tree_grammar.specs.Processes.Views.{listed_decls, process_of, selection_of, variant_of};
+ghost use Rattle.occ_tree_processes.specs.Heads.{line_with, ReadsHead};
 ghost use Rattle.occ_tree_processes.specs.Opened.{opened_head};
 
 use crate::processes::line::line_of;
@@ -26,7 +24,7 @@ pub fn process_line(
     level: u32,
     lines: &[Line],
 ) -> Result<(u32, Opened, &[Line]), ParseFault>
-    ensures { Gives (λ x. ((x.0, opened_head x.1), logical_lines x.2.now)) result (line_with the_process level (logical_lines lines.now)) }
+    ensures { ReadsHead opened_head result (line_with the_process level) lines.now }
 {
     let (first, rest) = line_of(last, level, lines)?;
     let line = first.number;
@@ -41,7 +39,7 @@ pub fn choice_line(
     level: u32,
     lines: &[Line],
 ) -> Result<(u32, ChoiceHead, &[Line]), ParseFault>
-    ensures { Gives (λ x. ((x.0, choice_head_of x.1), logical_lines x.2.now)) result (line_with the_choice level (logical_lines lines.now)) }
+    ensures { ReadsHead choice_head_of result (line_with the_choice level) lines.now }
 {
     let (first, rest) = line_of(last, level, lines)?;
     let line = first.number;
@@ -56,7 +54,7 @@ pub fn selection_line(
     level: u32,
     lines: &[Line],
 ) -> Result<(u32, OptionHead, &[Line]), ParseFault>
-    ensures { Gives (λ x. ((x.0, option_head_of x.1), logical_lines x.2.now)) result (line_with the_option level (logical_lines lines.now)) }
+    ensures { ReadsHead option_head_of result (line_with the_option level) lines.now }
 {
     let (first, rest) = line_of(last, level, lines)?;
     let line = first.number;
@@ -71,7 +69,7 @@ pub fn arm_line(
     level: u32,
     lines: &[Line],
 ) -> Result<(u32, ArmHead, &[Line]), ParseFault>
-    ensures { Gives (λ x. ((x.0, arm_head_of x.1), logical_lines x.2.now)) result (line_with the_arm level (logical_lines lines.now)) }
+    ensures { ReadsHead arm_head_of result (line_with the_arm level) lines.now }
 {
     let (first, rest) = line_of(last, level, lines)?;
     let line = first.number;
@@ -86,7 +84,7 @@ pub fn variant_line(
     level: u32,
     lines: &[Line],
 ) -> Result<(u32, VariantHead, &[Line]), ParseFault>
-    ensures { Gives (λ x. ((x.0, variant_head_of x.1), logical_lines x.2.now)) result (line_with the_variant level (logical_lines lines.now)) }
+    ensures { ReadsHead variant_head_of result (line_with the_variant level) lines.now }
 {
     let (first, rest) = line_of(last, level, lines)?;
     let line = first.number;
@@ -96,7 +94,8 @@ pub fn variant_line(
 
 /// The option with this line and the process under it.
 pub fn selected(declarations: Vec<Decl>, line: u32, head: OptionHead, body: Process) -> Selection
-    ensures { selection_of result ≡ node {k = the_option} (decls (map decl_of declarations.items)) line (option_head_of head) (single_body (process_of body)) }
+    ensures { selection_of result ≡ node {k = the_option}
+        (listed_decls declarations) line (option_head_of head) (single_body (process_of body)) }
 {
     match head {
         OptionHead::Values(values) => Selection::Values(declarations, line, values, body),
@@ -106,7 +105,8 @@ pub fn selected(declarations: Vec<Decl>, line: u32, head: OptionHead, body: Proc
 
 /// The variant with this line and the process under it.
 pub fn tagged(declarations: Vec<Decl>, line: u32, head: VariantHead, body: Process) -> Variant
-    ensures { variant_of result ≡ node {k = the_variant} (decls (map decl_of declarations.items)) line (variant_head_of head) (single_body (process_of body)) }
+    ensures { variant_of result ≡ node {k = the_variant}
+        (listed_decls declarations) line (variant_head_of head) (single_body (process_of body)) }
 {
     Variant::Tagged(declarations, line, head.tag, head.targets, body)
 }

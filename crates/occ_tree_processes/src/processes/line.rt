@@ -1,7 +1,8 @@
 //! Single lines that must or may stand next.
 
-ghost use Rattle.std.specs.Prelude.{◌≡◌, option_map};
+ghost use Rattle.std.specs.Prelude.{◌≡◌};
 ghost use Rattle.occ_text.specs.Words.{words, logical_lines};
+ghost use Rattle.occ_tree_grammar.specs.Fronts.{ReadsLines, lines_found};
 ghost use Rattle.occ_tree_grammar.specs.Expressions.Reading.{Gives};
 ghost use Rattle.occ_tree_grammar.specs.Processes.Reading.{at_level, at_decl, line_at, is_case, is_colon, case_at, end_at};
 
@@ -11,7 +12,7 @@ use occ_tree_lines::read_decl::begins_declaration;
 
 /// The lines, where the first is at this level.
 pub fn lines_at(level: u32, lines: &[Line]) -> Option<&[Line]>
-    ensures { option_map (λ r. logical_lines r.now) result ≡ at_level level (logical_lines lines.now) }
+    ensures { lines_found result ≡ at_level level (logical_lines lines.now) }
 {
     match lines {
         [first, ..] if first.level == level => Some(lines),
@@ -21,7 +22,7 @@ pub fn lines_at(level: u32, lines: &[Line]) -> Option<&[Line]>
 
 /// The lines, where the first is at this level and begins a declaration.
 pub fn declaration_at(level: u32, lines: &[Line]) -> Option<&[Line]>
-    ensures { option_map (λ r. logical_lines r.now) result ≡ at_decl level (logical_lines lines.now) }
+    ensures { lines_found result ≡ at_decl level (logical_lines lines.now) }
 {
     let [first, ..] = lines else {
         return None;
@@ -37,7 +38,8 @@ pub fn declaration_at(level: u32, lines: &[Line]) -> Option<&[Line]>
 /// text.
 #[tactic(auto, unfolding(occ_tree_grammar::specs::Processes::Reading::line_at))]
 pub fn line_of(last: u32, level: u32, lines: &[Line]) -> Result<(&Line, &[Line]), ParseFault>
-    ensures { Gives (λ x. ((x.0.now.number, words x.0.now.words.items), logical_lines x.1.now)) result (line_at level (logical_lines lines.now)) }
+    ensures { ReadsLines
+        (λ l. (l.now.number, words l.now.words.items)) result (line_at level) lines.now }
 {
     match lines {
         [] => Err(ParseFault::Missing { line: last }),
@@ -67,7 +69,7 @@ fn only_colon(line: u32, tokens: &[Token]) -> Result<(), ParseFault>
 /// The line of `CASE` that must stand at this level: its number.
 #[tactic(auto, unfolding(occ_tree_grammar::specs::Processes::Reading::case_at))]
 pub fn case_line(last: u32, level: u32, lines: &[Line]) -> Result<(u32, &[Line]), ParseFault>
-    ensures { Gives (λ x. (x.0, logical_lines x.1.now)) result (case_at level (logical_lines lines.now)) }
+    ensures { ReadsLines (λ n. n) result (case_at level) lines.now }
 {
     let (first, rest) = line_of(last, level, lines)?;
     only_case(first.number, &first.words)?;
@@ -77,7 +79,7 @@ pub fn case_line(last: u32, level: u32, lines: &[Line]) -> Result<(u32, &[Line])
 /// The colon that must stand at this level and ends a declaration: the number of its line.
 #[tactic(auto, unfolding(occ_tree_grammar::specs::Processes::Reading::end_at))]
 pub fn end_line(last: u32, level: u32, lines: &[Line]) -> Result<(u32, &[Line]), ParseFault>
-    ensures { Gives (λ x. (x.0, logical_lines x.1.now)) result (end_at level (logical_lines lines.now)) }
+    ensures { ReadsLines (λ n. n) result (end_at level) lines.now }
 {
     let (first, rest) = line_of(last, level, lines)?;
     only_colon(first.number, &first.words)?;

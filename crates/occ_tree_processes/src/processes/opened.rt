@@ -1,7 +1,8 @@
 //! What is left of a process and of a declaration once their first lines are read, and what that is
 //! put into.
 
-ghost use Rattle.std.specs.Prelude.{◌≡◌, IfOk, map};
+ghost use Rattle.std.specs.Prelude.{◌≡◌, IfOk};
+ghost use Rattle.occ_tree_grammar.specs.Fronts.{each_as};
 ghost use Rattle.occ_tree_grammar.specs.Lines.HeadViews.{process_head_of};
 ghost use Rattle.occ_tree_grammar.specs.Processes.Views.{decl_of, process_of};
 ghost use Rattle.occ_tree_processes.specs.Opened.{around, in_order, opened_head};
@@ -82,7 +83,8 @@ impl Around {
         line: u32,
         body: Process,
     ) -> Result<Process, AllocError>
-        ensures { IfOk result (λ p. process_of p ≡ around self (map decl_of declarations.items) line (process_of body)) }
+        ensures { IfOk result (λ p. process_of p
+            ≡ around self (each_as decl_of declarations) line (process_of body)) }
     {
         let body = Box::new(alloc, body)?;
         match self {
@@ -113,7 +115,8 @@ impl Order {
         line: u32,
         processes: Vec<Process>,
     ) -> Process
-        ensures { process_of result ≡ in_order self (map decl_of declarations.items) line (map process_of processes.items) }
+        ensures { process_of result ≡ in_order
+            self (each_as decl_of declarations) line (each_as process_of processes) }
     {
         match self {
             Order::Seq => Process::Declared(declarations, line, Stmt::Seq(processes)),

@@ -1,12 +1,11 @@
 //! Protocols of variants.
 
-ghost use Rattle.std.specs.Prelude.{◌≡◌, ◌≤◌, ◌+◌, map};
-ghost use Rattle.occ_text.specs.Words.{logical_lines};
+ghost use Rattle.std.specs.Prelude.{◌≤◌, ◌+◌};
 ghost use Rattle.occ_tree_grammar.specs.Many.{as_many};
-ghost use Rattle.occ_tree_grammar.specs.Expressions.Reading.{Gives};
+ghost use Rattle.occ_tree_grammar.specs.Fronts.{each_as, ReadsLines};
 ghost use Rattle.occ_tree_grammar.specs.Processes.Views.{tag_of, protocol_of};
 ghost use Rattle.occ_tree_grammar.specs.Processes.Reading.{at_level, tag_with, tag_at, tags_with, tags_at};
-ghost use Rattle.occ_tree_grammar.specs.Limits.{most_levels};
+ghost use Rattle.occ_tree_grammar.specs.Limits.{most_levels, brackets};
 
 use crate::processes::line::{case_line, end_line, line_of, lines_at, too_deep};
 use occ_text::Line;
@@ -21,7 +20,7 @@ fn tag_inside(
     level: u32,
     lines: &[Line],
 ) -> Result<(Tag, &[Line]), ParseFault>
-    ensures { Gives (λ x. (tag_of x.0, logical_lines x.1.now)) result (tag_with (most_levels + 1) level (logical_lines lines.now)) }
+    ensures { ReadsLines tag_of result (tag_with brackets level) lines.now }
 {
     let (first, rest) = line_of(last, level, lines)?;
     let line = first.number;
@@ -44,7 +43,7 @@ fn tag(
     level: u32,
     lines: &[Line],
 ) -> Result<(Tag, &[Line]), ParseFault>
-    ensures { Gives (λ x. (tag_of x.0, logical_lines x.1.now)) result (tag_at (most_levels + 1) left level (logical_lines lines.now)) }
+    ensures { ReadsLines tag_of result (tag_at brackets left level) lines.now }
 {
     if left == 0 {
         return Err(too_deep(last, level, lines));
@@ -59,7 +58,8 @@ fn tag_list(
     level: u32,
     lines: &[Line],
 ) -> Result<(Vec<Tag>, &[Line]), ParseFault>
-    ensures { Gives (λ x. (map tag_of x.0.items, logical_lines x.1.now)) result (as_many (at_level level) (tag_at (most_levels + 1) left level) (logical_lines lines.now)) }
+    ensures { ReadsLines (each_as tag_of) result
+        (as_many (at_level level) (tag_at brackets left level)) lines.now }
 {
     let mut all = Vec::new(alloc);
     let mut rest = lines;
@@ -84,7 +84,8 @@ fn tags_inside(
     lines: &[Line],
 ) -> Result<(Protocol, &[Line]), ParseFault>
     requires { level + left ≤ most_levels }
-    ensures { Gives (λ x. (protocol_of x.0, logical_lines x.1.now)) result (tags_with (most_levels + 1) left level line name.items (logical_lines lines.now)) }
+    ensures { ReadsLines
+        protocol_of result (tags_with brackets left level line name.items) lines.now }
 {
     let below = level + 1;
     let (case, rest) = case_line(last, below, lines)?;
@@ -104,7 +105,8 @@ pub fn tags(
     lines: &[Line],
 ) -> Result<(Protocol, &[Line]), ParseFault>
     requires { level + left ≤ most_levels }
-    ensures { Gives (λ x. (protocol_of x.0, logical_lines x.1.now)) result (tags_at (most_levels + 1) left level line name.items (logical_lines lines.now)) }
+    ensures { ReadsLines
+        protocol_of result (tags_at brackets left level line name.items) lines.now }
 {
     if left == 0 {
         return Err(too_deep(last, level + 1, lines));

@@ -4,15 +4,12 @@
 //! line of the text. The functions call one another as the levels go down; lines in a row are read
 //! by loops. The first line of each, and what it is in the end, stand in other files.
 
-ghost use Rattle.std.specs.Prelude.{◌≡◌, ◌≤◌, ◌<◌, ◌+◌, OnOk, map};
-ghost use Rattle.occ_text.specs.Words.{logical_lines};
-ghost use Rattle.occ_tree_grammar.specs.Many.{as_many};
-ghost use Rattle.occ_tree_grammar.specs.Expressions.Reading.{Gives};
-ghost use Rattle.occ_tree_grammar.specs.Processes.Trees.{process as the_process, choice as the_choice, option as the_option, arm as the_arm, variant as the_variant};
+ghost use Rattle.std.specs.Prelude.{◌≤◌, ◌<◌, ◌+◌, OnOk};
+ghost use Rattle.occ_tree_grammar.specs.Fronts.{each_as, ReadsLines};
 ghost use Rattle.occ_tree_grammar.specs.Processes.Views.{process_of, choice_of, selection_of, arm_of, variant_of, decl_of};
-ghost use Rattle.occ_tree_grammar.specs.Processes.Reading.{at_level, node_at, decl_with};
 ghost use Rattle.occ_tree_grammar.specs.Limits.{most_levels};
-ghost use Rattle.occ_tree_processes.specs.Opened.{begun};
+ghost use Rattle.occ_tree_processes.specs.Opened.{begun, whole_decl_at};
+ghost use Rattle.occ_tree_processes.specs.Rows.{ReadsOne, ReadsRow};
 
 use crate::processes::declaration::{declaration_opened, procedure_ended};
 use crate::processes::head::{
@@ -36,7 +33,7 @@ pub fn process(
     lines: &[Line],
 ) -> Result<(Process, &[Line]), ParseFault>
     requires { level + left ≤ most_levels + 1 }
-    ensures { Gives (λ x. (process_of x.0, logical_lines x.1.now)) result (node_at (most_levels + 1) left level the_process (logical_lines lines.now)) }
+    ensures { ReadsOne process_of result left level lines.now }
 {
     let (declarations, rest) = declarations(alloc, last, left, level, lines)?;
     let (line, opened, rest) = process_line(alloc, last, level, rest)?;
@@ -109,7 +106,7 @@ fn processes(
     lines: &[Line],
 ) -> Result<(Vec<Process>, &[Line]), ParseFault>
     requires { level + left ≤ most_levels + 1 }
-    ensures { Gives (λ x. (map process_of x.0.items, logical_lines x.1.now)) result (as_many (at_level level) (node_at (most_levels + 1) left level the_process) (logical_lines lines.now)) }
+    ensures { ReadsRow process_of result left level lines.now }
 {
     let mut all = Vec::new(alloc);
     let mut rest = lines;
@@ -134,7 +131,7 @@ fn choice(
     lines: &[Line],
 ) -> Result<(Choice, &[Line]), ParseFault>
     requires { level + left ≤ most_levels + 1 }
-    ensures { Gives (λ x. (choice_of x.0, logical_lines x.1.now)) result (node_at (most_levels + 1) left level the_choice (logical_lines lines.now)) }
+    ensures { ReadsOne choice_of result left level lines.now }
 {
     let (declarations, rest) = declarations(alloc, last, left, level, lines)?;
     let (line, head, rest) = choice_line(alloc, last, level, rest)?;
@@ -169,7 +166,7 @@ fn choices(
     lines: &[Line],
 ) -> Result<(Vec<Choice>, &[Line]), ParseFault>
     requires { level + left ≤ most_levels + 1 }
-    ensures { Gives (λ x. (map choice_of x.0.items, logical_lines x.1.now)) result (as_many (at_level level) (node_at (most_levels + 1) left level the_choice) (logical_lines lines.now)) }
+    ensures { ReadsRow choice_of result left level lines.now }
 {
     let mut all = Vec::new(alloc);
     let mut rest = lines;
@@ -194,7 +191,7 @@ fn selections(
     lines: &[Line],
 ) -> Result<(Vec<Selection>, &[Line]), ParseFault>
     requires { level + left ≤ most_levels + 1 }
-    ensures { Gives (λ x. (map selection_of x.0.items, logical_lines x.1.now)) result (as_many (at_level level) (node_at (most_levels + 1) left level the_option) (logical_lines lines.now)) }
+    ensures { ReadsRow selection_of result left level lines.now }
 {
     let mut all = Vec::new(alloc);
     let mut rest = lines;
@@ -221,7 +218,7 @@ fn arm(
     lines: &[Line],
 ) -> Result<(Arm, &[Line]), ParseFault>
     requires { level + left ≤ most_levels + 1 }
-    ensures { Gives (λ x. (arm_of x.0, logical_lines x.1.now)) result (node_at (most_levels + 1) left level the_arm (logical_lines lines.now)) }
+    ensures { ReadsOne arm_of result left level lines.now }
 {
     let (declarations, rest) = declarations(alloc, last, left, level, lines)?;
     let (line, head, rest) = arm_line(alloc, last, level, rest)?;
@@ -263,7 +260,7 @@ fn arms(
     lines: &[Line],
 ) -> Result<(Vec<Arm>, &[Line]), ParseFault>
     requires { level + left ≤ most_levels + 1 }
-    ensures { Gives (λ x. (map arm_of x.0.items, logical_lines x.1.now)) result (as_many (at_level level) (node_at (most_levels + 1) left level the_arm) (logical_lines lines.now)) }
+    ensures { ReadsRow arm_of result left level lines.now }
 {
     let mut all = Vec::new(alloc);
     let mut rest = lines;
@@ -288,7 +285,7 @@ fn variants(
     lines: &[Line],
 ) -> Result<(Vec<Variant>, &[Line]), ParseFault>
     requires { level + left ≤ most_levels + 1 }
-    ensures { Gives (λ x. (map variant_of x.0.items, logical_lines x.1.now)) result (as_many (at_level level) (node_at (most_levels + 1) left level the_variant) (logical_lines lines.now)) }
+    ensures { ReadsRow variant_of result left level lines.now }
 {
     let mut all = Vec::new(alloc);
     let mut rest = lines;
@@ -315,7 +312,7 @@ fn declarations(
     lines: &[Line],
 ) -> Result<(Vec<Decl>, &[Line]), ParseFault>
     requires { level + left ≤ most_levels + 1 }
-    ensures read { Gives (λ x. (map decl_of x.0.items, logical_lines x.1.now)) result (begun left level (logical_lines lines.now)) }
+    ensures read { ReadsLines (each_as decl_of) result (begun left level) lines.now }
     ensures left { OnOk result (0 < left) }
 {
     if left == 0 {
@@ -344,7 +341,7 @@ pub fn declaration(
     lines: &[Line],
 ) -> Result<(Decl, &[Line]), ParseFault>
     requires { level + left ≤ most_levels }
-    ensures { Gives (λ x. (decl_of x.0, logical_lines x.1.now)) result (decl_with (most_levels + 1) left level (node_at (most_levels + 1) left (level + 1) the_process) (logical_lines lines.now)) }
+    ensures { ReadsLines decl_of result (whole_decl_at left level) lines.now }
 {
     let (opened, rest) = declaration_opened(alloc, last, left, level, lines)?;
     match opened {
