@@ -2,6 +2,7 @@
 -- Manual: nothing; this is (own).
 use Rattle.std.specs.Prelude.{List, Option, Some, Result, Ok, Err, ℕ, ◌+◌, ◌≡◌}
 use Rattle.occ_tree_grammar.specs.Processes.Views.{process_of}
+use Rattle.occ_tree_grammar.specs.Many.{◌>>=◌}
 use Rattle.occ_tree_grammar.specs.declared.tree.process.Process.{Process}
 use Rattle.occ_tree_grammar.specs.Processes.Trees.{Kind, Node, Nodes}
 use Rattle.occ_tree_grammar.specs.declared.tree.process.Decl.{Decl}
