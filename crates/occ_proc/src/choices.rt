@@ -5,8 +5,8 @@ ghost use Rattle.occ_machine.specs.declared.instr.Instr.TheVariants as instructi
 ghost use Rattle.occ_proc.specs.Doing.{OnStack};
 
 use crate::stack::Stack;
-use crate::values::number;
 use crate::step::Step;
+use crate::values::number;
 use std::alloc::AllocError;
 
 pub(crate) fn and_then(stack: &mut Stack, skip: usize) -> Result<Step, AllocError>
