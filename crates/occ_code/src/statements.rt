@@ -9,11 +9,20 @@ ghost use Rattle.occ_code.specs.Emitted.{arms_code, choices_code, each_code, els
 ghost use Rattle.occ_code.specs.Emits.{AddsCode, Emits, EmitsAround, EmitsFirst};
 ghost use Rattle.occ_machine.specs.declared.instr.Instr.{Instr};
 
-use crate::arms::{emit_alt, emit_each_value, emit_input_opening, emit_next, emit_passing, emit_skip_opening, emit_taken};
-use crate::expressions::{emit_assignment, emit_counting, emit_declaration, emit_declarations, emit_expression, emit_items, emit_naming, emit_place, emit_place_before, emit_storing};
+use crate::arms::{
+    emit_alt, emit_each_value, emit_input_opening, emit_next, emit_passing, emit_skip_opening,
+    emit_taken,
+};
+use crate::expressions::{
+    emit_assignment, emit_counting, emit_declaration, emit_declarations, emit_expression,
+    emit_items, emit_naming, emit_place, emit_place_before, emit_storing,
+};
 use crate::pieces::{emitted, put, put_at, since};
 use occ_machine::Instr;
-use occ_term::{Arm, Branch, Choice, Declaration, Item, Place, Reception, Replicator, Selection, Target, Term, TermExpr, Variant};
+use occ_term::{
+    Arm, Branch, Choice, Declaration, Item, Place, Reception, Replicator, Selection, Target, Term,
+    TermExpr, Variant,
+};
 use sqlite_items::Items;
 use std::alloc::{AllocError, Global};
 

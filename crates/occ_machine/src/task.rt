@@ -22,7 +22,7 @@ pub struct Arm {
 pub enum Wait {
     /// May take its next turn.
     Ready,
-    /// Took an alternative or an input, and may take its next turn. `arm` is the place of the
+    /// Took an alternative or an input, and may take its next turn. `arm` is the number of the
     /// alternative taken, as its `Arm` has it, with its `indices`; 0 and none for an input. SKIP has no
     /// message.
     Took {

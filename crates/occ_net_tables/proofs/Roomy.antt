@@ -90,20 +90,21 @@ same_with n number t there =
 pub standing_with : (p : Program) (kb : List ℕ) (n : Tables) (place number : ℕ) (after : Task) (t : IsTurnAt p n place number after)
     → Standing p kb n → Standing p kb (tables_with n number t.before) × IsTurnAt p (tables_with n number t.before) place number after
 standing_with p kb n place number after t s =
-    let same : AreSame n (tables_with n number t.before) = same_with n number t.before t.there in
-    (record {
-      choices = s.choices;
-      few = s.few;
-      net = s.net;
-      replays = s.replays;
-      open_end = s.open_end;
-      holds = holds_as n (tables_with n number t.before) same p kb s.net s.holds;
-    },
-    record {
-      body = t.body;
-      before = t.before;
-      at = t.at;
-      has_body = t.has_body;
-      there = ap (λ l. slice_get l number) same.tasks ∙ t.there;
-      stops = t.stops;
-    })
+    let same : AreSame n (tables_with n number t.before) = same_with n number t.before t.there in (
+      record {
+        choices = s.choices;
+        few = s.few;
+        net = s.net;
+        replays = s.replays;
+        open_end = s.open_end;
+        holds = holds_as n (tables_with n number t.before) same p kb s.net s.holds;
+      },
+      record {
+        body = t.body;
+        before = t.before;
+        at = t.at;
+        has_body = t.has_body;
+        there = ap (λ l. slice_get l number) same.tasks ∙ t.there;
+        stops = t.stops;
+      },
+    )

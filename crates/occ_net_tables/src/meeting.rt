@@ -130,7 +130,9 @@ fn took(arm: Arm, message: Option<Message>) -> Wait
     ensures { result ≡ Wait.Took arm.number arm.indices message }
 {
     let Arm {
-        number, indices, ..
+        number,
+        indices,
+        ..
     } = arm;
     Wait::Took {
         arm: number,

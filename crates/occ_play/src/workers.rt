@@ -19,8 +19,8 @@ use std::thread::Threads;
 ///
 /// # Errors
 ///
-/// Those of `play`, and `Run`: `BadWorkers` for a number that is not from 1 to 64, `Spawn` for a refused thread, `Memory` for a
-/// refused growth, and `Foreign` where the workers gathered no run of this program. Then `out` is as it was.
+/// Those of `play`, and `Run`: `BadWorkers` for a number that is not from 1 to 64, `Spawn` for a refused thread, and `Memory` for a
+/// refused growth. Then `out` is as it was.
 pub fn play_workers<R: Threads + Wait + Sync, G: Gate + Sync, W: Write>(
     rt: &R,
     alloc: Global,

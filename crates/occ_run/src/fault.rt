@@ -10,7 +10,7 @@ use std::fmt;
 /// Why the workers gave no outcome.
 #[derive(Clone, Copy, Debug, PartialEq, Eq)]
 pub enum RunFault {
-    /// What was gathered is no run of this code on this keyboard within this limit.
+    /// What was published of a run that is watched is not its trace.
     Foreign,
     /// The number of workers is not from 1 to 64.
     BadWorkers,
