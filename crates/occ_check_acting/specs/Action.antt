@@ -47,7 +47,7 @@ abbrev pub Chooses : {X : Type 0} → Result X CheckFault → Chosen → Option 
 Chooses (Ok x) after given = given ≡ Some (chosen_of after)
 Chooses (Err e) after given = Refuses e given
 
--- ---- lines in a context: each as the definition of its name has it, of what the code read
+-- ---- lines in a context: each as the definition has it that its word is named after, of what the code read
 
 abbrev pub assigned_in : Context → OneOrMore Var → OneOrMore Expr → Option T.Term
 assigned_in c vs es = read_in c A.assigned (all_of lines.var_of vs) (all_of expression_of es)

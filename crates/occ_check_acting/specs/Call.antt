@@ -78,7 +78,7 @@ part_under r subs left = record r { subscripts = joined r.subscripts subs; left 
 abbrev pub OpensGiven : Result Opened CheckFault → Given → (C.Evaluated → Option D.Opened) → Type 0
 OpensGiven result g part = (n : Numbers) → Opens result n (part (given_of g n))
 
--- .. under a variable, or under channels
+-- .. where it is a variable, or channels
 abbrev pub variable_bound : Name → Open → Primitive → Primitive → S.Stretch → C.Evaluated → Option D.Opened
 variable_bound x sizes type own r a = S.keep (is_same_type own type && takes_sizes sizes a.left) (D.one_name x (S.some_cells S.assignable own (C.part_of r a)) a.heads a.numbers)
 
@@ -95,7 +95,7 @@ listed_formals ns line s x fs = do
   others ← C.other_formals ns line s fs
   Some ((x, w) ∷ others)
 
--- ---- formals and actuals in a context: each as the definition of its name has it, of what the code read
+-- ---- formals and actuals in a context: each as the definition has it that its word is named after, of what the code read
 
 abbrev pub wanted_in : Context → Spec → Option C.Wanted
 wanted_in c s = read_in c C.wanted (lines.spec_of s)

@@ -34,6 +34,7 @@ use Rattle.occ_check_opened.specs.Opened.{put, body_unfolded}
 use Rattle.occ_check_arms.specs.declared.variants.OpenedVariant.{OpenedVariant}
 use Rattle.occ_check_arms.specs.declared.variants.VariantHead.{VariantHead}
 
+-- the protocol of the tags of a channel whose variants are input, and its place, counted
 abbrev pub variants_taken : Names → ℕ → ℕ → Var → Numbers → Option ((Protocol × T.Place) × Numbers)
 variants_taken ns line depth v n = do
   c ← channel_of ns line v
@@ -41,6 +42,7 @@ variants_taken ns line depth v n = do
   m ← room depth (Sizes.with_node (size_of_place c.1)) n
   Some ((p, c.1), m)
 
+-- the targets for the parts of the message that follow a tag, counted
 abbrev pub storing : Names → ℕ → ℕ → Protocol → (tag : ℕ) → List L.Target → Numbers → Option (List T.Target × Numbers)
 storing ns line depth p k ts n = do
   parts ← parts_after p (Some k)

@@ -1,4 +1,4 @@
--- What the parts of a line are in a context: each as the definition of its name has it, of what the code read.
+-- What the parts of a line are in a context: each as the definition has it that its word is named after, of what the code read.
 -- Manual: nothing; this is (own).
 use Rattle.std.specs.Prelude.{List, Option, map, option_map, ℕ, ℤ, Vec}
 use Rattle.occ_tree_grammar.specs.Expressions.Trees.{Operand, expression_of, operands}

@@ -65,9 +65,9 @@ pub record AddsBodies (quantum : ℕ) (before : List Body) (ps : List Numbered) 
 abbrev pub AddsShared : {A B : Type 0} → ℕ → Vec (Arc Body B) A → List Numbered → Vec (Arc Body B) A → Type 0
 AddsShared quantum old ps new = AddsBodies quantum (map arc_value old.items) ps (map arc_value new.items)
 
--- those of one part are added before those of others
-abbrev pub AddsFirst : {X A B : Type 0} → (X → List Numbered) → (X → X) → ℕ → Vec (Arc Body B) A → Vec (Arc Body B) A → Type 0
-AddsFirst {X} processes one quantum old new =
+-- behind the bodies of the processes after them those of one part are added, and with these they are those of all
+abbrev pub AddsBefore : {X A B : Type 0} → (X → List Numbered) → (X → X) → ℕ → Vec (Arc Body B) A → Vec (Arc Body B) A → Type 0
+AddsBefore {X} processes one quantum old new =
     (before : List Body) (others : X) → AddsBodies quantum before (processes others) (map arc_value old.items)
     → AddsBodies quantum before (processes (one others)) (map arc_value new.items)
 

@@ -20,7 +20,7 @@ pub record Behind (before piece after : List (Instr ℕ)) : Type 0 where
   pub added : after ≡ before ++ first ∷ more
   pub is : emitted more ≡ piece
 
--- the same of the list that is emitted to
+-- the same, of what was emitted to a list of instructions
 abbrev pub AddsCode : {A : Type 0} → Vec (Instr ℕ) A → List (Instr ℕ) → Vec (Instr ℕ) A → Type 0
 AddsCode old piece new = Emits old.items piece new.items
 
@@ -29,9 +29,9 @@ abbrev pub EmitsAround : {A : Type 0} → ℕ → Vec (Instr ℕ) A → (List (I
 EmitsAround place old piece new =
     (before body : List (Instr ℕ)) → length before ≡ place → Behind before body old.items → Emits before (piece body) new.items
 
--- Pieces go on behind what there was of the code at the end, so that each piece's code says how far off that is. One is emitted
--- before others.
-abbrev pub EmitsFirst : {X A : Type 0} → (X → ℕ → List (Instr ℕ)) → (X → X) → ℕ → Vec (Instr ℕ) A → Vec (Instr ℕ) A → Type 0
-EmitsFirst {X} code one end old new =
+-- Where the list had so many instructions, before any of these pieces was emitted, they all go on, so the code of each says how
+-- far off that is. One is emitted before those that are there.
+abbrev pub EmitsBefore : {X A : Type 0} → (X → ℕ → List (Instr ℕ)) → (X → X) → ℕ → Vec (Instr ℕ) A → Vec (Instr ℕ) A → Type 0
+EmitsBefore {X} code one end old new =
     (before : List (Instr ℕ)) (others : X) → end ≤ length before → Emits before (code others (length before - end)) old.items
     → Emits before (code (one others) (length before - end)) new.items

@@ -33,7 +33,7 @@ abbrev pub each_choice_code : ℕ → List (Instr ℕ) → List (Instr ℕ) → 
 each_choice_code index counts within others =
     counts ++ NextChoice index (length within + 1) ∷ (within ++ BackToChoice (length within + 1) ∷ others)
 
--- the arms for each value of an index, without what passes on to others
+-- the arms for each value of an index, with the instruction behind them that goes back for the next, without what passes on to others
 abbrev pub each_value_code : ℕ → List (Instr ℕ) → List (Instr ℕ) → List (Instr ℕ)
 each_value_code index counts body =
     SetAgain index (length counts + 2)

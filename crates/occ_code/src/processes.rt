@@ -3,7 +3,7 @@ ghost use Rattle.std.specs.Prelude.{◌≡◌, ◌∷◌, [], ℕ, IfOk, OnOk};
 ghost use Rattle.occ_term.specs.Terms as terms;
 ghost use Rattle.occ_term.specs.Processes.{branches_among, branches_in, branches_in_arms, branches_in_choices, branches_in_options, branches_in_reception, branches_in_terms, branches_in_variants, numbered};
 ghost use Rattle.occ_term.specs.View.{arm_of, arms_of, branches_of, choice_of, choices_of, option_of, options_of, reception_of, term_of, terms_of, variants_of};
-ghost use Rattle.occ_code.specs.CodeOf.{AddsFirst, AddsShared, HasBodiesOf, IsBodyOf};
+ghost use Rattle.occ_code.specs.CodeOf.{AddsBefore, AddsShared, HasBodiesOf, IsBodyOf};
 ghost use Rattle.occ_code.specs.Emitted.{whole_code};
 ghost use Rattle.occ_machine.specs.Machine as machine;
 ghost use Rattle.occ_code.specs.Emits.{emitted};
@@ -193,7 +193,7 @@ fn add_in_choice(
     bodies: &mut Vec<Arc<Body, Global>>,
 ) -> Result<(), AllocError>
     ensures { OnOk result
-        (AddsFirst branches_in_choices (choice_of choice.now) quantum bodies.old bodies.new) }
+        (AddsBefore branches_in_choices (choice_of choice.now) quantum bodies.old bodies.new) }
 {
     match choice {
         Choice::When(_, body) => {
@@ -238,7 +238,7 @@ fn add_in_option(
     bodies: &mut Vec<Arc<Body, Global>>,
 ) -> Result<(), AllocError>
     ensures { OnOk result
-        (AddsFirst branches_in_options (option_of option.now) quantum bodies.old bodies.new) }
+        (AddsBefore branches_in_options (option_of option.now) quantum bodies.old bodies.new) }
 {
     match option {
         Selection::Among(_, _, body) => {
@@ -279,7 +279,7 @@ fn add_in_arm(
     bodies: &mut Vec<Arc<Body, Global>>,
 ) -> Result<(), AllocError>
     ensures { OnOk result
-        (AddsFirst branches_in_arms (arm_of arm.now) quantum bodies.old bodies.new) }
+        (AddsBefore branches_in_arms (arm_of arm.now) quantum bodies.old bodies.new) }
 {
     match arm {
         Arm::SkipArm(_, body) => {

@@ -6,7 +6,7 @@ ghost use Rattle.occ_term.specs.View.{arm_of, arms_of, branches_of, choice_of, c
 ghost use Rattle.occ_machine.specs.declared.instr.Instr.TheVariants as instructions;
 ghost use Rattle.occ_code.specs.Expressions.{counting_code, declarations_code, expression_code, items_code, par_code, place_code, storing_code};
 ghost use Rattle.occ_code.specs.Emitted.{arms_code, choices_code, each_code, else_code, list_code, options_code, term_code, terms_code, variants_code, while_code};
-ghost use Rattle.occ_code.specs.Emits.{AddsCode, Emits, EmitsAround, EmitsFirst};
+ghost use Rattle.occ_code.specs.Emits.{AddsCode, Emits, EmitsAround, EmitsBefore};
 ghost use Rattle.occ_machine.specs.declared.instr.Instr.{Instr};
 
 use crate::arms::{
@@ -245,7 +245,7 @@ fn emit_choice(
     requires room { slot + 2 ≤ 2 * length code.old.items }
     requires end { end ≤ length code.old.items }
     ensures { OnOk result
-        (EmitsFirst (choices_code slot) (choice_of choice.now) end code.old code.new) }
+        (EmitsBefore (choices_code slot) (choice_of choice.now) end code.old code.new) }
 {
     match choice {
         Choice::When(test, body) => {
@@ -321,7 +321,7 @@ fn emit_arm(
     requires room { slot + 2 ≤ 2 * length code.old.items }
     requires end { end ≤ length code.old.items }
     ensures { OnOk result
-        (EmitsFirst (arms_code slot) (arm_of arm.now) end code.old code.new) }
+        (EmitsBefore (arms_code slot) (arm_of arm.now) end code.old code.new) }
 {
     let before = emitted(code);
     match arm {
@@ -413,7 +413,7 @@ fn emit_option(
 ) -> Result<(), AllocError>
     requires room { slot + 2 ≤ 2 * length code.old.items }
     ensures { OnOk result
-        (EmitsFirst (options_code slot) (option_of option.now) end code.old code.new) }
+        (EmitsBefore (options_code slot) (option_of option.now) end code.old code.new) }
 {
     match option {
         Selection::Among(constants, declarations, body) => {

@@ -193,11 +193,11 @@ words_from skipped [] = Some []
 words_from (suc skipped) (b ∷ rest) = words_from skipped rest
 words_from zero (b ∷ rest) = if b == 32 then words_from 0 rest else (if begins_comment (b ∷ rest) then Some [] else (word_at (b ∷ rest) >>= λ x. words_from (length rest - length x.1) rest >>= λ ws. Some (x.0 ∷ ws)))
 
--- the logical line that goes on, if any
-abbrev pub going_on : Option Line → Option LogicalLine
-going_on pending = option_map logical_line_of pending
+-- a line that is read so far, if any, as the definitions have it
+abbrev pub pending_line : Option Line → Option LogicalLine
+pending_line pending = option_map logical_line_of pending
 
--- the same after one more physical line
+-- what is read so far after one more physical line
 abbrev pub joined_with : Option LogicalLine → ℕ → ℕ → List Word → Option (Option LogicalLine)
 joined_with pending n spaces [] = Some pending
 joined_with None n spaces (w ∷ ws) = guard (spaces % 2 == 0) (Some (logical_line n (spaces / 2) (w ∷ ws)))

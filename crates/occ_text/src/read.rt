@@ -7,7 +7,7 @@ ghost use Rattle.occ_text.specs.declared.fault.TextFault.TheVariants.{Memory};
 ghost use Rattle.occ_text.specs.Faults.{BeginsUpTo, Names, NamesLineOf};
 ghost use Rattle.occ_text.specs.Words.{LogicalLine, logical_lines, word, words};
 ghost use Rattle.occ_text.specs.Lines.{LinesOf, UnlessMemory, leads_on, goes_on};
-ghost use Rattle.occ_text.specs.Reading.{Gives, finished, joined_with, lines_at, logical_lines_from, unfinished, going_on};
+ghost use Rattle.occ_text.specs.Reading.{Gives, finished, joined_with, lines_at, logical_lines_from, unfinished, pending_line};
 
 use crate::class::{Class, run_len};
 use crate::fault::TextFault;
@@ -113,8 +113,8 @@ fn join(
 ) -> Result<Option<Line>, TextFault>
     requires counted { 1 ≤ number }
     requires before { BeginsUpTo number pending }
-    ensures value { Gives going_on result
-        (joined_with (going_on pending) number indent (words tokens.items)) }
+    ensures value { Gives pending_line result
+        (joined_with (pending_line pending) number indent (words tokens.items)) }
     ensures line { IfErr result (Names number) }
     ensures first { IfOk result (BeginsUpTo number) }
 {
@@ -145,8 +145,8 @@ fn join(
 /// Moves the line to the others, unless it goes on.
 fn settle(lines: &mut Vec<Line>, pending: Option<Line>) -> Result<Option<Line>, TextFault>
     ensures finished { OnOk result (logical_lines lines.new.items
-        ≡ logical_lines lines.old.items ++ finished (going_on pending)) }
-    ensures unfinished { IfOk result (λ p. going_on p ≡ unfinished (going_on pending)) }
+        ≡ logical_lines lines.old.items ++ finished (pending_line pending)) }
+    ensures unfinished { IfOk result (λ p. pending_line p ≡ unfinished (pending_line pending)) }
     ensures memory { IfErr result (λ e. e ≡ Memory) }
     ensures first { (n : ℕ) → BeginsUpTo n pending → IfOk result (BeginsUpTo n) }
 {

@@ -20,7 +20,7 @@ each_as view all = map view all.items
 abbrev pub ReadsWords : {X Y : Type 0} → (X → Y) → Result (X × Bor (List Token)) ParseFault → Read Y → List Token → Type 0
 ReadsWords view result read tokens = Gives (λ x. (view x.0, words x.1.now)) result (read (words tokens))
 
--- the answer is the words behind what has to stand at the front; a fault says that it doesn't stand there
+-- the answer is the words behind what has to stand at the front; a fault says that it doesn't stand there, or that memory ran out
 abbrev pub StepsOver : Result (Bor (List Token)) ParseFault → (List Word → Option (List Word)) → List Token → Type 0
 StepsOver result after tokens = Gives (λ r. words r.now) result (after (words tokens))
 

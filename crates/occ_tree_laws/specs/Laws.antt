@@ -1,4 +1,4 @@
--- Laws of reading and of the written form: fewer than b brackets are open at one place, and there are fewer than n levels.
+-- Laws of reading and of the written form: fewer than b brackets are open at one place, and there are at most n levels of lines.
 -- Manual: nothing; this is (own).
 use Rattle.std.specs.Prelude.{List, Some, ℕ, ◌++◌, ◌<◌, ◌≡◌}
 use Rattle.occ_text.specs.Words.{LogicalLine, Word}

@@ -27,5 +27,5 @@ decl_line_with level lines = do
   Some ((l.0.0, h), l.1)
 
 -- the answer is what read finds at the front of the lines: a number, what the line says, seen by view, and the lines behind it
-abbrev pub ReadsHead : {X Y : Type 0} → (X → Y) → Result (ℕ × X × Bor (List Line)) ParseFault → Reader LogicalLine (ℕ × Y) → List Line → Type 0
-ReadsHead view result read lines = Gives (λ x. ((x.0, view x.1), logical_lines x.2.now)) result (read (logical_lines lines))
+abbrev pub ReadsHeadLine : {X Y : Type 0} → (X → Y) → Result (ℕ × X × Bor (List Line)) ParseFault → Reader LogicalLine (ℕ × Y) → List Line → Type 0
+ReadsHeadLine view result read lines = Gives (λ x. ((x.0, view x.1), logical_lines x.2.now)) result (read (logical_lines lines))

@@ -1,4 +1,4 @@
--- What keeps to the bounds: fewer than b brackets open at one place, and fewer than n levels, its own and those under it.
+-- What keeps to the bounds: fewer than b brackets open at one place, and at most n levels: those under an item, and of a process its own and those under it.
 -- Manual: nothing; this is (own).
 use Rattle.std.specs.Prelude.{ℕ, zero, suc, ◌<◌, List}
 use Rattle.occ_tree_grammar.specs.Limits.{brackets, most_levels}

@@ -6,7 +6,7 @@ ghost use Rattle.occ_tree_grammar.specs.Lines.Views.{formals_of};
 ghost use Rattle.occ_tree_grammar.specs.Lines.HeadViews.{decl_head_of};
 ghost use Rattle.occ_tree_grammar.specs.Processes.Views.{decl_of, process_of};
 ghost use Rattle.occ_tree_grammar.specs.Limits.{most_levels};
-ghost use Rattle.occ_tree_processes.specs.Heads.{decl_line_with, ReadsHead};
+ghost use Rattle.occ_tree_processes.specs.Heads.{decl_line_with, ReadsHeadLine};
 ghost use Rattle.occ_tree_processes.specs.Opened.{decl_left_at, decl_left_of, left_behind, procedure_with};
 
 use crate::processes::line::{end_line, line_of};
@@ -27,7 +27,7 @@ fn declaration_line(
     level: u32,
     lines: &[Line],
 ) -> Result<(u32, DeclHead, &[Line]), ParseFault>
-    ensures { ReadsHead decl_head_of result (decl_line_with level) lines.now }
+    ensures { ReadsHeadLine decl_head_of result (decl_line_with level) lines.now }
 {
     let (first, rest) = line_of(last, level, lines)?;
     let line = first.number;

@@ -5,7 +5,7 @@ ghost use Rattle.std.specs.Prelude.{◌≡◌};
 ghost use Rattle.occ_tree_grammar.specs.Lines.HeadViews.{choice_head_of, option_head_of, arm_head_of, variant_head_of};
 ghost use Rattle.occ_tree_grammar.specs.Processes.Trees.{node, single_body, process as the_process, choice as the_choice, option as the_option, arm as the_arm, variant as the_variant};
 ghost use Rattle.occ_tree_grammar.specs.Processes.Views.{listed_decls, process_of, selection_of, variant_of};
-ghost use Rattle.occ_tree_processes.specs.Heads.{line_with, ReadsHead};
+ghost use Rattle.occ_tree_processes.specs.Heads.{line_with, ReadsHeadLine};
 ghost use Rattle.occ_tree_processes.specs.Opened.{opened_head};
 
 use crate::processes::line::line_of;
@@ -24,7 +24,7 @@ pub fn process_line(
     level: u32,
     lines: &[Line],
 ) -> Result<(u32, Opened, &[Line]), ParseFault>
-    ensures { ReadsHead opened_head result (line_with the_process level) lines.now }
+    ensures { ReadsHeadLine opened_head result (line_with the_process level) lines.now }
 {
     let (first, rest) = line_of(last, level, lines)?;
     let line = first.number;
@@ -39,7 +39,7 @@ pub fn choice_line(
     level: u32,
     lines: &[Line],
 ) -> Result<(u32, ChoiceHead, &[Line]), ParseFault>
-    ensures { ReadsHead choice_head_of result (line_with the_choice level) lines.now }
+    ensures { ReadsHeadLine choice_head_of result (line_with the_choice level) lines.now }
 {
     let (first, rest) = line_of(last, level, lines)?;
     let line = first.number;
@@ -54,7 +54,7 @@ pub fn selection_line(
     level: u32,
     lines: &[Line],
 ) -> Result<(u32, OptionHead, &[Line]), ParseFault>
-    ensures { ReadsHead option_head_of result (line_with the_option level) lines.now }
+    ensures { ReadsHeadLine option_head_of result (line_with the_option level) lines.now }
 {
     let (first, rest) = line_of(last, level, lines)?;
     let line = first.number;
@@ -69,7 +69,7 @@ pub fn arm_line(
     level: u32,
     lines: &[Line],
 ) -> Result<(u32, ArmHead, &[Line]), ParseFault>
-    ensures { ReadsHead arm_head_of result (line_with the_arm level) lines.now }
+    ensures { ReadsHeadLine arm_head_of result (line_with the_arm level) lines.now }
 {
     let (first, rest) = line_of(last, level, lines)?;
     let line = first.number;
@@ -84,7 +84,7 @@ pub fn variant_line(
     level: u32,
     lines: &[Line],
 ) -> Result<(u32, VariantHead, &[Line]), ParseFault>
-    ensures { ReadsHead variant_head_of result (line_with the_variant level) lines.now }
+    ensures { ReadsHeadLine variant_head_of result (line_with the_variant level) lines.now }
 {
     let (first, rest) = line_of(last, level, lines)?;
     let line = first.number;
