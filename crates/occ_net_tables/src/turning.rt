@@ -14,6 +14,7 @@ use std::alloc::{AllocError, Global};
 impl Tables {
     /// The process that the choice selects takes a turn, and what that makes possible happens. It is TRUE only where the
     /// run hasn't ended by it. After a refused growth the network is not to be used.
+    #[inline(always)]
     pub fn take_turn(
         &mut self,
         alloc: Global,

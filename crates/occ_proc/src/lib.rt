@@ -9,7 +9,6 @@ mod entries;
 mod jumps;
 mod opening;
 mod operands;
-mod operators;
 mod parts;
 mod quick;
 mod replicating;

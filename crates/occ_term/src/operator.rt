@@ -1,5 +1,6 @@
-//! Operators and conversions on values of 64 bits, whether they are within INT or not. The arithmetic between them has 128.
-ghost use Rattle.std.specs.Prelude.{◌≡◌, ◌<◌, ◌≤◌, ◌^◌, ◌%◌, ◌*◌, ◌-◌, ◌≢◌, ◌+ℤ◌, ◌-ℤ◌, ◌*ℤ◌, int_div, int_rem, pos, IfOk};
+//! Operators and conversions on values of 64 bits, whether they are within INT or not: in words of 64 bits where these do, and in
+//! words of 128 elsewhere.
+ghost use Rattle.std.specs.Prelude.{◌≡◌, ◌<◌, ◌≤◌, ◌^◌, ◌%◌, ◌*◌, ◌-◌, ◌≢◌, ◌+ℤ◌, ◌-ℤ◌, ◌*ℤ◌, int_div, int_rem, pos, IfOk, IfSome};
 ghost use Rattle.occ_term.specs.Messages.{is_of};
 ghost use Rattle.occ_term.specs.Values as values;
 ghost use Rattle.occ_term.specs.Values.{bits_of, of_bits, width, wrapped, truth};
@@ -12,6 +13,50 @@ use crate::primitive::Primitive;
 
 /// An operator's value on two values.
 pub fn binary(
+    operator: Operator,
+    primitive: Primitive,
+    line: u32,
+    a: i64,
+    b: i64,
+) -> Result<i64, Fault>
+    ensures { evaluated result ≡ values.binary operator primitive line a b }
+{
+    match common_value(operator, primitive, line, a, b) {
+        Some(value) => Ok(value),
+        None => any_binary(operator, primitive, line, a, b),
+    }
+}
+
+/// The same where words of 64 bits do: a comparison, or arithmetic whose right operand is an INT and whose value is one of the type.
+/// Where it answers nothing, `binary` tells the value or the fault.
+#[inline(always)]
+pub fn common_value(
+    operator: Operator,
+    primitive: Primitive,
+    line: u32,
+    a: i64,
+    b: i64,
+) -> Option<i64>
+    ensures { IfSome result (λ v. values.binary operator primitive line a b ≡ values.Value v) }
+{
+    match operator {
+        Operator::Add => common_sum(primitive, line, a, b),
+        Operator::Subtract => common_difference(primitive, line, a, b),
+        Operator::Multiply => common_product(primitive, line, a, b),
+        Operator::Divide => common_quotient(primitive, line, a, b),
+        Operator::Remainder => common_rest(primitive, line, a, b),
+        Operator::Equal => Some(truth(a == b)),
+        Operator::Unequal => Some(truth(a != b)),
+        Operator::Less => Some(truth(a < b)),
+        Operator::Greater => Some(truth(a > b)),
+        Operator::AtMost => Some(truth(a <= b)),
+        Operator::AtLeast => Some(truth(a >= b)),
+        _ => None,
+    }
+}
+
+/// Any operator's value, in words of 128 bits.
+fn any_binary(
     operator: Operator,
     primitive: Primitive,
     line: u32,
@@ -76,6 +121,7 @@ fn fault(kind: FaultKind, line: u32) -> Fault
 }
 
 /// Whether a value is one of the type.
+#[inline(always)]
 pub fn is_of(primitive: Primitive, v: i64) -> bool
     ensures { result ≡ is_of primitive v }
 {
@@ -97,6 +143,7 @@ fn fits(primitive: Primitive, v: i128) -> bool
     }
 }
 
+#[inline(always)]
 fn truth(test: bool) -> i64
     ensures { result ≡ truth test }
 {
@@ -111,6 +158,76 @@ fn in_type(primitive: Primitive, line: u32, v: i128) -> Result<i64, Fault>
     } else {
         Err(fault(FaultKind::Arith, line))
     }
+}
+
+// ---- arithmetic in words of 64 bits
+
+/// The sum, where the right operand is an INT. Then a sum that wraps is none, so that it need not be tested for.
+#[inline(always)]
+fn common_sum(primitive: Primitive, line: u32, a: i64, b: i64) -> Option<i64>
+    ensures { IfSome result
+        (λ v. values.binary Operator.Add primitive line a b ≡ values.Value v) }
+{
+    let value = a.wrapping_add(b);
+    if is_of(Primitive::Int, b) && is_of(primitive, value) {
+        Some(value)
+    } else {
+        None
+    }
+}
+
+/// The difference, in the same way.
+#[inline(always)]
+fn common_difference(primitive: Primitive, line: u32, a: i64, b: i64) -> Option<i64>
+    ensures { IfSome result
+        (λ v. values.binary Operator.Subtract primitive line a b ≡ values.Value v) }
+{
+    let value = a.wrapping_sub(b);
+    if is_of(Primitive::Int, b) && is_of(primitive, value) {
+        Some(value)
+    } else {
+        None
+    }
+}
+
+/// The product of two INTs, which is within 64 bits.
+#[inline(always)]
+fn common_product(primitive: Primitive, line: u32, a: i64, b: i64) -> Option<i64>
+    ensures { IfSome result
+        (λ v. values.binary Operator.Multiply primitive line a b ≡ values.Value v) }
+{
+    if is_of(Primitive::Int, a) && is_of(Primitive::Int, b) {
+        if_in_type(primitive, line, a * b)
+    } else {
+        None
+    }
+}
+
+#[inline(always)]
+fn if_in_type(primitive: Primitive, line: u32, value: i64) -> Option<i64>
+    ensures { IfSome result (λ v. values.in_type primitive line value ≡ values.Value v) }
+{
+    if is_of(primitive, value) {
+        Some(value)
+    } else {
+        None
+    }
+}
+
+#[inline(always)]
+fn common_quotient(primitive: Primitive, line: u32, a: i64, b: i64) -> Option<i64>
+    ensures { IfSome result
+        (λ v. values.binary Operator.Divide primitive line a b ≡ values.Value v) }
+{
+    if_in_type(primitive, line, a.checked_div(b)?)
+}
+
+#[inline(always)]
+fn common_rest(primitive: Primitive, line: u32, a: i64, b: i64) -> Option<i64>
+    ensures { IfSome result
+        (λ v. values.binary Operator.Remainder primitive line a b ≡ values.Value v) }
+{
+    if_in_type(primitive, line, a.checked_rem(b)?)
 }
 
 // ---- arithmetic that no two values of 64 bits leave
