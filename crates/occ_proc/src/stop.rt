@@ -1,6 +1,6 @@
 //! Why a process stops, and where it goes on after it.
 ghost use Rattle.std.specs.Prelude.{◌≡◌, ◌<◌, ◌+◌, ◌-◌, ◌^◌, IfNone, IfSome};
-ghost use Rattle.occ_proc.specs.Doing.{place_after};
+ghost use Rattle.occ_proc.specs.Doing.{pc_after};
 ghost use Rattle.occ_proc.specs.Turns.{IsLast};
 
 use occ_machine::Arm;
@@ -40,10 +40,10 @@ pub(crate) fn passed_back(stop: &Stop, left: u32) -> Option<usize>
     }
 }
 
-/// Where the process goes on after a stop at this place.
-pub(crate) fn place_after(pc: u32, stop: &Stop) -> u32
+/// Where the process goes on after a stop at this pc.
+pub(crate) fn pc_after(pc: u32, stop: &Stop) -> u32
     requires { pc + 1 < 2 ^ 32 }
-    ensures { result ≡ place_after pc stop.now }
+    ensures { result ≡ pc_after pc stop.now }
 {
     match stop {
         Stop::Loops(count) => before(pc, *count),
@@ -53,7 +53,7 @@ pub(crate) fn place_after(pc: u32, stop: &Stop) -> u32
     }
 }
 
-/// The place so many instructions before.
+/// The pc so many instructions before.
 pub(crate) fn before(pc: u32, count: usize) -> u32
     ensures { result ≡ pc - count }
 {
