@@ -10,6 +10,7 @@ use Rattle.occ_machine.specs.Machine.{Body, Stopping}
 use Rattle.occ_machine.specs.declared.task.Task.{Task}
 use Rattle.occ_machine.specs.declared.task.Wait.{Wait}
 use Rattle.occ_machine.specs.declared.task.Wait.TheVariants as W
+use Rattle.occ_proc.specs.Stretches.{CanTake, InRow, MayFollow}
 use Rattle.occ_net_replay.specs.declared.choice.Choice.{Choice}
 use Rattle.occ_net_replay.specs.Following.{AreBytes}
 use Rattle.occ_net_replay.specs.Replay.{HasTask, Net, Tasks, ending_of, is_done, made_ready, may_go, ready_from}
@@ -19,15 +20,15 @@ use Rattle.occ_net_tables.specs.Holding.{Holds}
 use Rattle.occ_net_tables.specs.Room.{AreSame}
 use Rattle.occ_net_tables.specs.Settling.{IsTurnAt, Standing, StandsBehind, TurnsBehind, TurnsTo, tables_with}
 use Rattle.occ_net_tables.specs.Tasks.{Advanced}
-use Rattle.occ_net_tables.proofs.Between.{goes_on}
 use Rattle.occ_net_tables.proofs.OneChange.{set_twice}
 use Rattle.occ_net_tables.proofs.Placing.{placed_replays}
-use Rattle.occ_net_tables.proofs.Roomy.{holds_as, set_own}
-use Rattle.occ_net_tables.proofs.Turned.{mid_for, still_open, turns_to}
+use Rattle.occ_net_tables.proofs.Roomy.{holds_as, same_with}
+use Rattle.occ_net_tables.proofs.Rowed as rowed
+use Rattle.occ_net_tables.proofs.Rowed.{own_place, ready_open, ready_turn, task_in, turn_of}
 use Rattle.occ_net.specs.Keeping.{KeepsReplay}
 use Rattle.occ_net.specs.Networks.{IsState, Past, leased, ready_in}
 use Rattle.occ_net.specs.Settling.{IsAmong}
-use Rattle.occ_net.specs.Stretches.{CanGoOn, CanTake, InRow, MayFollow, SettlesAll, TakesAll, after_turns, choices_from, in_after}
+use Rattle.occ_net.specs.Stretches.{CanGoOn, SettlesAll, TakesAll, after_turns, choices_from, in_after}
 use Rattle.occ_net.specs.declared.leasing.Lease.{Lease}
 use Rattle.occ_net.proofs.Leased.{IsGoing, leased_there, may_turn, turn_counts, turn_stops}
 use Rattle.occ_net.proofs.Ready.{among_ready, turn_may}
@@ -53,13 +54,6 @@ pub one_turn_on : (n : Past) (place pick number k : ℕ) → with_turn (after_tu
 one_turn_on n place pick number k = ap (λ (out : List Bool). record n { choices = choices_from place pick n.choices (suc k); out = out }) (in_next n.out number k)
 
 -- ---- along the turns
-
--- with its own task in its place
-same_tables : (n : Tables) (number : ℕ) (t : Task) → HasTask n.tasks.items number t → AreSame n (tables_with n number t)
-same_tables n number t there = record { tasks = set_own n.tasks.items number (Some t) there; ready = refl; offering = refl; awaiting = refl; parents = refl; unfinished = refl; fault = refl; used = refl; trace = refl }
-
-ready_is : (t : Task) → t.wait ≡ W.Ready → made_ready t ≡ t
-ready_is t e = ap (λ (w : Wait). record t { wait = w }) (sym e)
 
 module _ (n : Past) (tables : Tables) (k : KeepsReplay n tables) (compiled : IsCompiled n.program) (few : length n.choices + 2 ^ 32 + 1 < 2 ^ 64) (going : ending_of n.program.errors k.net ≡ None) (place number pick : ℕ) (at : slice_get (ready_from 0 k.net.tasks) place ≡ Some number) (body : Body) (has : slice_get n.program.bodies number ≡ Some body) (first : Task) (there : HasTask k.net.tasks number first) where
   abbrev past : ℕ → Past
@@ -88,7 +82,7 @@ module _ (n : Past) (tables : Tables) (k : KeepsReplay n tables) (compiled : IsC
   start =
       let x = may_turn k.net number (record { place = place; at = at }) in
       record {
-        kept = record { net = k.net; places = k.places; holds = λ now s. holds_as tables (between first) (same_tables tables number first first_there) n.program n.keyboard now (k.holds now s); bytes = k.bytes; marked = k.marked };
+        kept = record { net = k.net; places = k.places; holds = λ now s. holds_as tables (between first) (same_with tables number first first_there) n.program n.keyboard now (k.holds now s); bytes = k.bytes; marked = k.marked };
         still = going;
         here = at;
         task = there;
@@ -108,15 +102,12 @@ module _ (n : Past) (tables : Tables) (k : KeepsReplay n tables) (compiled : IsC
     pub at_place : slice_get tables.ready.items place ≡ Some number
     at_place = ap (λ (l : List ℕ). slice_get l place) (holding.sound.ready_is ∙ ap (ready_from 0) (sym holding.tasks)) ∙ a.here
 
-    task_there : HasTask (between t).tasks.items number t
-    task_there = ap (λ (l : Tasks). slice_get l number) (sym holding.tasks) ∙ a.task
-
     pub can_take : CanTake body t
-    can_take = record { counts = turn_counts (past m) (between t) a.kept compiled (few_still m small) number t a.task; stops = turn_stops (past m) (between t) a.kept compiled (few_still m small) number body t has a.task a.may }
+    can_take = rowed.can_take n.program n.keyboard compiled a.kept.bytes tables place number at_place body has first first_there t standing
 
     module _ (u : Task) (stops : Stopping body t u) where
       pub turn : IsTurnAt n.program (between t) place number u
-      turn = record { body = body; before = t; at = at_place; has_body = has; there = task_there; stops = stops }
+      turn = turn_of n.program n.keyboard compiled a.kept.bytes tables place number at_place body has first first_there t standing u stops
 
       pub behind : StandsBehind n.program n.keyboard tables place number u
       behind = record { first = first; there = first_there; last = t; standing = standing; turn = turn }
@@ -128,35 +119,21 @@ module _ (n : Past) (tables : Tables) (k : KeepsReplay n tables) (compiled : IsC
           (kept_turn (past m) (between t) new a.kept compiled (few_still m small) a.still place (pick + m) number a.here (λ now choice h e f. turns t now choice standing turn h e f))
 
       module _ (is : u.wait ≡ W.Ready) where
-        advanced : Advanced body (between t).tasks.items number t W.Ready (between u).tasks.items
-        advanced = record { after = u; stops = stops; waits = is; is = sym (set_twice tables.tasks.items number (Some t) (Some (made_ready u)) ∙ ap (λ (z : Task). slice_set tables.tasks.items number (Some z)) (ready_is u is)) }
-
-        ready_turn : (now : Net) (choice : Choice) → Holds n.program n.keyboard (between t) now → place ≡ choice.which → TurnsTo n.program n.keyboard choice now (between u)
-        unfolding advanced
-        ready_turn now choice h e =
-            let mid = mid_for n.program n.keyboard (between t) standing compiled a.kept.bytes place number body at_place has t task_there a.may W.Ready (between u) advanced now h refl refl refl refl refl refl refl refl in
-            turns_to n.program n.keyboard (between t) standing compiled a.kept.bytes place number body at_place has t task_there a.may W.Ready (between u) advanced choice now (between u) h (selects choice e)
-            (goes_on n.program n.keyboard (between u) number place u now mid (between u) choice.pick is refl refl refl mid.sound mid.sized)
-          where
-            selects : (choice : Choice) → place ≡ choice.which → place ≡ choice.which % length tables.ready.items
-            selects choice e = sym (mod-eq_of_lt (slice_get_within tables.ready.items place number at_place)) ∙ ap (λ (i : ℕ). i % length tables.ready.items) e
-
         next_kept : KeepsReplay (past (suc m)) (between u)
         next_kept =
             subst (λ (q : Past). KeepsReplay q (between u)) (one_turn_on n place pick number m)
-            (kept_turn (past m) (between t) (between u) a.kept compiled (few_still m small) a.still place (pick + m) number a.here (λ now choice h e f. ready_turn now choice h e))
+            (kept_turn (past m) (between t) (between u) a.kept compiled (few_still m small) a.still place (pick + m) number a.here (λ now choice h e f. ready_turn n.program n.keyboard compiled a.kept.bytes tables place number at_place body has first first_there t standing u stops is now choice h (own_place tables place number choice.which at_place e)))
 
         next_held : Holds n.program n.keyboard (between u) next_kept.net
         next_held = next_kept.holds next_kept.net (placed_replays n.program n.keyboard next_kept.places)
 
         pub next : Along (suc m) u
-        unfolding advanced
         next =
             record {
               kept = next_kept;
-              still = still_open n.program n.keyboard (between t) standing (between u) number u (advanced.is ∙ ap (λ (z : Task). slice_set (between t).tasks.items number (Some z)) (ready_is u is)) (ap is_done is) refl refl n.keyboard next_kept.net next_held;
+              still = ready_open n.program n.keyboard compiled a.kept.bytes tables place number at_place body has first first_there t standing u stops is n.keyboard next_kept.net next_held;
               here = ap (λ (l : List ℕ). slice_get l place) (ap (ready_from 0) next_held.tasks ∙ sym next_held.sound.ready_is) ∙ at_place;
-              task = ap (λ (l : Tasks). slice_get l number) next_held.tasks ∙ set_same tables.tasks.items number (Some first) (Some u) first_there;
+              task = ap (λ (l : Tasks). slice_get l number) next_held.tasks ∙ task_in n.program n.keyboard compiled a.kept.bytes tables place number at_place body has first first_there u;
               may = ap may_go is;
             }
 

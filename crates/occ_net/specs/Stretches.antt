@@ -1,41 +1,18 @@
 -- Turns that one process takes in a row, each but the last of which leaves it ready.
 -- Manual: nothing; this is (own).
-use Rattle.std.specs.Prelude.{Bool, List, None, Some, [], false, slice_get, slice_set, suc, zero, ℕ, ⊤, ◌++◌, ◌+◌, ◌<◌, ◌^◌, ◌∷◌, ◌≡◌}
+use Rattle.std.specs.Prelude.{Bool, List, None, Some, [], false, slice_get, slice_set, suc, zero, ℕ, ◌++◌, ◌+◌, ◌<◌, ◌^◌, ◌∷◌, ◌≡◌}
 use Rattle.std.specs.Arc.{arc_value}
-use Rattle.occ_machine.specs.Machine.{Body, Stopping}
+use Rattle.occ_machine.specs.Machine.{Body}
 use Rattle.occ_machine.specs.declared.task.Task.{Task}
-use Rattle.occ_machine.specs.declared.task.Wait.TheVariants.{Ready}
-use Rattle.occ_proc.specs.Turns.{HasStop}
+use Rattle.occ_proc.specs.Stretches.{CanTakeUpTo, InRow}
 use Rattle.occ_net_replay.specs.declared.choice.Choice.{Choice}
 use Rattle.occ_net_replay.specs.Replay.{HasTask, Net, ending_of}
 use Rattle.occ_net.specs.declared.leasing.Lease.{Lease}
 use Rattle.occ_net.specs.Networks.{IsState, Past, ready_in}
 
--- behind so many turns a process may take another in the row where the last one left it ready
-abbrev pub MayFollow : ℕ → Task → Type 0
-MayFollow zero t = ⊤
-MayFollow (suc n) t = t.wait ≡ Ready
-
--- a turn to this task, of a task to which so many turns in a row lead
-pub record OneMore (body : Body) (n : ℕ) (leads : Task → Type 0) (after : Task) : Type 0 where
-  pub before : Task
-  pub row : leads before
-  pub follows : MayFollow n before
-  pub stops : Stopping body before after
-
--- so many turns in a row lead from this task to that one
-abbrev pub InRow : Body → Task → ℕ → Task → Type 0
-InRow body first zero t = first ≡ t
-InRow body first (suc n) t = OneMore body n (InRow body first n) t
-
--- it can take a turn
-pub record CanTake (body : Body) (t : Task) : Type 0 where
-  pub counts : t.turns + 1 < 2 ^ 64
-  pub stops : HasStop body t
-
 -- what is leased can take turns in a row, as long as each leaves it ready
 abbrev pub CanGoOn : Lease → Type 0
-CanGoOn l = (n : ℕ) (t : Task) → n < 2 ^ 32 → InRow (arc_value l.body) l.task n t → MayFollow n t → CanTake (arc_value l.body) t
+CanGoOn l = CanTakeUpTo (arc_value l.body) (2 ^ 32) l.task
 
 -- so many turns in a row, by the network's own body and from its own task of the process with that number, lead to this task
 pub record AreOwn (n : Past) (net : Net) (number count : ℕ) (after : Task) : Type 0 where

@@ -19,3 +19,4 @@ pub mod Roomy
 pub mod Placing
 pub mod Rerun
 pub mod CountedPicks
+pub mod Rowed

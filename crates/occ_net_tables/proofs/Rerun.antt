@@ -35,7 +35,7 @@ starts p kb keep n h = record { net = first_net p kb; places = []; placed = none
 pub stands : (p : Program) (kb : List ℕ) (keep : Keep) (given kept : List Choice) (n : Tables) → 1 + length given < 2 ^ 64 → (h : HasRun p kb keep given kept n) → ending_of p.errors h.net ≡ None → Standing p kb n
 stands p kb keep given kept n few h going = record { choices = given; few = few; net = h.net; replays = placed_replays p kb h.placed; open_end = going; holds = h.holds }
 
-one_more_kept : (keep : Keep) (given places kept ready : List _) (c : Choice) → kept ≡ all_kept keep given places → kept ++ kept_by keep ready c ∷ [] ≡ all_kept keep (given ++ c ∷ []) (places ++ placed_among ready c ∷ [])
+pub one_more_kept : (keep : Keep) (given places kept ready : List _) (c : Choice) → kept ≡ all_kept keep given places → kept ++ kept_by keep ready c ∷ [] ≡ all_kept keep (given ++ c ∷ []) (places ++ placed_among ready c ∷ [])
 one_more_kept Given given places kept ready c e = ap (λ l. l ++ c ∷ []) e
 one_more_kept Places given places kept ready c e = ap (λ l. l ++ placed_among ready c ∷ []) e
 

@@ -10,3 +10,4 @@ pub mod Room
 pub mod Places
 pub mod Running
 pub mod Outcomes
+pub mod Rows

@@ -1,8 +1,10 @@
 //! A run of a plan.
-ghost use Rattle.std.specs.Prelude.{◌≡◌, ◌<◌, IfOk, IsTrue, length};
+ghost use Rattle.std.specs.Prelude.{◌≡◌, ◌+◌, ◌<◌, ◌≤◌, IfOk, IsTrue, OnOk, length, take};
 ghost use Rattle.occ_net_tables.specs.Endings.{EndsAs, GoesOn};
 ghost use Rattle.occ_net_tables.specs.Outcomes.{IsOutcome, IsRan};
 ghost use Rattle.occ_net_tables.specs.Places.{IsKeptBy, placed_among};
+ghost use Rattle.occ_net_tables.specs.Rows.{CanRunRow, KeepsRow};
+ghost use Rattle.occ_net_tables.specs.Running.{HasRun};
 ghost use Rattle.occ_choices.specs.Plans.{choices_of};
 
 use crate::ready::place_among;
@@ -14,6 +16,9 @@ use occ_net_trace::Trace;
 use occ_proc::Scratch;
 use occ_term::Ending;
 use std::alloc::{AllocError, Global};
+
+/// How many turns in a row the only process that is ready takes at most.
+const MOST_IN_ROW: usize = 256;
 
 /// What is kept of a choice that was used.
 #[derive(Clone, Copy, Debug, PartialEq, Eq)]
@@ -81,6 +86,52 @@ fn ending_now(tables: &Tables, code: &Code, going: bool) -> Option<Ending>
     tables.ending(code.errors())
 }
 
+/// The only process that is ready takes turns in a row, each by the next choice of the plan. It is TRUE only where the run
+/// hasn't ended by them.
+#[inline(never)]
+fn run_row(
+    alloc: Global,
+    code: &Code,
+    scratch: &mut Scratch,
+    keyboard: &[u8],
+    plan: &Plan,
+    keep: Keep,
+    tables: &mut Tables,
+    kept: &mut Vec<Choice>,
+) -> Result<bool, AllocError>
+    requires run { CanRunRow code.now keyboard.now keep (choices_of plan.now) kept.old.items
+        tables.old }
+    ensures run { OnOk result (HasRun code.now keyboard.now keep
+        (take (length kept.new.items) (choices_of plan.now)) kept.new.items tables.new) }
+    ensures more { OnOk result (length kept.old.items < length kept.new.items) }
+    ensures going { IfOk result (λ going. IsTrue going → GoesOn code.now tables.new) }
+{
+    let from = kept.len();
+    let most = (plan.len() - from).min(MOST_IN_ROW) as u32;
+    let (count, going) = tables.take_row(alloc, code, scratch, keyboard, plan, from, most)?;
+    keep_row(plan, count, keep, kept)?;
+    Ok(going)
+}
+
+/// Keeps so many choices of the plan behind those that are kept, which selected the only process that was ready.
+fn keep_row(plan: &Plan, count: u32, keep: Keep, kept: &mut Vec<Choice>) -> Result<(), AllocError>
+    requires within { length kept.old.items + count ≤ length (choices_of plan.now) }
+    ensures { OnOk result
+        (KeepsRow keep (choices_of plan.now) count kept.old.items kept.new.items) }
+{
+    for _more in 0..count {
+        let Some(choice) = plan.at(kept.len()) else {
+            unreachable!()
+        };
+        let placed = Choice {
+            which: 0,
+            pick: choice.pick,
+        };
+        kept.push(kept_choice(choice, placed, keep))?;
+    }
+    Ok(())
+}
+
 /// Takes a turn for each choice of the plan, until the network ends.
 ///
 /// # Errors
@@ -100,6 +151,19 @@ pub fn run_tables(
     let mut kept = Vec::new(alloc);
     let mut going = false;
     loop {
+        if going && tables.ready().len() == 1 && kept.len() < plan.len() {
+            going = run_row(
+                alloc,
+                code,
+                &mut scratch,
+                keyboard,
+                plan,
+                keep,
+                &mut tables,
+                &mut kept,
+            )?;
+            continue;
+        }
         if let Some(ending) = ending_now(&tables, code, going) {
             return Ok(Ran {
                 ending,

@@ -1,11 +1,12 @@
 //! Changes of one process's task, at its place of the table.
-ghost use Rattle.std.specs.Prelude.{◌≡◌, ◌↔◌, ◌+◌, ◌<◌, ◌^◌, IfOk, IsTrue, Some, length, slice_set};
+ghost use Rattle.std.specs.Prelude.{◌≡◌, ◌↔◌, ◌+◌, ◌<◌, ◌≤◌, ◌^◌, IfOk, IsTrue, Some, length, slice_set};
 ghost use Rattle.occ_machine.specs.declared.task.Task.{Task};
 ghost use Rattle.occ_net_replay.specs.Replay.{HasTask};
+ghost use Rattle.occ_net_tables.specs.Rows.{EndsRow, MayTakeRow};
 ghost use Rattle.occ_net_tables.specs.Tasks.{EndsTurn, IsThere, MayTakeTurn, WaitSet, WaitTaken};
 
 use occ_machine::{Body, Task, Wait};
-use occ_proc::{Scratch, TurnEnd, advance_to_end};
+use occ_proc::{Scratch, TurnEnd, advance_row, advance_to_end};
 use std::alloc::{AllocError, Global};
 use std::mem;
 
@@ -27,6 +28,32 @@ pub(crate) fn advance_task(
         Some(task) => {
             let end = advance_to_end(alloc, body, scratch, task)?;
             Ok(end)
+        }
+        None => unreachable!(),
+    }
+}
+
+/// The process takes turns in a row, no more than this many: it answers how many. What it stands at behind the last one is handed
+/// over where it is light, and then it is left as ready.
+#[inline(always)]
+pub(crate) fn advance_task_row(
+    alloc: Global,
+    body: &Body,
+    scratch: &mut Scratch,
+    tasks: &mut Vec<Option<Task>>,
+    number: u32,
+    most: u32,
+) -> Result<(u32, TurnEnd), AllocError>
+    requires small { length body.now.code + 1 < 2 ^ 32 }
+    requires some { 0 < most }
+    requires turns { MayTakeRow body.now tasks.old.items number most }
+    ensures turns { IfOk result (EndsRow body.now tasks.old number scratch.new tasks.new) }
+    ensures some { IfOk result (λ row. (0 < row.0) × (row.0 ≤ most)) }
+{
+    match &mut tasks[number as usize] {
+        Some(task) => {
+            let row = advance_row(alloc, body, scratch, task, most)?;
+            Ok(row)
         }
         None => unreachable!(),
     }

@@ -1,11 +1,15 @@
 //! A turn of the network: the chosen process goes on, and what that makes possible happens.
-ghost use Rattle.std.specs.Prelude.{IfOk, IsTrue, OnOk};
+ghost use Rattle.std.specs.Prelude.{◌+◌, ◌<◌, ◌≤◌, ◌^◌, IfOk, IsTrue, OnOk, length};
+ghost use Rattle.occ_choices.specs.Plans.{choices_of};
+ghost use Rattle.occ_proc.specs.Turns.{left_message};
 ghost use Rattle.occ_net_tables.specs.Endings.{GoesOn};
+ghost use Rattle.occ_net_tables.specs.Rows.{HasEnded, SettlesEnd, StandsAlone, TakesRow};
 ghost use Rattle.occ_net_tables.specs.Settling.{HasMid, HasSomeMid, HasStopped, Settles, SettlesBy, SettlesOn, SettlesWait, Standing, TakesTurn, offer_left};
 
 use crate::ready::place_among;
 use crate::tables::Tables;
-use crate::tasks::{advance_task, take_wait};
+use crate::tasks::{advance_task, advance_task_row, take_wait};
+use occ_choices::Plan;
 use occ_machine::{Code, Wait};
 use occ_net_replay::Choice;
 use occ_proc::{Scratch, TurnEnd};
@@ -33,10 +37,79 @@ impl Tables {
         let Some(body) = code.body(number as usize) else {
             unreachable!()
         };
-        match advance_task(alloc, body, scratch, &mut self.tasks, number)? {
+        let end = advance_task(alloc, body, scratch, &mut self.tasks, number)?;
+        self.settle_end(
+            alloc,
+            code,
+            scratch,
+            keyboard,
+            place,
+            number,
+            end,
+            choice.pick,
+        )
+    }
+
+    /// The only process that is ready takes turns in a row, no more than this many, by the choices of the plan from the one with
+    /// this number on, and what the last of them makes possible happens. It answers how many turns that were, and TRUE
+    /// only where the run hasn't ended by them. After a refused growth the network is not to be used.
+    #[inline(always)]
+    pub(crate) fn take_row(
+        &mut self,
+        alloc: Global,
+        code: &Code,
+        scratch: &mut Scratch,
+        keyboard: &[u8],
+        plan: &Plan,
+        from: usize,
+        most: u32,
+    ) -> Result<(u32, bool), AllocError>
+        requires alone { StandsAlone code.now keyboard.now self.old from }
+        requires some { 0 < most }
+        requires within { from + most ≤ length (choices_of plan.now) }
+        requires fits { length (choices_of plan.now) < 2 ^ 64 }
+        ensures row { IfOk result
+            (λ row. TakesRow code.now keyboard.now (choices_of plan.now) from row.0 self.old self.new) }
+        ensures some { IfOk result (λ row. (0 < row.0) × (row.0 ≤ most)) }
+        ensures going { IfOk result (λ row. IsTrue row.1 → GoesOn code.now self.new) }
+    {
+        code.compiled();
+        let number = self.ready[0];
+        let Some(body) = code.body(number as usize) else {
+            unreachable!()
+        };
+        let (count, end) = advance_task_row(alloc, body, scratch, &mut self.tasks, number, most)?;
+        let Some(last) = plan.at(from + (count as usize - 1)) else {
+            unreachable!()
+        };
+        let going = self.settle_end(alloc, code, scratch, keyboard, 0, number, end, last.pick)?;
+        Ok((count, going))
+    }
+
+    /// What happens at once where the turn of a process ended so. It is TRUE only where the run hasn't ended by it.
+    #[inline(always)]
+    fn settle_end(
+        &mut self,
+        alloc: Global,
+        code: &Code,
+        scratch: &mut Scratch,
+        keyboard: &[u8],
+        place: usize,
+        number: u32,
+        end: TurnEnd,
+        pick: u32,
+    ) -> Result<bool, AllocError>
+        requires { HasEnded code.now keyboard.now self.old place number end
+            (left_message scratch.old) }
+        ensures turn { OnOk result (SettlesEnd code.now keyboard.now place number end
+            (left_message scratch.old) pick self.old self.new) }
+        ensures going { IfOk result (λ going. IsTrue going → GoesOn code.now self.new) }
+    {
+        code.compiled();
+        match end {
             TurnEnd::Ready => Ok(true),
             TurnEnd::Offers(tag, chan) => {
-                self.settle_offer(alloc, scratch, place, number, chan, tag, choice.pick)?;
+                self.settle_offer(alloc, scratch, place, number, chan, tag, pick)?;
                 Ok(false)
             }
             TurnEnd::Awaits(chan) => {
@@ -44,7 +117,7 @@ impl Tables {
                 Ok(false)
             }
             TurnEnd::Other => {
-                self.settle_wait(alloc, code, keyboard, place, number, choice.pick)?;
+                self.settle_wait(alloc, code, keyboard, place, number, pick)?;
                 Ok(false)
             }
         }

@@ -8,3 +8,4 @@ pub mod Quickly
 pub mod Parted
 mod Opened
 mod Rows
+pub mod Stretching

@@ -1,3 +1,4 @@
 pub mod Turns
 pub mod Doing
 pub mod Opening
+pub mod Stretches

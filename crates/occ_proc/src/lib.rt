@@ -28,4 +28,4 @@ mod values;
 pub use scratch::Scratch;
 pub use segment::{Segment, turn};
 pub use turn_end::TurnEnd;
-pub use turns::{advance, advance_to_end};
+pub use turns::{advance, advance_row, advance_to_end};

@@ -14,7 +14,8 @@ use Rattle.occ_net_replay.proofs.Tables.{same_or_not, set_other, set_same, task_
 use Rattle.occ_net.specs.declared.leasing.Lease.{Lease}
 use Rattle.occ_net.specs.Leases.{LeasesOne}
 use Rattle.occ_net.specs.Networks.{IsNetwork, IsState, Past, first_in, fresh, is_out, leased_at, ready_in, with_out}
-use Rattle.occ_net.specs.Stretches.{AreOwn, InRow, SettlesAll, in_after}
+use Rattle.occ_proc.specs.Stretches.{InRow}
+use Rattle.occ_net.specs.Stretches.{AreOwn, SettlesAll, in_after}
 use Rattle.occ_net.proofs.Stretching.{choices_length}
 use Rattle.occ_net.proofs.Leased.{leased_there, may_turn}
 use Rattle.occ_run.specs.declared.progress.Progress.{Progress}

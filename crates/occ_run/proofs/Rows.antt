@@ -3,7 +3,7 @@ use Rattle.std.proofs.Common.{◌≡◌, ℕ, zero, suc, subst, sym}
 use Rattle.occ_machine.specs.Machine.{Body, Stopping}
 use Rattle.occ_machine.specs.declared.task.Task.{Task}
 use Rattle.occ_machine.specs.declared.task.Wait.TheVariants.{Ready}
-use Rattle.occ_net.specs.Stretches.{InRow, MayFollow}
+use Rattle.occ_proc.specs.Stretches.{InRow, MayFollow}
 
 -- a task that is ready may go on
 pub may_follow : (n : ℕ) (t : Task) → t.wait ≡ Ready → MayFollow n t

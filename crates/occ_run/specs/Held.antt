@@ -11,7 +11,8 @@ use Rattle.occ_net_replay.specs.Replay.{HasTask, Net, may_go}
 use Rattle.occ_net.specs.declared.leasing.Lease.{Lease}
 use Rattle.occ_net.specs.Leases.{CanTakeTurn}
 use Rattle.occ_net.specs.Networks.{IsState, Past, is_out}
-use Rattle.occ_net.specs.Stretches.{CanGoOn, InRow}
+use Rattle.occ_proc.specs.Stretches.{InRow}
+use Rattle.occ_net.specs.Stretches.{CanGoOn}
 use Rattle.occ_run.specs.Gathered.{IsOfRun}
 use Rattle.occ_run.specs.declared.progress.Progress.{Progress}
 use Rattle.occ_run.specs.declared.stretch.Stretch.{Stretch}

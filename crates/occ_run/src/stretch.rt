@@ -2,7 +2,8 @@
 ghost use Rattle.std.specs.Prelude.{◌≡◌, ◌<◌, ◌↔◌, IfErr, IfOk, IsTrue};
 ghost use Rattle.std.specs.Arc.{arc_value};
 ghost use Rattle.occ_net.specs.Leases.{CanTakeTurn};
-ghost use Rattle.occ_net.specs.Stretches.{CanGoOn, InRow};
+ghost use Rattle.occ_proc.specs.Stretches.{InRow};
+ghost use Rattle.occ_net.specs.Stretches.{CanGoOn};
 
 use crate::gate::Gate;
 use occ_machine::{Task, Wait};

@@ -1,6 +1,6 @@
 use Rattle.std.proofs.Common.{◌-◌, ◌<◌}
 use Rattle.std.specs.Arc.{arc_value}
-use Rattle.occ_net.specs.Stretches.{InRow}
+use Rattle.occ_proc.specs.Stretches.{InRow}
 use Rattle.occ_run.proofs.stretch.take_turns.Given as goal
 
 -- so many turns were taken

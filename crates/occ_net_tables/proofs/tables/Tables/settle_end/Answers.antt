@@ -1,0 +1,171 @@
+use Rattle.std.proofs.Common.{◌≡◌, ◌∙◌, ap, refl, subst, sym}
+use Rattle.occ_term.specs.Messages.{message}
+use Rattle.occ_machine.specs.SameStop.{ready_with}
+use Rattle.occ_machine.specs.declared.task.Task.{Task}
+use Rattle.occ_machine.specs.declared.task.Wait.TheVariants as W
+use Rattle.occ_proc.specs.Turns.{IsLeftReady, left_message, standing_at}
+use Rattle.occ_net_replay.specs.Replay.{is_done}
+use Rattle.occ_net_replay.proofs.Tables.{task_once}
+use Rattle.occ_net_tables.specs.Settling.{SettlesTo}
+use Rattle.occ_net_tables.proofs.Between.{goes_on}
+use Rattle.occ_net_tables.proofs.Rowed.{mid_behind, own_place, stays_open, tasks_left, turns_behind}
+use Rattle.occ_net_tables.proofs.Turned.{are_bytes}
+use Rattle.occ_net_tables.proofs.tables.Tables.settle_end.Goals as goal
+
+pub returns-in-Ready-clause-turn : goal.returns-in-Ready-clause-turn
+returns-in-Ready-clause-turn c =
+    let p = c.args.code.now in
+    let kb = c.args.keyboard.now in
+    let n = c.args.self.now in
+    let number = c.args.number in
+    let place = c.args.place in
+    let items = left_message c.args.scratch.now in
+    let bytes = are_bytes kb (λ k. (c.type_inv.keyboard k).fits) in
+    let r = c.requires in
+    λ left there last net choice s t h own pick.
+    let same : r.left ≡ left = task_once n.tasks.items number r.there there in
+    let after : Task = ready_with left (standing_at c.args.end items left.wait) in
+    let waits : after.wait ≡ W.Ready = ap (λ e. standing_at e items left.wait) c.in-Ready.is in
+    let ready : left.wait ≡ W.Ready = subst (λ (z : Task). z.wait ≡ W.Ready) same (subst (λ e. IsLeftReady e r.left.wait) c.in-Ready.is r.ready) in
+    let tasks = tasks_left n number left there ready (standing_at c.args.end items left.wait) in
+    let mid = mid_behind p kb c.compiled.ensures bytes n place number after last s t n tasks net h refl refl refl refl refl refl refl refl in
+    turns_behind p kb c.compiled.ensures bytes n place number after last s t n tasks net h choice (own_place n place number choice.which t.at own) _
+    (goes_on p kb n number place after net mid n choice.pick waits refl refl refl mid.sound mid.sized)
+
+pub returns-in-Ready-clause-going : goal.returns-in-Ready-clause-going
+returns-in-Ready-clause-going c =
+    let p = c.args.code.now in
+    let kb = c.args.keyboard.now in
+    let n = c.args.self.now in
+    let number = c.args.number in
+    let place = c.args.place in
+    let items = left_message c.args.scratch.now in
+    let bytes = are_bytes kb (λ k. (c.type_inv.keyboard k).fits) in
+    let r = c.requires in
+    let after : Task = ready_with r.left (standing_at c.args.end items r.left.wait) in
+    let waits : after.wait ≡ W.Ready = ap (λ e. standing_at e items r.left.wait) c.in-Ready.is in
+    let ready : r.left.wait ≡ W.Ready = subst (λ e. IsLeftReady e r.left.wait) c.in-Ready.is r.ready in
+    let tasks = tasks_left n number r.left r.there ready (standing_at c.args.end items r.left.wait) in
+    let s = r.behind.standing in
+    let mid = mid_behind p kb c.compiled.ensures bytes n place number after r.behind.last s r.behind.turn n tasks s.net s.holds refl refl refl refl refl refl refl refl in
+    λ going. stays_open p kb n place number r.left r.there ready r.behind.last s
+
+pub settle_offer-requires : goal.settle_offer-requires
+settle_offer-requires c =
+    let p = c.args.code.now in
+    let kb = c.args.keyboard.now in
+    let n = c.args.self.now in
+    let number = c.args.number in
+    let place = c.args.place in
+    let items = left_message c.args.scratch.now in
+    let bytes = are_bytes kb (λ k. (c.type_inv.keyboard k).fits) in
+    let r = c.requires in
+    let after : Task = ready_with r.left (standing_at c.args.end items r.left.wait) in
+    let waits : after.wait ≡ W.Offers c.in-Offers.chan (message c.in-Offers.tag items) = ap (λ e. standing_at e items r.left.wait) c.in-Offers.is in
+    let ready : r.left.wait ≡ W.Ready = subst (λ e. IsLeftReady e r.left.wait) c.in-Offers.is r.ready in
+    let tasks = tasks_left n number r.left r.there ready (standing_at c.args.end items r.left.wait) in
+    let s = r.behind.standing in
+    let mid = mid_behind p kb c.compiled.ensures bytes n place number after r.behind.last s r.behind.turn n tasks s.net s.holds refl refl refl refl refl refl refl refl in
+    (p, record { keyboard = kb; after = after; net = s.net; mid = mid; waits = waits })
+
+pub settle_input-requires : goal.settle_input-requires
+settle_input-requires c =
+    let p = c.args.code.now in
+    let kb = c.args.keyboard.now in
+    let n = c.args.self.now in
+    let number = c.args.number in
+    let place = c.args.place in
+    let items = left_message c.args.scratch.now in
+    let bytes = are_bytes kb (λ k. (c.type_inv.keyboard k).fits) in
+    let r = c.requires in
+    let after : Task = ready_with r.left (standing_at c.args.end items r.left.wait) in
+    let waits : after.wait ≡ W.Awaits c.in-Awaits.chan = ap (λ e. standing_at e items r.left.wait) c.in-Awaits.is in
+    let ready : r.left.wait ≡ W.Ready = subst (λ e. IsLeftReady e r.left.wait) c.in-Awaits.is r.ready in
+    let tasks = tasks_left n number r.left r.there ready (standing_at c.args.end items r.left.wait) in
+    let s = r.behind.standing in
+    let mid = mid_behind p kb c.compiled.ensures bytes n place number after r.behind.last s r.behind.turn n tasks s.net s.holds refl refl refl refl refl refl refl refl in
+    (p, record { keyboard = kb; after = after; net = s.net; mid = mid; waits = waits })
+
+pub settle_wait-requires : goal.settle_wait-requires
+settle_wait-requires c =
+    let p = c.args.code.now in
+    let kb = c.args.keyboard.now in
+    let n = c.args.self.now in
+    let number = c.args.number in
+    let place = c.args.place in
+    let items = left_message c.args.scratch.now in
+    let bytes = are_bytes kb (λ k. (c.type_inv.keyboard k).fits) in
+    let r = c.requires in
+    let after : Task = ready_with r.left (standing_at c.args.end items r.left.wait) in
+    let waits : after.wait ≡ r.left.wait = ap (λ e. standing_at e items r.left.wait) c.in-Other.is in
+    let s = r.behind.standing in
+    record {
+      task = r.left;
+      there = r.there;
+      mid = λ between left.
+          record {
+            keyboard = kb;
+            after = after;
+            net = s.net;
+            mid = mid_behind p kb c.compiled.ensures bytes n place number after r.behind.last s r.behind.turn between left.tasks s.net s.holds left.ready left.offering left.awaiting left.parents left.unfinished left.fault left.used left.trace;
+            waits = waits;
+          };
+    }
+
+pub returns-in_ok-settle_offer-in-Offers-clause-turn : goal.returns-in_ok-settle_offer-in-Offers-clause-turn
+returns-in_ok-settle_offer-in-Offers-clause-turn c =
+    let p = c.args.code.now in
+    let kb = c.args.keyboard.now in
+    let n = c.args.self.now in
+    let number = c.args.number in
+    let place = c.args.place in
+    let items = left_message c.args.scratch.now in
+    let bytes = are_bytes kb (λ k. (c.type_inv.keyboard k).fits) in
+    let r = c.requires in
+    λ left there last net choice s t h own pick.
+    let same : r.left ≡ left = task_once n.tasks.items number r.there there in
+    let after : Task = ready_with left (standing_at c.args.end items left.wait) in
+    let waits : after.wait ≡ W.Offers c.in-Offers.chan (message c.in-Offers.tag items) = ap (λ e. standing_at e items left.wait) c.in-Offers.is in
+    let ready : left.wait ≡ W.Ready = subst (λ (z : Task). z.wait ≡ W.Ready) same (subst (λ e. IsLeftReady e r.left.wait) c.in-Offers.is r.ready) in
+    let tasks = tasks_left n number left there ready (standing_at c.args.end items left.wait) in
+    let mid = mid_behind p kb c.compiled.ensures bytes n place number after last s t n tasks net h refl refl refl refl refl refl refl refl in
+    turns_behind p kb c.compiled.ensures bytes n place number after last s t n tasks net h choice (own_place n place number choice.which t.at own) _
+    (subst (λ k. SettlesTo p kb k number after net c.settle_offer.new.self) pick (c.in_ok-settle_offer-in-Offers.ensures p kb after net mid waits))
+
+pub returns-in_ok-settle_input-in-Awaits-clause-turn : goal.returns-in_ok-settle_input-in-Awaits-clause-turn
+returns-in_ok-settle_input-in-Awaits-clause-turn c =
+    let p = c.args.code.now in
+    let kb = c.args.keyboard.now in
+    let n = c.args.self.now in
+    let number = c.args.number in
+    let place = c.args.place in
+    let items = left_message c.args.scratch.now in
+    let bytes = are_bytes kb (λ k. (c.type_inv.keyboard k).fits) in
+    let r = c.requires in
+    λ left there last net choice s t h own pick.
+    let same : r.left ≡ left = task_once n.tasks.items number r.there there in
+    let after : Task = ready_with left (standing_at c.args.end items left.wait) in
+    let waits : after.wait ≡ W.Awaits c.in-Awaits.chan = ap (λ e. standing_at e items left.wait) c.in-Awaits.is in
+    let ready : left.wait ≡ W.Ready = subst (λ (z : Task). z.wait ≡ W.Ready) same (subst (λ e. IsLeftReady e r.left.wait) c.in-Awaits.is r.ready) in
+    let tasks = tasks_left n number left there ready (standing_at c.args.end items left.wait) in
+    let mid = mid_behind p kb c.compiled.ensures bytes n place number after last s t n tasks net h refl refl refl refl refl refl refl refl in
+    turns_behind p kb c.compiled.ensures bytes n place number after last s t n tasks net h choice (own_place n place number choice.which t.at own) _
+    (c.in_ok-settle_input-in-Awaits.ensures p choice.pick after net mid waits)
+
+pub returns-in_ok-settle_wait-in-Other-clause-turn : goal.returns-in_ok-settle_wait-in-Other-clause-turn
+returns-in_ok-settle_wait-in-Other-clause-turn c =
+    let p = c.args.code.now in
+    let kb = c.args.keyboard.now in
+    let n = c.args.self.now in
+    let number = c.args.number in
+    let place = c.args.place in
+    let items = left_message c.args.scratch.now in
+    let bytes = are_bytes kb (λ k. (c.type_inv.keyboard k).fits) in
+    λ left there last net choice s t h own pick.
+    let after : Task = ready_with left (standing_at c.args.end items left.wait) in
+    let waits : after.wait ≡ left.wait = ap (λ e. standing_at e items left.wait) c.in-Other.is in
+    let x = c.in_ok-settle_wait-in-Other.ensures left there in
+    let l = x.left in
+    let mid = mid_behind p kb c.compiled.ensures bytes n place number after last s t x.between l.tasks net h l.ready l.offering l.awaiting l.parents l.unfinished l.fault l.used l.trace in
+    turns_behind p kb c.compiled.ensures bytes n place number after last s t x.between l.tasks net h choice (own_place n place number choice.which t.at own) _
+    (subst (λ k. SettlesTo p kb k number after net c.settle_wait.new.self) pick (x.settles after net mid waits))
