@@ -23,7 +23,7 @@ use Rattle.occ_net_tables.specs.Endings.{GoesOn}
 use Rattle.occ_net_tables.specs.Holding.{Holds}
 use Rattle.occ_net_tables.specs.Places.{Placed, all_kept, kept_by, one_placed, placed_among}
 use Rattle.occ_net_tables.specs.Room.{AreSame}
-use Rattle.occ_net_tables.specs.Rows.{CanRunRow, HasEnded, RowTurnsTo, SettlesEnd, StandsAlone, TurnsFrom, kept_more}
+use Rattle.occ_net_tables.specs.Rows.{CanRunRow, HasTakenTurn, RowTurnsTo, SettlesEnd, StandsAlone, TurnsFrom, kept_more}
 use Rattle.occ_net_tables.specs.Running.{HasRun}
 use Rattle.occ_net_tables.specs.Settling.{IsTurnAt, Mid, SettlesTo, Standing, StandsBehind, TurnsTo, tables_with}
 use Rattle.occ_net_tables.specs.Tasks.{Advanced}
@@ -244,7 +244,7 @@ module _ (p : Program) (kb : List ℕ) (n : Tables) (place number : ℕ) (first 
     turn_last : IsTurnAt p (tables_with mid number last) place number (ready_with left (standing_at end items left.wait))
     turn_last = turn_as p (tables_with n number last) (tables_with mid number last) place number (ready_with left (standing_at end items left.wait)) (same_behind last) t
 
-    pub has_ended : IsLeftReady end left.wait → HasEnded p kb mid place number end items
+    pub has_ended : IsLeftReady end left.wait → HasTakenTurn p kb mid place number end items
     has_ended ready = record { left = left; there = left_there; ready = ready; behind = record { first = left; there = left_there; last = last; standing = standing_last; turn = turn_last } }
 
     -- by any choice that selects its place

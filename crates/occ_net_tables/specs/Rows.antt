@@ -39,7 +39,7 @@ abbrev pub EndsRow : {A : Type 0} → Body → (old : Vec (Option Task) A) → �
 EndsRow body old n scratch new row = (t : Task) → HasTask old.items n t → RowEndedBy body old.items n t row.0 row.1 (left_message scratch) new.items
 
 -- The process at this place took a turn that ended so and left these items of a message. Its task is here as the turn left it.
-pub record HasEnded (p : Program) (keyboard : List ℕ) (n : Tables) (place number : ℕ) (end : TurnEnd) (items : List Part) : Type 0 where
+pub record HasTakenTurn (p : Program) (keyboard : List ℕ) (n : Tables) (place number : ℕ) (end : TurnEnd) (items : List Part) : Type 0 where
   pub left : Task
   pub there : HasTask n.tasks.items number left
   pub ready : IsLeftReady end left.wait

@@ -108,7 +108,7 @@ fn run_row(
 {
     let from = kept.len();
     let most = (plan.len() - from).min(MOST_IN_ROW) as u32;
-    let (count, going) = tables.take_row(alloc, code, scratch, keyboard, plan, from, most)?;
+    let (count, going) = tables.take_turns(alloc, code, scratch, keyboard, plan, from, most)?;
     keep_row(plan, count, keep, kept)?;
     Ok(going)
 }
@@ -120,14 +120,14 @@ fn keep_row(plan: &Plan, count: u32, keep: Keep, kept: &mut Vec<Choice>) -> Resu
         (KeepsRow keep (choices_of plan.now) count kept.old.items kept.new.items) }
 {
     for _more in 0..count {
-        let Some(choice) = plan.at(kept.len()) else {
+        let Some(given) = plan.at(kept.len()) else {
             unreachable!()
         };
         let placed = Choice {
             which: 0,
-            pick: choice.pick,
+            pick: given.pick,
         };
-        kept.push(kept_choice(choice, placed, keep))?;
+        kept.push(kept_choice(given, placed, keep))?;
     }
     Ok(())
 }

@@ -3,7 +3,7 @@ ghost use Rattle.std.specs.Prelude.{◌+◌, ◌<◌, ◌≤◌, ◌^◌, IfOk, 
 ghost use Rattle.occ_choices.specs.Plans.{choices_of};
 ghost use Rattle.occ_proc.specs.Turns.{left_message};
 ghost use Rattle.occ_net_tables.specs.Endings.{GoesOn};
-ghost use Rattle.occ_net_tables.specs.Rows.{HasEnded, SettlesEnd, StandsAlone, TakesRow};
+ghost use Rattle.occ_net_tables.specs.Rows.{HasTakenTurn, SettlesEnd, StandsAlone, TakesRow};
 ghost use Rattle.occ_net_tables.specs.Settling.{HasMid, HasSomeMid, HasStopped, Settles, SettlesBy, SettlesOn, SettlesWait, Standing, TakesTurn, offer_left};
 
 use crate::ready::place_among;
@@ -54,7 +54,7 @@ impl Tables {
     /// this number on, and what the last of them makes possible happens. It answers how many turns that were, and TRUE
     /// only where the run hasn't ended by them. After a refused growth the network is not to be used.
     #[inline(always)]
-    pub(crate) fn take_row(
+    pub(crate) fn take_turns(
         &mut self,
         alloc: Global,
         code: &Code,
@@ -99,7 +99,7 @@ impl Tables {
         end: TurnEnd,
         pick: u32,
     ) -> Result<bool, AllocError>
-        requires { HasEnded code.now keyboard.now self.old place number end
+        requires { HasTakenTurn code.now keyboard.now self.old place number end
             (left_message scratch.old) }
         ensures turn { OnOk result (SettlesEnd code.now keyboard.now place number end
             (left_message scratch.old) pick self.old self.new) }

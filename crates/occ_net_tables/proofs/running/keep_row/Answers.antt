@@ -21,7 +21,7 @@ pub loop-more-preserved : goal.loop-more-preserved
 loop-more-preserved c = λ ready one.
     let list = choices_of c.args.plan.now in
     let old = c.args.kept.now.items in
-    let choice = c.in-Some.choice in
+    let choice = c.in-Some.given in
     let long = ap length (c.loop-more.invariant ready one) ∙ kept_length c.args.keep ready list old (length old) c.loop-more._more in
     let place : length old + c.loop-more._more ≡ c.len.result = sym (c.len.ensures ∙ c.loop-more.kept.ok.0 ∙ long) in
     let at : slice_get list (length old + c.loop-more._more) ≡ Some choice = ap (slice_get list) place ∙ sym c.at.ensures ∙ c.in-Some.is in

@@ -4,8 +4,8 @@ use Rattle.occ_net_tables.specs.Rows.{RowTurnsTo, StandsAlone}
 use Rattle.occ_net_tables.proofs.Rowed.{kept_length, row_run, stands_alone}
 use Rattle.occ_net_tables.proofs.running.run_row.Goals as goal
 
-pub take_row-requires-clause-alone : goal.take_row-requires-clause-alone
-take_row-requires-clause-alone c =
+pub take_turns-requires-clause-alone : goal.take_turns-requires-clause-alone
+take_turns-requires-clause-alone c =
     let kept = c.args.kept.now.items in
     let list = choices_of c.args.plan.now in
     let from : length kept ≡ c.len-from.result = sym (c.len-from.ensures ∙ c.args.kept.now.ok.0) in
@@ -23,8 +23,8 @@ returns-clause-run c =
     let h = c.requires.run.run in
     let from : c.len-from.result ≡ length kept = c.len-from.ensures ∙ c.args.kept.now.ok.0 in
     let row = c.in_ok-count.ensures.row h.net h.holds in
-    let turns = subst (λ (k : ℕ). RowTurnsTo p kb n.ready.items list k h.net c.in_ok-count.count c.take_row.new.self) from row in
-    row_run p kb c.args.keep list kept n.ready.items n c.take_row.new.self h c.in_ok-count.count turns c.keep_row.new.kept.items (c.in_ok-keep_row.ensures n.ready.items c.requires.run.alone)
+    let turns = subst (λ (k : ℕ). RowTurnsTo p kb n.ready.items list k h.net c.in_ok-count.count c.take_turns.new.self) from row in
+    row_run p kb c.args.keep list kept n.ready.items n c.take_turns.new.self h c.in_ok-count.count turns c.keep_row.new.kept.items (c.in_ok-keep_row.ensures n.ready.items c.requires.run.alone)
 
 pub returns-clause-more : goal.returns-clause-more
 returns-clause-more c =

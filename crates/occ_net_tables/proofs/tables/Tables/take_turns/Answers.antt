@@ -9,7 +9,7 @@ use Rattle.occ_net_tables.proofs.OneChange.{get_some}
 use Rattle.occ_net_tables.proofs.Branches.{has_body}
 use Rattle.occ_net_tables.proofs.Rowed.{can_take_row, has_ended, last_of, leads, only_place, row_turns, turn_of, turns_last}
 use Rattle.occ_net_tables.proofs.Turned.{are_bytes, body_small, chosen, number_small, read_at}
-use Rattle.occ_net_tables.proofs.tables.Tables.take_row.Goals as goal
+use Rattle.occ_net_tables.proofs.tables.Tables.take_turns.Goals as goal
 
 pub unreachable-requires : goal.unreachable-requires
 unreachable-requires c =
