@@ -15,7 +15,7 @@ use Rattle.occ_proc.specs.Turns.{IsLeftReady, standing_at}
 use Rattle.occ_proc.specs.declared.turn_end.TurnEnd.{TurnEnd}
 use Rattle.occ_net_replay.specs.declared.choice.Choice.{Choice}
 use Rattle.occ_net_replay.specs.Following.{AreBytes}
-use Rattle.occ_net_replay.specs.Replay.{HasTask, Net, Replays, Tasks, ending_of, goes_on, is_done, made_ready, may_go, ready_from}
+use Rattle.occ_net_replay.specs.Replay.{HasTask, Net, Tasks, ending_of, goes_on, is_done, made_ready, may_go, ready_from}
 use Rattle.occ_net_replay.proofs.Tables.{set_same, task_once}
 use Rattle.occ_net_tables.specs.declared.running.Keep.{Keep}
 use Rattle.occ_net_tables.specs.declared.tables.Tables.{Tables}
@@ -25,7 +25,7 @@ use Rattle.occ_net_tables.specs.Places.{Placed, all_kept, kept_by, one_placed, p
 use Rattle.occ_net_tables.specs.Room.{AreSame}
 use Rattle.occ_net_tables.specs.Rows.{CanRunRow, HasTakenTurn, RowTurnsTo, SettlesEnd, StandsAlone, TurnsFrom, kept_more}
 use Rattle.occ_net_tables.specs.Running.{HasRun}
-use Rattle.occ_net_tables.specs.Settling.{IsTurnAt, Mid, SettlesTo, Standing, StandsBehind, TurnsTo, tables_with}
+use Rattle.occ_net_tables.specs.Settling.{IsTurnAt, Mid, SettlesTo, Standing, TurnsTo, tables_with}
 use Rattle.occ_net_tables.specs.Tasks.{Advanced}
 use Rattle.occ_net_tables.proofs.Between as between
 use Rattle.occ_net_tables.proofs.OneChange.{get_some, set_twice}

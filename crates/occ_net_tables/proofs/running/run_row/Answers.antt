@@ -1,4 +1,4 @@
-use Rattle.std.proofs.Common.{◌≡◌, ◌∙◌, ◌+◌, ◌^◌, ◌<◌, ◌≤◌, ℕ, length, subst, sym, ap, rules, arith}
+use Rattle.std.proofs.Common.{◌≡◌, ◌∙◌, ◌^◌, ◌<◌, ℕ, length, subst, sym, ap, rules, arith}
 use Rattle.occ_choices.specs.Plans.{choices_of}
 use Rattle.occ_net_tables.specs.Rows.{RowTurnsTo, StandsAlone}
 use Rattle.occ_net_tables.proofs.Rowed.{kept_length, row_run, stands_alone}
