@@ -322,10 +322,9 @@ pub only_placed : (ready : List ℕ) (choice : Choice) → length ready ≡ 1 �
 only_placed ready choice one = ap (λ (k : ℕ). record choice { which = k }) (sym (ap (λ (k : ℕ). choice.which % k) one ∙ mod-one choice.which))
 
 -- where a run can go on so
-pub stands_alone : (p : Program) (kb : List ℕ) (keep : Keep) (list kept : List Choice) (n : Tables) → CanRunRow p kb keep list kept n → length list < 2 ^ 64 → StandsAlone p kb n (length kept)
-stands_alone p kb keep list kept n r few =
+pub stands_alone : (p : Program) (kb : List ℕ) (keep : Keep) (list kept : List Choice) (n : Tables) → CanRunRow p kb keep list kept n → length kept < length list → length list < 2 ^ 64 → StandsAlone p kb n (length kept)
+stands_alone p kb keep list kept n r more few =
     let long = taken_short list (length kept) in
-    let more = r.more in
     record {
       standing = record { choices = take (length kept) list; few = omega (arith, long, more, few); net = r.run.net; replays = placed_replays p kb r.run.placed; open_end = r.going kb r.run.net r.run.holds; holds = r.run.holds };
       few = long;
