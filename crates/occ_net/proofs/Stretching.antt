@@ -1,25 +1,19 @@
 -- Where turns in a row lead.
-use Rattle.std.proofs.Common.{◌≡◌, ◌∙◌, refl, sym, ap, subst, Bool, false, IsTrue, ℕ, zero, suc, ◌+◌, ◌%◌, ◌<◌, ◌^◌, inl, inr, List, [], ◌∷◌, ◌++◌, Some, None, length, arith, length-append}
+use Rattle.std.proofs.Common.{◌≡◌, ◌∙◌, refl, sym, ap, subst, Bool, false, IsTrue, ℕ, zero, suc, ◌+◌, ◌<◌, ◌^◌, inl, inr, List, [], ◌∷◌, Some, None, length, arith, length-append}
 use Rattle.std.specs.Arc.{arc_value}
 use Rattle.std.specs.Prelude.{slice_get, slice_set}
 use Rattle.std.proofs.lemmas.Bool.{cases_lt}
-use Rattle.std.proofs.lemmas.Option.{slice_get_within}
-use Rattle.std.proofs.Math.Nat.{mod-eq_of_lt}
 use Rattle.occ_machine.specs.Compiled.{IsCompiled}
 use Rattle.occ_machine.specs.Machine.{Body, Stopping}
 use Rattle.occ_machine.specs.declared.task.Task.{Task}
-use Rattle.occ_machine.specs.declared.task.Wait.{Wait}
 use Rattle.occ_machine.specs.declared.task.Wait.TheVariants as W
 use Rattle.occ_proc.specs.Stretches.{CanTake, InRow, MayFollow}
 use Rattle.occ_net_replay.specs.declared.choice.Choice.{Choice}
-use Rattle.occ_net_replay.specs.Following.{AreBytes}
-use Rattle.occ_net_replay.specs.Replay.{HasTask, Net, Tasks, ending_of, is_done, made_ready, may_go, ready_from}
-use Rattle.occ_net_replay.proofs.Tables.{set_same, task_once}
+use Rattle.occ_net_replay.specs.Replay.{HasTask, Net, Tasks, ending_of, may_go, ready_from}
+use Rattle.occ_net_replay.proofs.Tables.{task_once}
 use Rattle.occ_net_tables.specs.declared.tables.Tables.{Tables}
 use Rattle.occ_net_tables.specs.Holding.{Holds}
-use Rattle.occ_net_tables.specs.Room.{AreSame}
-use Rattle.occ_net_tables.specs.Settling.{IsTurnAt, Standing, StandsBehind, TurnsBehind, TurnsTo, tables_with}
-use Rattle.occ_net_tables.specs.Tasks.{Advanced}
+use Rattle.occ_net_tables.specs.Settling.{IsTurnAt, Standing, StandsBehind, TurnsBehind, tables_with}
 use Rattle.occ_net_tables.proofs.OneChange.{set_twice}
 use Rattle.occ_net_tables.proofs.Placing.{placed_replays}
 use Rattle.occ_net_tables.proofs.Roomy.{holds_as, same_with}
@@ -30,7 +24,7 @@ use Rattle.occ_net.specs.Networks.{IsState, Past, leased, ready_in}
 use Rattle.occ_net.specs.Settling.{IsAmong}
 use Rattle.occ_net.specs.Stretches.{CanGoOn, SettlesAll, TakesAll, after_turns, choices_from, in_after}
 use Rattle.occ_net.specs.declared.leasing.Lease.{Lease}
-use Rattle.occ_net.proofs.Leased.{IsGoing, leased_there, may_turn, turn_counts, turn_stops}
+use Rattle.occ_net.proofs.Leased.{IsGoing, leased_there, may_turn}
 use Rattle.occ_net.proofs.Ready.{among_ready, turn_may}
 use Rattle.occ_net.proofs.States.{kept_turn, one_state, stands, with_turn}
 

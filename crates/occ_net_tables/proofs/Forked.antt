@@ -1,5 +1,5 @@
 -- A fork: the branches begin, and their process waits for their end.
-use Rattle.std.proofs.Common.{◌≡◌, ◌∙◌, refl, sym, ap, subst, Bool, true, false, IsTrue, ℕ, ◌<◌, ◌⊎◌, inl, inr, List, Option, Some, None, length, map, drop, arith}
+use Rattle.std.proofs.Common.{◌≡◌, ◌∙◌, refl, sym, ap, subst, Bool, true, false, IsTrue, ℕ, ◌<◌, ◌⊎◌, inl, inr, List, Option, Some, None, length, drop, arith}
 use Rattle.std.specs.Prelude.{slice_get, slice_set, remove}
 use Rattle.std.specs.Option.{option_map_or}
 use Rattle.std.proofs.lemmas.Option.{slice_get_within}

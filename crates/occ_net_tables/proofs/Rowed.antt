@@ -15,7 +15,7 @@ use Rattle.occ_proc.specs.Turns.{IsLeftReady, standing_at}
 use Rattle.occ_proc.specs.declared.turn_end.TurnEnd.{TurnEnd}
 use Rattle.occ_net_replay.specs.declared.choice.Choice.{Choice}
 use Rattle.occ_net_replay.specs.Following.{AreBytes}
-use Rattle.occ_net_replay.specs.Replay.{HasTask, Net, Replays, Tasks, ending_of, goes_on, is_done, made_ready, may_go, ready_from}
+use Rattle.occ_net_replay.specs.Replay.{HasTask, Net, Tasks, ending_of, goes_on, is_done, made_ready, may_go, ready_from}
 use Rattle.occ_net_replay.proofs.Tables.{set_same, task_once}
 use Rattle.occ_net_tables.specs.declared.running.Keep.{Keep}
 use Rattle.occ_net_tables.specs.declared.tables.Tables.{Tables}
@@ -25,7 +25,7 @@ use Rattle.occ_net_tables.specs.Places.{Placed, all_kept, kept_by, one_placed, p
 use Rattle.occ_net_tables.specs.Room.{AreSame}
 use Rattle.occ_net_tables.specs.Rows.{CanRunRow, HasTakenTurn, RowTurnsTo, SettlesEnd, StandsAlone, TurnsFrom, kept_more}
 use Rattle.occ_net_tables.specs.Running.{HasRun}
-use Rattle.occ_net_tables.specs.Settling.{IsTurnAt, Mid, SettlesTo, Standing, StandsBehind, TurnsTo, tables_with}
+use Rattle.occ_net_tables.specs.Settling.{IsTurnAt, Mid, SettlesTo, Standing, TurnsTo, tables_with}
 use Rattle.occ_net_tables.specs.Tasks.{Advanced}
 use Rattle.occ_net_tables.proofs.Between as between
 use Rattle.occ_net_tables.proofs.OneChange.{get_some, set_twice}
@@ -322,10 +322,9 @@ pub only_placed : (ready : List ℕ) (choice : Choice) → length ready ≡ 1 �
 only_placed ready choice one = ap (λ (k : ℕ). record choice { which = k }) (sym (ap (λ (k : ℕ). choice.which % k) one ∙ mod-one choice.which))
 
 -- where a run can go on so
-pub stands_alone : (p : Program) (kb : List ℕ) (keep : Keep) (list kept : List Choice) (n : Tables) → CanRunRow p kb keep list kept n → length list < 2 ^ 64 → StandsAlone p kb n (length kept)
-stands_alone p kb keep list kept n r few =
+pub stands_alone : (p : Program) (kb : List ℕ) (keep : Keep) (list kept : List Choice) (n : Tables) → CanRunRow p kb keep list kept n → length kept < length list → length list < 2 ^ 64 → StandsAlone p kb n (length kept)
+stands_alone p kb keep list kept n r more few =
     let long = taken_short list (length kept) in
-    let more = r.more in
     record {
       standing = record { choices = take (length kept) list; few = omega (arith, long, more, few); net = r.run.net; replays = placed_replays p kb r.run.placed; open_end = r.going kb r.run.net r.run.holds; holds = r.run.holds };
       few = long;

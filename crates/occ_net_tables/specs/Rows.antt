@@ -92,9 +92,8 @@ kept_more keep ready list from kept (suc n) = kept_more keep ready list from kep
 abbrev pub KeepsRow : Keep → List Choice → (count : ℕ) → (old new : List Choice) → Type 0
 KeepsRow keep list count old new = (ready : List ℕ) → length ready ≡ 1 → new ≡ kept_more keep ready list (length old) old count
 
--- the first choices of the list, as many as were kept, are used, and there are more; the run goes on, and one process alone is ready
+-- the first choices of the list, as many as were kept, are used; the run goes on, and one process alone is ready
 pub record CanRunRow (p : Program) (keyboard : List ℕ) (keep : Keep) (list kept : List Choice) (n : Tables) : Type 0 where
   pub run : HasRun p keyboard keep (take (length kept) list) kept n
   pub going : GoesOn p n
-  pub more : length kept < length list
   pub alone : length n.ready.items ≡ 1

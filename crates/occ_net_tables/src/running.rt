@@ -86,7 +86,7 @@ fn ending_now(tables: &Tables, code: &Code, going: bool) -> Option<Ending>
     tables.ending(code.errors())
 }
 
-/// The only process that is ready takes turns in a row, each by the next choice of the plan. It is TRUE only where the run
+/// The only process that is ready takes turns in a row, each by the next choice of the plan, if there is one. It is TRUE only where the run
 /// hasn't ended by them.
 #[inline(never)]
 fn run_row(
@@ -103,11 +103,15 @@ fn run_row(
         tables.old }
     ensures run { OnOk result (HasRun code.now keyboard.now keep
         (take (length kept.new.items) (choices_of plan.now)) kept.new.items tables.new) }
-    ensures more { OnOk result (length kept.old.items < length kept.new.items) }
+    ensures more { OnOk result (length kept.old.items ≤ length kept.new.items) }
     ensures going { IfOk result (λ going. IsTrue going → GoesOn code.now tables.new) }
 {
     let from = kept.len();
-    let most = (plan.len() - from).min(MOST_IN_ROW) as u32;
+    let all = plan.len();
+    if from >= all {
+        return Ok(true);
+    }
+    let most = (all - from).min(MOST_IN_ROW) as u32;
     let (count, going) = tables.take_turns(alloc, code, scratch, keyboard, plan, from, most)?;
     keep_row(plan, count, keep, kept)?;
     Ok(going)
@@ -151,19 +155,6 @@ pub fn run_tables(
     let mut kept = Vec::new(alloc);
     let mut going = false;
     loop {
-        if going && tables.ready().len() == 1 && kept.len() < plan.len() {
-            going = run_row(
-                alloc,
-                code,
-                &mut scratch,
-                keyboard,
-                plan,
-                keep,
-                &mut tables,
-                &mut kept,
-            )?;
-            continue;
-        }
         if let Some(ending) = ending_now(&tables, code, going) {
             return Ok(Ran {
                 ending,
@@ -182,6 +173,20 @@ pub fn run_tables(
         let placed = placed_choice(tables.ready(), choice);
         going = tables.take_turn(alloc, code, &mut scratch, keyboard, placed)?;
         kept.push(kept_choice(choice, placed, keep))?;
+        // Each choice selects the only process that is ready.
+        if !going || tables.ready().len() != 1 {
+            continue;
+        }
+        going = run_row(
+            alloc,
+            code,
+            &mut scratch,
+            keyboard,
+            plan,
+            keep,
+            &mut tables,
+            &mut kept,
+        )?;
     }
 }
 

@@ -68,8 +68,8 @@ impl Tables {
         requires some { 0 < most }
         requires within { from + most ≤ length (choices_of plan.now) }
         requires fits { length (choices_of plan.now) < 2 ^ 64 }
-        ensures row { IfOk result
-            (λ row. TakesRow code.now keyboard.now (choices_of plan.now) from row.0 self.old self.new) }
+        ensures row { IfOk result (λ row. TakesRow code.now keyboard.now (choices_of plan.now) from
+            row.0 self.old self.new) }
         ensures some { IfOk result (λ row. (0 < row.0) × (row.0 ≤ most)) }
         ensures going { IfOk result (λ row. IsTrue row.1 → GoesOn code.now self.new) }
     {

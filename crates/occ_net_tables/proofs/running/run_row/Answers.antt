@@ -1,4 +1,4 @@
-use Rattle.std.proofs.Common.{◌≡◌, ◌∙◌, ◌+◌, ◌^◌, ◌<◌, ◌≤◌, ℕ, length, subst, sym, ap, rules, arith}
+use Rattle.std.proofs.Common.{◌≡◌, ◌∙◌, ◌^◌, ◌<◌, ℕ, length, subst, sym, ap, rules, arith}
 use Rattle.occ_choices.specs.Plans.{choices_of}
 use Rattle.occ_net_tables.specs.Rows.{RowTurnsTo, StandsAlone}
 use Rattle.occ_net_tables.proofs.Rowed.{kept_length, row_run, stands_alone}
@@ -9,9 +9,10 @@ take_turns-requires-clause-alone c =
     let kept = c.args.kept.now.items in
     let list = choices_of c.args.plan.now in
     let from : length kept ≡ c.len-from.result = sym (c.len-from.ensures ∙ c.args.kept.now.ok.0) in
-    let small : c.len.result < 2 ^ 64 = search rules in
-    let fits : length list < 2 ^ 64 = omega (arith, small, c.len.ensures) in
-    subst (StandsAlone c.args.code.now c.args.keyboard.now c.args.tables.now) from (stands_alone c.args.code.now c.args.keyboard.now c.args.keep list kept c.args.tables.now c.requires.run fits)
+    let small : c.len-all.result < 2 ^ 64 = search rules in
+    let more : length kept < length list = omega (arith, from, c.if-from-all.false, c.len-all.ensures) in
+    let fits : length list < 2 ^ 64 = omega (arith, small, c.len-all.ensures) in
+    subst (StandsAlone c.args.code.now c.args.keyboard.now c.args.tables.now) from (stands_alone c.args.code.now c.args.keyboard.now c.args.keep list kept c.args.tables.now c.requires.run more fits)
 
 pub returns-clause-run : goal.returns-clause-run
 returns-clause-run c =

@@ -12,8 +12,8 @@ use Rattle.occ_net_tables.proofs.Placing.{turns_by_number}
 use Rattle.occ_net_tables.proofs.Rerun.{starts, stands, next_run, run_is, begins_taken, all_taken, taken_short, some_ready_in}
 use Rattle.occ_net_tables.proofs.running.run_tables.Goals as goal
 
-pub loop-going-init : goal.loop-going-init
-loop-going-init c =
+pub loop-ending-init : goal.loop-ending-init
+loop-ending-init c =
     record {
       run = subst (λ cs. HasRun c.args.code.now c.args.keyboard.now c.args.keep (take (length cs) (choices_of c.args.plan.now)) cs c.in_ok-tables.tables) (sym c.new-kept.ensures.items)
           (starts c.args.code.now c.args.keyboard.now c.args.keep c.in_ok-tables.tables c.in_ok-tables.ensures);
@@ -21,77 +21,94 @@ loop-going-init c =
     }
 
 pub ending_now-requires : goal.ending_now-requires
-ending_now-requires c = c.loop-going.invariant.open_end
+ending_now-requires c = c.loop-ending.invariant.open_end
 
 pub placed_choice-placed-requires : goal.placed_choice-placed-requires
 placed_choice-placed-requires c =
-    let h = c.loop-going.invariant.run in
+    let h = c.loop-ending.invariant.run in
     let going : ending_of c.args.code.now.errors h.net ≡ None = sym (c.ending_now.ensures c.args.keyboard.now h.net h.holds) ∙ c.in_default.is in
-    let same = c.ready-in-loop-going.ensures c.args.code.now c.args.keyboard.now h.net h.holds in
+    let same = c.ready.ensures c.args.code.now c.args.keyboard.now h.net h.holds in
     omega (arith, some_ready_in c.args.code.now.errors h.net going, ap length same)
 
 pub take_turn-requires : goal.take_turn-requires
 take_turn-requires c =
-    let h = c.loop-going.invariant.run in
-    let small : 1 + length c.loop-going.kept.items < 2 ^ 64 = search rules in
-    let fewer : 1 + length (take (length c.loop-going.kept.items) (choices_of c.args.plan.now)) < 2 ^ 64 = omega (arith, small, taken_short (choices_of c.args.plan.now) (length c.loop-going.kept.items)) in
+    let h = c.loop-ending.invariant.run in
+    let small : 1 + length c.loop-ending.kept.items < 2 ^ 64 = search rules in
+    let fewer : 1 + length (take (length c.loop-ending.kept.items) (choices_of c.args.plan.now)) < 2 ^ 64 = omega (arith, small, taken_short (choices_of c.args.plan.now) (length c.loop-ending.kept.items)) in
     let going : ending_of c.args.code.now.errors h.net ≡ None = sym (c.ending_now.ensures c.args.keyboard.now h.net h.holds) ∙ c.in_default.is in
-    stands c.args.code.now c.args.keyboard.now c.args.keep (take (length c.loop-going.kept.items) (choices_of c.args.plan.now)) c.loop-going.kept.items c.loop-going.tables fewer h going
+    stands c.args.code.now c.args.keyboard.now c.args.keep (take (length c.loop-ending.kept.items) (choices_of c.args.plan.now)) c.loop-ending.kept.items c.loop-ending.tables fewer h going
 
-pub loop-going-smaller : goal.loop-going-smaller
-loop-going-smaller c =
+pub loop-ending-smaller-then-not-going : goal.loop-ending-smaller-then-not-going
+loop-ending-smaller-then-not-going c =
     let at = sym c.at.ensures ∙ c.in-Some-at.is in
-    let there : c.len-in-loop-going.result < length (choices_of c.args.plan.now) = slice_get_within _ _ _ at in
-    let count : c.len-in-loop-going.result ≡ length c.loop-going.kept.items = c.len-in-loop-going.ensures ∙ c.loop-going.kept.ok.0 in
-    let grown : length c.push.new.self.items ≡ length c.loop-going.kept.items + 1 = ap length c.in_ok-push.ensures.items ∙ length-append c.loop-going.kept.items _ in
-    let less : length (choices_of c.args.plan.now) - length c.push.new.self.items < length (choices_of c.args.plan.now) - length c.loop-going.kept.items = omega (arith, there, count, grown) in
+    let there : c.len.result < length (choices_of c.args.plan.now) = slice_get_within _ _ _ at in
+    let count : c.len.result ≡ length c.loop-ending.kept.items = c.len.ensures ∙ c.loop-ending.kept.ok.0 in
+    let grown : length c.push.new.self.items ≡ length c.loop-ending.kept.items + 1 = ap length c.in_ok-push.ensures.items ∙ length-append c.loop-ending.kept.items _ in
+    let less : length (choices_of c.args.plan.now) - length c.push.new.self.items < length (choices_of c.args.plan.now) - length c.loop-ending.kept.items = omega (arith, there, count, grown) in
     less
 
-pub loop-going-preserved : goal.loop-going-preserved
-loop-going-preserved c =
-    let h = c.loop-going.invariant.run in
+pub loop-ending-preserved-then-not-going : goal.loop-ending-preserved-then-not-going
+loop-ending-preserved-then-not-going c =
+    let h = c.loop-ending.invariant.run in
     let p = c.args.code.now in
     let kb = c.args.keyboard.now in
     let going : ending_of p.errors h.net ≡ None = sym (c.ending_now.ensures kb h.net h.holds) ∙ c.in_default.is in
-    let count : c.len-in-loop-going.result ≡ length c.loop-going.kept.items = c.len-in-loop-going.ensures ∙ c.loop-going.kept.ok.0 in
+    let count : c.len.result ≡ length c.loop-ending.kept.items = c.len.ensures ∙ c.loop-ending.kept.ok.0 in
     let at = ap (slice_get (choices_of c.args.plan.now)) (sym count) ∙ sym c.at.ensures ∙ c.in-Some-at.is in
     let choice : Choice = c.in-Some-at.choice in
-    let placed = λ (net : Net) (k : Holds p kb c.loop-going.tables net). c.placed_choice-placed.ensures ∙ ap (λ ready. placed_among ready choice) (c.ready-in-loop-going.ensures p kb net k) in
+    let placed = λ (net : Net) (k : Holds p kb c.loop-ending.tables net). c.placed_choice-placed.ensures ∙ ap (λ ready. placed_among ready choice) (c.ready.ensures p kb net k) in
     let own = c.kept_choice.ensures (ready_from 0 h.net.tasks) (placed h.net h.holds) in
-    record {
-      run = next_run p kb c.args.keep (choices_of c.args.plan.now) c.loop-going.kept.items choice c.loop-going.tables c.take_turn.new.self h going
-          (λ net k. turns_by_number p kb choice c.placed_choice-placed.result net c.take_turn.new.self (placed net k) (c.in_ok-going-2.ensures.turn net k))
-          at c.kept_choice.result own c.push.new.self.items c.in_ok-push.ensures.items;
-      open_end = c.in_ok-going-2.ensures.going;
-    }
-
-pub returns-in-Some : goal.returns-in-Some
-returns-in-Some c =
-    let h = c.loop-going.invariant.run in
-    let ends = sym (c.in-Some.is) ∙ c.ending_now.ensures c.args.keyboard.now h.net h.holds in
-    run_is c.args.code.now c.args.keyboard.now (choices_of c.args.plan.now) c.args.keep (take (length c.loop-going.kept.items) (choices_of c.args.plan.now)) _ h
-    (begins_taken (choices_of c.args.plan.now) (length c.loop-going.kept.items)) (ap or_limit ends) (λ q. let never : Some c.in-Some.ending ≡ None = ends ∙ q in absurd cc)
-
-pub returns-in_default-at : goal.returns-in_default-at
-returns-in_default-at c =
-    let h = c.loop-going.invariant.run in
-    let count : c.len-in-loop-going.result ≡ length c.loop-going.kept.items = c.len-in-loop-going.ensures ∙ c.loop-going.kept.ok.0 in
-    let at = ap (slice_get (choices_of c.args.plan.now)) (sym count) ∙ sym c.at.ensures ∙ c.in_default-at.is in
-    let open_end : None ≡ ending_of c.args.code.now.errors h.net = sym c.in_default.is ∙ c.ending_now.ensures c.args.keyboard.now h.net h.holds in
-    run_is c.args.code.now c.args.keyboard.now (choices_of c.args.plan.now) c.args.keep (take (length c.loop-going.kept.items) (choices_of c.args.plan.now)) _ h
-    (begins_taken (choices_of c.args.plan.now) (length c.loop-going.kept.items)) (ap or_limit open_end) (λ q. all_taken (choices_of c.args.plan.now) (length c.loop-going.kept.items) at)
+    let run = next_run p kb c.args.keep (choices_of c.args.plan.now) c.loop-ending.kept.items choice c.loop-ending.tables c.take_turn.new.self h going
+    (λ net k. turns_by_number p kb choice c.placed_choice-placed.result net c.take_turn.new.self (placed net k) (c.in_ok-going.ensures.turn net k))
+    at c.kept_choice.result own c.push.new.self.items c.in_ok-push.ensures.items in
+    record { run = run; open_end = c.in_ok-going.ensures.going }
 
 pub run_row-requires : goal.run_row-requires
 run_row-requires c =
+    let h = c.loop-ending.invariant.run in
     let p = c.args.code.now in
     let kb = c.args.keyboard.now in
-    let h = c.loop-going.invariant.run in
-    let count : c.len.result ≡ length c.loop-going.kept.items = c.len.ensures ∙ c.loop-going.kept.ok.0 in
+    let going : ending_of p.errors h.net ≡ None = sym (c.ending_now.ensures kb h.net h.holds) ∙ c.in_default.is in
+    let count : c.len.result ≡ length c.loop-ending.kept.items = c.len.ensures ∙ c.loop-ending.kept.ok.0 in
+    let at = ap (slice_get (choices_of c.args.plan.now)) (sym count) ∙ sym c.at.ensures ∙ c.in-Some-at.is in
+    let choice : Choice = c.in-Some-at.choice in
+    let placed = λ (net : Net) (k : Holds p kb c.loop-ending.tables net). c.placed_choice-placed.ensures ∙ ap (λ ready. placed_among ready choice) (c.ready.ensures p kb net k) in
+    let own = c.kept_choice.ensures (ready_from 0 h.net.tasks) (placed h.net h.holds) in
+    let run = next_run p kb c.args.keep (choices_of c.args.plan.now) c.loop-ending.kept.items choice c.loop-ending.tables c.take_turn.new.self h going
+    (λ net k. turns_by_number p kb choice c.placed_choice-placed.result net c.take_turn.new.self (placed net k) (c.in_ok-going.ensures.turn net k))
+    at c.kept_choice.result own c.push.new.self.items c.in_ok-push.ensures.items in
     record {
       run = record {
-        run = h;
-        going = c.loop-going.invariant.open_end c.if-going.true;
-        more = omega (arith, count, c.if-len.true, c.len-then-ready-eq1.ensures);
-        alone = ap length (h.holds.sound.ready_is ∙ ap (ready_from 0) (sym h.holds.tasks) ∙ sym (c.ready.ensures p kb h.net h.holds)) ∙ c.if-ready-eq1.true;
+        run = run;
+        going = c.in_ok-going.ensures.going c.if-not-going.false;
+        alone = ap length (run.holds.sound.ready_is ∙ ap (ready_from 0) (sym run.holds.tasks) ∙ sym (c.ready-else-not-going.ensures p kb run.net run.holds)) ∙ c.if-ready-ne1.false;
       };
     }
+
+pub loop-ending-smaller : goal.loop-ending-smaller
+loop-ending-smaller c =
+    let at = sym c.at.ensures ∙ c.in-Some-at.is in
+    let there : c.len.result < length (choices_of c.args.plan.now) = slice_get_within _ _ _ at in
+    let count : c.len.result ≡ length c.loop-ending.kept.items = c.len.ensures ∙ c.loop-ending.kept.ok.0 in
+    let grown : length c.push.new.self.items ≡ length c.loop-ending.kept.items + 1 = ap length c.in_ok-push.ensures.items ∙ length-append c.loop-ending.kept.items _ in
+    let less : length (choices_of c.args.plan.now) - length c.run_row.new.kept.items < length (choices_of c.args.plan.now) - length c.loop-ending.kept.items = omega (arith, there, count, grown, c.in_ok-going-2.ensures.more) in
+    less
+
+pub loop-ending-preserved : goal.loop-ending-preserved
+loop-ending-preserved c = record { run = c.in_ok-going-2.ensures.run; open_end = c.in_ok-going-2.ensures.going }
+
+pub returns-in-Some : goal.returns-in-Some
+returns-in-Some c =
+    let h = c.loop-ending.invariant.run in
+    let ends = sym (c.in-Some.is) ∙ c.ending_now.ensures c.args.keyboard.now h.net h.holds in
+    run_is c.args.code.now c.args.keyboard.now (choices_of c.args.plan.now) c.args.keep (take (length c.loop-ending.kept.items) (choices_of c.args.plan.now)) _ h
+    (begins_taken (choices_of c.args.plan.now) (length c.loop-ending.kept.items)) (ap or_limit ends) (λ q. let never : Some c.in-Some.ending ≡ None = ends ∙ q in absurd cc)
+
+pub returns-in_default-at : goal.returns-in_default-at
+returns-in_default-at c =
+    let h = c.loop-ending.invariant.run in
+    let count : c.len.result ≡ length c.loop-ending.kept.items = c.len.ensures ∙ c.loop-ending.kept.ok.0 in
+    let at = ap (slice_get (choices_of c.args.plan.now)) (sym count) ∙ sym c.at.ensures ∙ c.in_default-at.is in
+    let open_end : None ≡ ending_of c.args.code.now.errors h.net = sym c.in_default.is ∙ c.ending_now.ensures c.args.keyboard.now h.net h.holds in
+    run_is c.args.code.now c.args.keyboard.now (choices_of c.args.plan.now) c.args.keep (take (length c.loop-ending.kept.items) (choices_of c.args.plan.now)) _ h
+    (begins_taken (choices_of c.args.plan.now) (length c.loop-ending.kept.items)) (ap or_limit open_end) (λ q. all_taken (choices_of c.args.plan.now) (length c.loop-ending.kept.items) at)

@@ -1,15 +1,15 @@
-use Rattle.std.proofs.Common.{◌≡◌, ◌∙◌, ◌+◌, ◌-◌, ◌<◌, ◌≤◌, ◌^◌, ◌∷◌, ◌++◌, [], Bool, List, Some, ap, arith, length, rules, subst, sym, ℕ}
+use Rattle.std.proofs.Common.{◌≡◌, ◌∙◌, ◌+◌, ◌-◌, ◌<◌, ◌≤◌, ◌^◌, Bool, List, Some, ap, arith, length, rules, subst, sym, ℕ}
 use Rattle.std.specs.Prelude.{slice_get}
 use Rattle.occ_machine.specs.SameStop.{IsRising}
 use Rattle.occ_net_replay.specs.declared.choice.Choice.{Choice}
-use Rattle.occ_net_replay.specs.Replay.{HasTask, Net, Tasks, ready_from}
+use Rattle.occ_net_replay.specs.Replay.{Tasks, ready_from}
 use Rattle.occ_net_tables.specs.Settling.{StandsBehind, TurnsBehind}
 use Rattle.occ_net_tables.proofs.Placing.{placed_replays}
 use Rattle.occ_net_tables.proofs.ReadyLists.{ready_rising}
 use Rattle.occ_net.specs.Keeping.{KeepsReplay}
 use Rattle.occ_net.specs.Networks.{IsState, Past}
 use Rattle.occ_net.specs.Settling.{IsAmong}
-use Rattle.occ_net.specs.Stretches.{SettlesAll, TakesAll, after_turns, choices_from, in_after}
+use Rattle.occ_net.specs.Stretches.{SettlesAll, after_turns, choices_from, in_after}
 use Rattle.occ_net.proofs.Ready.{place_small}
 use Rattle.occ_net.proofs.Stretching.{among_own, behind_all, in_again, kept_all, settles_all, takes_now}
 use Rattle.occ_net.proofs.network.Network.settle_all.Goals as goal

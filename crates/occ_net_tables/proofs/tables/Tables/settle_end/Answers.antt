@@ -1,10 +1,9 @@
-use Rattle.std.proofs.Common.{◌≡◌, ◌∙◌, ap, refl, subst, sym}
+use Rattle.std.proofs.Common.{◌≡◌, ap, refl, subst}
 use Rattle.occ_term.specs.Messages.{message}
 use Rattle.occ_machine.specs.SameStop.{ready_with}
 use Rattle.occ_machine.specs.declared.task.Task.{Task}
 use Rattle.occ_machine.specs.declared.task.Wait.TheVariants as W
 use Rattle.occ_proc.specs.Turns.{IsLeftReady, left_message, standing_at}
-use Rattle.occ_net_replay.specs.Replay.{is_done}
 use Rattle.occ_net_replay.proofs.Tables.{task_once}
 use Rattle.occ_net_tables.specs.Settling.{SettlesTo}
 use Rattle.occ_net_tables.proofs.Between.{goes_on}
