@@ -174,19 +174,18 @@ pub fn run_tables(
         going = tables.take_turn(alloc, code, &mut scratch, keyboard, placed)?;
         kept.push(kept_choice(choice, placed, keep))?;
         // Each choice selects the only process that is ready.
-        if !going || tables.ready().len() != 1 {
-            continue;
+        if going && tables.ready().len() == 1 {
+            going = run_row(
+                alloc,
+                code,
+                &mut scratch,
+                keyboard,
+                plan,
+                keep,
+                &mut tables,
+                &mut kept,
+            )?;
         }
-        going = run_row(
-            alloc,
-            code,
-            &mut scratch,
-            keyboard,
-            plan,
-            keep,
-            &mut tables,
-            &mut kept,
-        )?;
     }
 }
 

@@ -38,31 +38,6 @@ take_turn-requires c =
     let going : ending_of c.args.code.now.errors h.net ≡ None = sym (c.ending_now.ensures c.args.keyboard.now h.net h.holds) ∙ c.in_default.is in
     stands c.args.code.now c.args.keyboard.now c.args.keep (take (length c.loop-ending.kept.items) (choices_of c.args.plan.now)) c.loop-ending.kept.items c.loop-ending.tables fewer h going
 
-pub loop-ending-smaller-then-not-going : goal.loop-ending-smaller-then-not-going
-loop-ending-smaller-then-not-going c =
-    let at = sym c.at.ensures ∙ c.in-Some-at.is in
-    let there : c.len.result < length (choices_of c.args.plan.now) = slice_get_within _ _ _ at in
-    let count : c.len.result ≡ length c.loop-ending.kept.items = c.len.ensures ∙ c.loop-ending.kept.ok.0 in
-    let grown : length c.push.new.self.items ≡ length c.loop-ending.kept.items + 1 = ap length c.in_ok-push.ensures.items ∙ length-append c.loop-ending.kept.items _ in
-    let less : length (choices_of c.args.plan.now) - length c.push.new.self.items < length (choices_of c.args.plan.now) - length c.loop-ending.kept.items = omega (arith, there, count, grown) in
-    less
-
-pub loop-ending-preserved-then-not-going : goal.loop-ending-preserved-then-not-going
-loop-ending-preserved-then-not-going c =
-    let h = c.loop-ending.invariant.run in
-    let p = c.args.code.now in
-    let kb = c.args.keyboard.now in
-    let going : ending_of p.errors h.net ≡ None = sym (c.ending_now.ensures kb h.net h.holds) ∙ c.in_default.is in
-    let count : c.len.result ≡ length c.loop-ending.kept.items = c.len.ensures ∙ c.loop-ending.kept.ok.0 in
-    let at = ap (slice_get (choices_of c.args.plan.now)) (sym count) ∙ sym c.at.ensures ∙ c.in-Some-at.is in
-    let choice : Choice = c.in-Some-at.choice in
-    let placed = λ (net : Net) (k : Holds p kb c.loop-ending.tables net). c.placed_choice-placed.ensures ∙ ap (λ ready. placed_among ready choice) (c.ready.ensures p kb net k) in
-    let own = c.kept_choice.ensures (ready_from 0 h.net.tasks) (placed h.net h.holds) in
-    let run = next_run p kb c.args.keep (choices_of c.args.plan.now) c.loop-ending.kept.items choice c.loop-ending.tables c.take_turn.new.self h going
-    (λ net k. turns_by_number p kb choice c.placed_choice-placed.result net c.take_turn.new.self (placed net k) (c.in_ok-going.ensures.turn net k))
-    at c.kept_choice.result own c.push.new.self.items c.in_ok-push.ensures.items in
-    record { run = run; open_end = c.in_ok-going.ensures.going }
-
 pub run_row-requires : goal.run_row-requires
 run_row-requires c =
     let h = c.loop-ending.invariant.run in
@@ -80,8 +55,8 @@ run_row-requires c =
     record {
       run = record {
         run = run;
-        going = c.in_ok-going.ensures.going c.if-not-going.false;
-        alone = ap length (run.holds.sound.ready_is ∙ ap (ready_from 0) (sym run.holds.tasks) ∙ sym (c.ready-else-not-going.ensures p kb run.net run.holds)) ∙ c.if-ready-ne1.false;
+        going = c.in_ok-going.ensures.going c.if-going.true;
+        alone = ap length (run.holds.sound.ready_is ∙ ap (ready_from 0) (sym run.holds.tasks) ∙ sym (c.ready-then-going.ensures p kb run.net run.holds)) ∙ c.if-ready-eq1.true;
       };
     }
 
@@ -91,11 +66,24 @@ loop-ending-smaller c =
     let there : c.len.result < length (choices_of c.args.plan.now) = slice_get_within _ _ _ at in
     let count : c.len.result ≡ length c.loop-ending.kept.items = c.len.ensures ∙ c.loop-ending.kept.ok.0 in
     let grown : length c.push.new.self.items ≡ length c.loop-ending.kept.items + 1 = ap length c.in_ok-push.ensures.items ∙ length-append c.loop-ending.kept.items _ in
-    let less : length (choices_of c.args.plan.now) - length c.run_row.new.kept.items < length (choices_of c.args.plan.now) - length c.loop-ending.kept.items = omega (arith, there, count, grown, c.in_ok-going-2.ensures.more) in
+    let less : length (choices_of c.args.plan.now) - length c.push.new.self.items < length (choices_of c.args.plan.now) - length c.loop-ending.kept.items = omega (arith, there, count, grown) in
     less
 
 pub loop-ending-preserved : goal.loop-ending-preserved
-loop-ending-preserved c = record { run = c.in_ok-going-2.ensures.run; open_end = c.in_ok-going-2.ensures.going }
+loop-ending-preserved c =
+    let h = c.loop-ending.invariant.run in
+    let p = c.args.code.now in
+    let kb = c.args.keyboard.now in
+    let going : ending_of p.errors h.net ≡ None = sym (c.ending_now.ensures kb h.net h.holds) ∙ c.in_default.is in
+    let count : c.len.result ≡ length c.loop-ending.kept.items = c.len.ensures ∙ c.loop-ending.kept.ok.0 in
+    let at = ap (slice_get (choices_of c.args.plan.now)) (sym count) ∙ sym c.at.ensures ∙ c.in-Some-at.is in
+    let choice : Choice = c.in-Some-at.choice in
+    let placed = λ (net : Net) (k : Holds p kb c.loop-ending.tables net). c.placed_choice-placed.ensures ∙ ap (λ ready. placed_among ready choice) (c.ready.ensures p kb net k) in
+    let own = c.kept_choice.ensures (ready_from 0 h.net.tasks) (placed h.net h.holds) in
+    let run = next_run p kb c.args.keep (choices_of c.args.plan.now) c.loop-ending.kept.items choice c.loop-ending.tables c.take_turn.new.self h going
+    (λ net k. turns_by_number p kb choice c.placed_choice-placed.result net c.take_turn.new.self (placed net k) (c.in_ok-going.ensures.turn net k))
+    at c.kept_choice.result own c.push.new.self.items c.in_ok-push.ensures.items in
+    record { run = run; open_end = c.in_ok-going.ensures.going }
 
 pub returns-in-Some : goal.returns-in-Some
 returns-in-Some c =
