@@ -1,5 +1,5 @@
 -- The main process: the last PROC, and the names of its formals.
-use Rattle.std.proofs.Common.{◌≡◌, ◌∙◌, sym, ap, refl, ℕ, suc, ◌+◌, ◌<◌, ◌≤◌, List, [], ◌∷◌, ◌++◌, map, length, drop, get_or, option_map, Option, Some, None, Bool, true, false, append_assoc, arith, Vec, Global}
+use Rattle.std.proofs.Common.{◌≡◌, ◌∙◌, sym, ap, refl, ℕ, suc, ◌+◌, ◌<◌, ◌≤◌, List, [], ◌∷◌, ◌++◌, map, length, drop, get_or, option_map, Option, Some, None, Bool, true, false, append_assoc, arith, Global}
 use Rattle.std.specs.Prelude.{nat_le, ◌&&◌}
 use Rattle.std.specs.declared.boxed.Box.{Box}
 use Rattle.std.proofs.lemmas.List.{map-append}
@@ -55,12 +55,12 @@ not_last (j ∷ is) i h = ap (last_or j) (not_last is i (still (j ∷ is) is i h
 -- ---- an item of the code
 
 module _ (before : List Item) (i : ItemTree) where
-  pub a_procedure : (line : ℕ) (name : Vec ℕ Global) (formals : Option (Box Formals Global)) (body : Process) (end_line : ℕ) → i ≡ itemTrees.Proc line name formals body end_line
+  pub a_procedure : (line : ℕ) (name : List ℕ) (formals : Option (Box Formals Global)) (body : Process) (end_line : ℕ) → i ≡ itemTrees.Proc line name formals body end_line
       → Some (record { before = before; formals = lines.formals_of formals; body = process_of body }) ≡ main_at before (item_of i)
   unfolding item_of
   a_procedure line name formals body end_line is = sym (ap (λ j. main_at before (item_of j)) is)
 
-  pub no_value : (line : ℕ) (type : Option ValueType) (name : Vec ℕ Global) (e : Box Expr Global) → i ≡ itemTrees.Value line type name e → None ≡ main_at before (item_of i)
+  pub no_value : (line : ℕ) (type : Option ValueType) (name : List ℕ) (e : Box Expr Global) → i ≡ itemTrees.Value line type name e → None ≡ main_at before (item_of i)
   unfolding item_of
   no_value line type name e is = sym (ap (λ j. main_at before (item_of j)) is)
 
@@ -98,7 +98,7 @@ pub record Names (first : Name) (spec : Spec) (fs : List Formal) (i : ℕ) (name
 names_step : (s : L.Spec) (fs : List Formal) (i : ℕ) (f : Formal) → i < length fs → f ≡ get_or fs i f
     → other_names s (map lines.formal_of (drop i fs))
     ≡ (other_names (spec_after s (option_map lines.spec_of f.spec)) (map lines.formal_of (drop (i + 1) fs))
-    >>= λ xs. keep (is_byte_channel (spec_after s (option_map lines.spec_of f.spec))) (f.name.items ∷ xs))
+    >>= λ xs. keep (is_byte_channel (spec_after s (option_map lines.spec_of f.spec))) (f.name ∷ xs))
 unfolding other_names
 names_step s fs i f below at = ap (λ (gs : List Formal). other_names s (map lines.formal_of gs)) (from_here fs i f below at)
 
@@ -119,22 +119,22 @@ module _ (first : Name) (spec : Spec) (fs : List Formal) where
   module _ (i : ℕ) (names : List Name) (before now : Spec) (f : Formal) (below : i < length fs) (at : f ≡ get_or fs i f)
       (so_far : Names first spec fs i names before) (own : lines.spec_of now ≡ spec_after (lines.spec_of before) (option_map lines.spec_of f.spec)) where
     here : (b : Bool) → b ≡ is_byte_channel (lines.spec_of now)
-        → named_after names (other_names (lines.spec_of now) (map lines.formal_of (drop (i + 1) fs)) >>= λ xs. keep b (f.name.items ∷ xs))
+        → named_after names (other_names (lines.spec_of now) (map lines.formal_of (drop (i + 1) fs)) >>= λ xs. keep b (f.name ∷ xs))
         ≡ named_after (first ∷ []) (other_names (lines.spec_of spec) (map lines.formal_of fs))
     here b is =
-        ap (λ c. named_after names (other_names (lines.spec_of now) (map lines.formal_of (drop (i + 1) fs)) >>= λ xs. keep c (f.name.items ∷ xs))) is
-        ∙ ap (λ (s : L.Spec). named_after names (other_names s (map lines.formal_of (drop (i + 1) fs)) >>= λ xs. keep (is_byte_channel s) (f.name.items ∷ xs))) own
+        ap (λ c. named_after names (other_names (lines.spec_of now) (map lines.formal_of (drop (i + 1) fs)) >>= λ xs. keep c (f.name ∷ xs))) is
+        ∙ ap (λ (s : L.Spec). named_after names (other_names s (map lines.formal_of (drop (i + 1) fs)) >>= λ xs. keep (is_byte_channel s) (f.name ∷ xs))) own
         ∙ ap (named_after names) (sym (names_step (lines.spec_of before) fs i f below at)) ∙ so_far.is
 
-    pub names_next : true ≡ is_byte_channel (lines.spec_of now) → (more : List Name) → more ≡ names ++ f.name.items ∷ [] → Names first spec fs (i + 1) more now
+    pub names_next : true ≡ is_byte_channel (lines.spec_of now) → (more : List Name) → more ≡ names ++ f.name ∷ [] → Names first spec fs (i + 1) more now
     names_next is more grown =
         let rest = other_names (lines.spec_of now) (map lines.formal_of (drop (i + 1) fs)) in
-        record { is = ap (λ xs. named_after xs rest) grown ∙ sym (one_named names f.name.items rest) ∙ here true is }
+        record { is = ap (λ xs. named_after xs rest) grown ∙ sym (one_named names f.name rest) ∙ here true is }
 
     pub names_refused : false ≡ is_byte_channel (lines.spec_of now) → byte_channels (L.formals (lines.spec_of spec) first (map lines.formal_of fs)) ≡ None
     names_refused is =
         ap (λ o. o >>= λ xs. keep (is_byte_channel (lines.spec_of spec) && nat_le (length xs) 2) (first ∷ xs))
-        (unnamed_first first _ (sym (here false is) ∙ none_named names f.name.items (other_names (lines.spec_of now) (map lines.formal_of (drop (i + 1) fs)))))
+        (unnamed_first first _ (sym (here false is) ∙ none_named names f.name (other_names (lines.spec_of now) (map lines.formal_of (drop (i + 1) fs)))))
 
   pub first_refused : false ≡ is_byte_channel (lines.spec_of spec) → byte_channels (L.formals (lines.spec_of spec) first (map lines.formal_of fs)) ≡ None
   first_refused is =

@@ -1,6 +1,6 @@
 -- What a statement of the code unfolds to, behind its declarations, and how large it is.
 -- Manual: combining processes.
-use Rattle.std.specs.Prelude.{[], ℕ, ◌+◌}
+use Rattle.std.specs.Prelude.{List, [], ℕ, ◌+◌}
 use Rattle.occ_tree_grammar.specs.declared.tree.process.Process.TheVariants as processes
 use Rattle.occ_tree_grammar.specs.declared.tree.process.Stmt.TheVariants as stmts
 use Rattle.occ_tree_grammar.specs.Expressions.Trees.{expression_of}
@@ -8,12 +8,15 @@ use Rattle.occ_tree_grammar.specs.Lines.Views.{replicator_of, var_of}
 use Rattle.occ_tree_grammar.specs.Lines.HeadViews.{action_of}
 use Rattle.occ_tree_grammar.specs.Processes.Views.{process_of, arm_of, choice_of, held_processes, held_arms, held_choices, held_selections, held_variants, held_decls}
 use Rattle.occ_tree_grammar.specs.Processes.Trees.{Decls}
+use Rattle.occ_tree_grammar.specs.declared.tree.expr.Expr.{Expr}
+use Rattle.occ_tree_grammar.specs.declared.tree.line.Replicator.{Replicator}
 use Rattle.occ_tree_grammar.specs.declared.tree.process.Process.{Process}
 use Rattle.occ_tree_grammar.specs.declared.tree.process.Stmt.{Stmt}
 use Rattle.occ_term.specs.Terms.{Term}
 use Rattle.occ_check_meaning.specs.Actions.{none_chosen}
 use Rattle.occ_check_meaning.specs.Performing.{Under, acted, sequenced, each_sequenced, beside, copies_beside, alternated, conditioned, selected, looped, taken_by_variant, each_of_arms, each_of_choices}
 use Rattle.occ_check_meaning.specs.Recursion.{unfolded, all_in_turn, all_beside, all_arms, arm_unfolded, all_choices, choice_unfolded, all_options, all_variants}
+use Rattle.occ_check_opened.specs.Opened.{body_unfolded, par_parts, seq_parts}
 use Rattle.occ_check_opened.specs.Weights.{node_size, nodes_size}
 
 abbrev pub performing : ℕ → Stmt → Under Term
@@ -54,3 +57,17 @@ statement_size (stmts.IfFor' r p c) = node_size (choice_of c) + 1
 statement_size (stmts.Case' e s os) = nodes_size (held_selections os) + 1
 statement_size (stmts.While' e p n) = node_size (process_of n) + 1
 statement_size (stmts.Variants' v s vs) = nodes_size (held_variants vs) + 1
+
+-- ---- statements of the code, by their parts
+
+abbrev pub seq_of : List Process → Under Term
+seq_of ps = sequenced (seq_parts ps)
+
+abbrev pub par_of : List Process → Under Term
+par_of ps = beside (par_parts ps)
+
+abbrev pub seq_for : ℕ → Replicator → Process → Under Term
+seq_for line r p = each_sequenced line (replicator_of r) (body_unfolded p)
+
+abbrev pub while_of : ℕ → Expr → Process → Under Term
+while_of line e p = looped line (expression_of e) (body_unfolded p)

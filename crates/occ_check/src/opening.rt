@@ -1,22 +1,17 @@
 //! The first steps of processes: declarations, and all of a statement that stands before its first part.
 
-ghost use Rattle.std.specs.Prelude.{◌≡◌, ◌+◌, ◌≤◌, IfOk, OnOk, Some};
-ghost use Rattle.occ_tree_grammar.specs.Expressions.Trees.{expression_of as tree_of};
+ghost use Rattle.std.specs.Prelude.{◌≡◌, ◌+◌, ◌≤◌, IfOk, Some};
 ghost use Rattle.occ_tree_grammar.specs.Lines.HeadViews.{action_of};
-ghost use Rattle.occ_tree_grammar.specs.Lines.Heads.{call};
-ghost use Rattle.occ_tree_grammar.specs.Lines.Views.{actuals_of, replicator_of};
 ghost use Rattle.occ_tree_grammar.specs.Processes.Views.{held_decls, held_processes};
 ghost use Rattle.occ_tree_grammar.specs.declared.tree.process.Arm.TheBlock.{hidden-the_row-Decl-0, hidden-the_row-Process-4};
 ghost use Rattle.occ_term.specs.View.{term_of};
-ghost use Rattle.occ_check_meaning.specs.Performing as performing;
-ghost use Rattle.occ_check_meaning.specs.Performing.{acted, each_sequenced, looped, sequenced};
-ghost use Rattle.occ_check_meaning.specs.Recursion.{all_beside, all_in_turn};
+ghost use Rattle.occ_check_meaning.specs.Performing.{acted};
 ghost use Rattle.occ_check_opened.specs.Opened.{Begins, IsReady, IsStepReady, LeavesWithin, OpensAt, left_weight, statement_left, step_left, step_weight, body_unfolded};
-ghost use Rattle.occ_check_opened.specs.Progress.{body_weight, counted, nodes_weight, weight_at};
-ghost use Rattle.occ_check.specs.Opening.{declarations_in, line_in, performing as statement_unfolded, statement_in, statement_size};
+ghost use Rattle.occ_check_opened.specs.Progress.{body_weight, counted, nodes_weight, weight_at, KeepsOpen};
+ghost use Rattle.occ_check.specs.Opening.{declarations_in, line_in, performing as statement_unfolded, statement_in, statement_size, par_of, seq_for, seq_of, while_of};
 ghost use Rattle.occ_check_opened.specs.Weights.{decl_nodes, process_nodes};
 ghost use Rattle.occ_check_opened.specs.declared.unfolder.Unfolder.{Unfolder as UnfolderState};
-ghost use Rattle.occ_check_opened.specs.OpenBlocks.{Keeps};
+ghost use Rattle.occ_check_opened.specs.OneLine.{call_action};
 
 use occ_check_arms::arms::{arms_opened, each_arm_opened, listed_arms};
 use occ_check_arms::variants::{listed_variants, variants_opened};
@@ -27,6 +22,7 @@ use occ_check_names::fault::CheckFault;
 use occ_check_names::scope::Position;
 use occ_check_opened::opened::{Around, Left, Opened, Step};
 use occ_check_opened::unfolder::{Call, Unfolder};
+use occ_held::letters::Letters;
 use occ_term::Term;
 use occ_tree_grammar::tree::expr::Expr;
 use occ_tree_grammar::tree::line::{Action, OneOrMore, Replicator as ReplicatorTree};
@@ -44,7 +40,7 @@ pub fn process_opened<'t>(
     requires { depth ≤ 200 }
     ensures step { OpensAt step_left result unfolder.old unfolder.new at depth
         (body_unfolded process.now) }
-    ensures kept { OnOk result (Keeps unfolder.old.blocks unfolder.new.blocks) }
+    ensures kept { KeepsOpen result unfolder.old unfolder.new }
     ensures weight { IfOk result (λ s. step_weight unfolder.new s + 2
         ≤ body_weight unfolder.old at process.now) }
     ensures ready { IfOk result IsStepReady }
@@ -71,7 +67,7 @@ fn statement_opened<'t>(
     requires { depth ≤ 200 }
     ensures opens { Begins result unfolder.old unfolder.new at depth
         (statement_unfolded line statement.now) }
-    ensures kept { OnOk result (Keeps unfolder.old.blocks unfolder.new.blocks) }
+    ensures kept { KeepsOpen result unfolder.old unfolder.new }
     ensures weight { LeavesWithin result unfolder.new
         (statement_size statement.now + weight_at unfolder.old at) }
     ensures ready { IfOk result IsReady }
@@ -137,7 +133,7 @@ fn action_opened<'t>(
     requires { depth ≤ 200 }
     ensures opens { Begins result unfolder.old unfolder.new at depth
         (acted line (action_of action.now)) }
-    ensures kept { OnOk result (Keeps unfolder.old.blocks unfolder.new.blocks) }
+    ensures kept { KeepsOpen result unfolder.old unfolder.new }
     ensures weight { LeavesWithin result unfolder.new (weight_at unfolder.old at) }
     ensures ready { IfOk result IsReady }
 {
@@ -167,13 +163,13 @@ fn call_opened<'t>(
     at: Position,
     depth: u32,
     line: u32,
-    name: &[u8],
+    name: &Letters,
     actuals: &Option<OneOrMore<Expr>>,
 ) -> Result<Opened<'t>, CheckFault>
     requires { depth ≤ 200 }
     ensures opens { Begins result unfolder.old unfolder.new at depth
-        (acted line (call name.now (actuals_of actuals.now))) }
-    ensures kept { OnOk result (Keeps unfolder.old.blocks unfolder.new.blocks) }
+        (acted line (call_action name.now actuals.now)) }
+    ensures kept { KeepsOpen result unfolder.old unfolder.new }
     ensures weight { LeavesWithin result unfolder.new (weight_at unfolder.old at) }
     ensures ready { IfOk result IsReady }
 {
@@ -198,9 +194,8 @@ fn in_turn_opened<'t>(
     depth: u32,
     processes: &'t [Process],
 ) -> Result<Opened<'t>, CheckFault>
-    ensures opens { Begins result unfolder.old unfolder.new at depth
-        (sequenced (all_in_turn (process_nodes processes.now))) }
-    ensures kept { OnOk result (Keeps unfolder.old.blocks unfolder.new.blocks) }
+    ensures opens { Begins result unfolder.old unfolder.new at depth (seq_of processes.now) }
+    ensures kept { KeepsOpen result unfolder.old unfolder.new }
     ensures weight { LeavesWithin result unfolder.new
         (nodes_weight unfolder.old at (process_nodes processes.now)) }
     ensures ready { IfOk result IsReady }
@@ -220,9 +215,8 @@ fn beside_opened<'t>(
     depth: u32,
     processes: &'t [Process],
 ) -> Result<Opened<'t>, CheckFault>
-    ensures opens { Begins result unfolder.old unfolder.new at depth
-        (performing.beside (all_beside (process_nodes processes.now))) }
-    ensures kept { OnOk result (Keeps unfolder.old.blocks unfolder.new.blocks) }
+    ensures opens { Begins result unfolder.old unfolder.new at depth (par_of processes.now) }
+    ensures kept { KeepsOpen result unfolder.old unfolder.new }
     ensures weight { LeavesWithin result unfolder.new
         (nodes_weight unfolder.old at (process_nodes processes.now)) }
     ensures ready { IfOk result IsReady }
@@ -246,8 +240,8 @@ fn each_opened<'t>(
     body: &'t Process,
 ) -> Result<Opened<'t>, CheckFault>
     ensures opens { Begins result unfolder.old unfolder.new at depth
-        (each_sequenced line (replicator_of replicator.now) (body_unfolded body.now)) }
-    ensures kept { OnOk result (Keeps unfolder.old.blocks unfolder.new.blocks) }
+        (seq_for line replicator.now body.now) }
+    ensures kept { KeepsOpen result unfolder.old unfolder.new }
     ensures weight { LeavesWithin result unfolder.new (body_weight unfolder.old at body.now) }
     ensures ready { IfOk result IsReady }
 {
@@ -271,8 +265,8 @@ fn loop_opened<'t>(
     body: &'t Process,
 ) -> Result<Opened<'t>, CheckFault>
     ensures opens { Begins result unfolder.old unfolder.new at depth
-        (looped line (tree_of condition.now) (body_unfolded body.now)) }
-    ensures kept { OnOk result (Keeps unfolder.old.blocks unfolder.new.blocks) }
+        (while_of line condition.now body.now) }
+    ensures kept { KeepsOpen result unfolder.old unfolder.new }
     ensures weight { LeavesWithin result unfolder.new (body_weight unfolder.old at body.now) }
     ensures ready { IfOk result IsReady }
 {

@@ -1,16 +1,12 @@
 //! Processes: what is left of each once it is opened is unfolded, and the lists of a construct's parts, part by part.
 
-ghost use Rattle.std.specs.Prelude.{◌≤◌, ◌+ℤ◌, ◌≤ℤ◌, [], pos, OnOk};
+ghost use Rattle.std.specs.Prelude.{◌≤◌, ◌+ℤ◌, ◌≤ℤ◌, pos, OnOk};
 ghost use Rattle.occ_term.specs.View.{arms_of, branches_of, choices_of, options_of, term_of, terms_of, variants_of};
-ghost use Rattle.occ_check_meaning.specs.Actions as meant;
-ghost use Rattle.occ_check_meaning.specs.Performing.{copied};
-ghost use Rattle.occ_check_meaning.specs.Recursion.{all_arms, all_beside, all_choices, all_in_turn, all_options, all_variants};
 ghost use Rattle.occ_check_names.specs.View.{Unfolds};
 ghost use Rattle.occ_check_opened.specs.OpenBlocks.{Restores};
-ghost use Rattle.occ_check_opened.specs.Opened.{IsReady, body_unfolded, statement_left};
-ghost use Rattle.occ_check_opened.specs.Progress.{Reads, counted};
-ghost use Rattle.occ_check_opened.specs.Weights.{arm_nodes, choice_nodes, option_nodes, process_nodes, variant_nodes};
-ghost use Rattle.occ_check_copies.specs.Copies.{copies_there};
+ghost use Rattle.occ_check_opened.specs.Opened.{IsReady, body_unfolded, statement_left, alt_arms, case_options, case_variants, if_choices, par_parts, seq_parts};
+ghost use Rattle.occ_check_opened.specs.Progress.{Reads};
+ghost use Rattle.occ_check_copies.specs.Copies.{ReadsCopies};
 
 use crate::opening::process_opened;
 use occ_check_arms::arms::{OpenedArm, arm_opened};
@@ -135,7 +131,7 @@ fn in_turn<'t>(
 ) -> Result<Items<Term>, CheckFault>
     requires { depth ≤ 200 }
     ensures terms { Reads terms_of result unfolder.old unfolder.new at depth
-        (all_in_turn (process_nodes processes.now)) }
+        (seq_parts processes.now) }
     ensures kept { OnOk result (Restores unfolder.old.blocks unfolder.new.blocks) }
 {
     let mut terms = Items::new(alloc);
@@ -156,7 +152,7 @@ fn beside<'t>(
 ) -> Result<Items<Branch>, CheckFault>
     requires { depth ≤ 200 }
     ensures branches { Reads branches_of result unfolder.old unfolder.new at depth
-        (all_beside (process_nodes processes.now)) }
+        (par_parts processes.now) }
     ensures kept { OnOk result (Restores unfolder.old.blocks unfolder.new.blocks) }
 {
     let mut branches = Items::new(alloc);
@@ -182,9 +178,8 @@ fn copies_unfolded<'t>(
 ) -> Result<Items<Branch>, CheckFault>
     requires depth { depth ≤ 200 }
     requires last { (first +ℤ pos count) ≤ℤ pos 2147483648 }
-    ensures branches { Unfolds branches_of result unfolder.new.numbers
-        (copied (copies_there unfolder.old at depth replicator.now body.now) count first
-        (counted unfolder.old)) }
+    ensures branches { ReadsCopies result unfolder.old unfolder.new at depth replicator.now body.now
+        count first }
     ensures kept { OnOk result (Restores unfolder.old.blocks unfolder.new.blocks) }
 {
     let mut branches = Items::new(alloc);
@@ -219,7 +214,7 @@ fn choices_unfolded<'t>(
 ) -> Result<Items<TermChoice>, CheckFault>
     requires { depth ≤ 200 }
     ensures choices { Reads choices_of result unfolder.old unfolder.new at depth
-        (all_choices (choice_nodes list.now)) }
+        (if_choices list.now) }
     ensures kept { OnOk result (Restores unfolder.old.blocks unfolder.new.blocks) }
 {
     let mut choices = Items::new(alloc);
@@ -258,7 +253,7 @@ fn options_unfolded<'t>(
 ) -> Result<Items<TermSelection>, CheckFault>
     requires { depth ≤ 200 }
     ensures options { Reads options_of result unfolder.old unfolder.new at depth
-        (all_options (option_nodes selections.now) primitive meant.none_chosen) }
+        (case_options selections.now primitive) }
     ensures kept { OnOk result (Restores unfolder.old.blocks unfolder.new.blocks) }
 {
     let mut chosen = none_chosen(alloc);
@@ -299,7 +294,7 @@ fn variants_unfolded<'t>(
 ) -> Result<Items<TermVariant>, CheckFault>
     requires { depth ≤ 200 }
     ensures variants { Reads variants_of result unfolder.old unfolder.new at depth
-        (all_variants (variant_nodes list.now) protocol.now []) }
+        (case_variants list.now protocol.now) }
     ensures kept { OnOk result (Restores unfolder.old.blocks unfolder.new.blocks) }
 {
     let mut tags = Tags::new(alloc, protocol)?;
@@ -331,8 +326,7 @@ fn arms_unfolded<'t>(
     list: &'t [Arm],
 ) -> Result<Items<TermArm>, CheckFault>
     requires { depth ≤ 200 }
-    ensures arms { Reads arms_of result unfolder.old unfolder.new at depth
-        (all_arms (arm_nodes list.now)) }
+    ensures arms { Reads arms_of result unfolder.old unfolder.new at depth (alt_arms list.now) }
     ensures kept { OnOk result (Restores unfolder.old.blocks unfolder.new.blocks) }
 {
     let mut arms = Items::new(alloc);

@@ -5,16 +5,14 @@ ghost use Rattle.occ_tree_grammar.specs.Lines.Trees.{by_channel, carries};
 ghost use Rattle.occ_tree_grammar.specs.Lines.Views as lines;
 ghost use Rattle.occ_tree_grammar.specs.Processes.Views.{item_of, program_of};
 ghost use Rattle.occ_term.specs.View.{term_of};
-ghost use Rattle.occ_check_meaning.specs.Performing.{behind};
 ghost use Rattle.occ_check_meaning.specs.ProgramUnfolding.{UnfoldsTo};
 ghost use Rattle.occ_check_meaning.specs.Programs as programs;
 ghost use Rattle.occ_check.specs.CheckRefuses.{CheckRefuses};
 ghost use Rattle.occ_check_typing.specs.Declaration.{pairs_of};
-ghost use Rattle.occ_check.specs.Program.{byte_channel, items_within, main_at, main_in};
-ghost use Rattle.occ_check_opened.specs.Progress.{Declares, counted, meant_at};
-ghost use Rattle.occ_check_names.specs.View.{Gives, Unfolds, known_of, numbers_of};
+ghost use Rattle.occ_check.specs.Program.{byte_channel, main_at, main_in, body_behind, items_and_names, with_numbers};
+ghost use Rattle.occ_check_opened.specs.Progress.{Declares, Reads};
+ghost use Rattle.occ_check_names.specs.View.{Gives, known_of};
 ghost use Rattle.occ_check_opened.specs.OpenBlocks.{Deepens, HasBlock};
-ghost use Rattle.occ_check_opened.specs.Opened.{body_unfolded};
 
 use crate::process::process_unfolded;
 use occ_check_acting::formals::spec_after;
@@ -26,6 +24,7 @@ use occ_check_opened::blocks::Blocks;
 use occ_check_opened::entering::headed;
 use occ_check_opened::unfolder::Unfolder;
 use occ_check_typing::declaration::{Named, once, stretch_from};
+use occ_held::letters::Letters;
 use occ_term::{Declaration, Primitive, Protocol, Sizes, Term, Unfolded};
 use occ_tree_grammar::tree::expr::Prim;
 use occ_tree_grammar::tree::line::{Carried as CarriedTree, Formals, Part, Spec};
@@ -66,8 +65,7 @@ pub fn unfold(alloc: Global, program: &Program) -> Result<Unfolded, CheckFault>
 
 /// The term of a program, with the numbers that it gives out.
 fn unfolded_program(alloc: Global, program: &Program) -> Result<(Term, Numbers), CheckFault>
-    ensures { Gives (λ x. (term_of x.0, numbers_of x.1)) result
-        (programs.program_unfolded (program_of program.now)) }
+    ensures { Gives with_numbers result (programs.program_unfolded (program_of program.now)) }
 {
     let main = main_of(&program.items)?;
     let names = main_names(alloc, main.line, main.formals)?;
@@ -128,7 +126,7 @@ fn main_names(
     alloc: Global,
     line: u32,
     formals: &Option<Box<Formals>>,
-) -> Result<Items<Items<u8>>, CheckFault>
+) -> Result<Items<Letters>, CheckFault>
     ensures { Gives (λ xs. xs) result (programs.main_names (lines.formals_of formals.now)) }
 {
     let names = byte_channels(alloc, formals)?;
@@ -139,7 +137,7 @@ fn main_names(
 fn byte_channels(
     alloc: Global,
     formals: &Option<Box<Formals>>,
-) -> Result<Items<Items<u8>>, CheckFault>
+) -> Result<Items<Letters>, CheckFault>
     ensures { Gives (λ xs. xs) result (programs.byte_channels (lines.formals_of formals.now)) }
 {
     match formals {
@@ -148,7 +146,7 @@ fn byte_channels(
     }
 }
 
-fn some_channels(alloc: Global, formals: &Formals) -> Result<Items<Items<u8>>, CheckFault>
+fn some_channels(alloc: Global, formals: &Formals) -> Result<Items<Letters>, CheckFault>
     ensures { Gives (λ xs. xs) result (programs.byte_channels (lines.some_formals_of formals.now)) }
 {
     if formals.others.len() > 2 {
@@ -158,14 +156,14 @@ fn some_channels(alloc: Global, formals: &Formals) -> Result<Items<Items<u8>>, C
         return Err(CheckFault::NoMain);
     }
     let mut names = Items::new(alloc);
-    names.push(Items::from_slice(alloc, &formals.name)?)?;
+    names.push(formals.name.copy()?)?;
     let mut before = &formals.spec;
     for formal in &formals.others {
         before = spec_after(before, &formal.spec);
         if !is_byte_channel(before) {
             return Err(CheckFault::NoMain);
         }
-        names.push(Items::from_slice(alloc, &formal.name)?)?;
+        names.push(formal.name.copy()?)?;
     }
     Ok(names)
 }
@@ -208,14 +206,14 @@ fn is_byte(part: &Part) -> bool
 }
 
 /// What the names of its formals stand for: the channels from number 0 on.
-fn channels_from(alloc: Global, names: &[Items<u8>]) -> Result<Vec<Named>, AllocError>
+fn channels_from(alloc: Global, names: &[Letters]) -> Result<Vec<Named>, AllocError>
     requires few { length names.now ≤ 3 }
     ensures { IfOk result (λ xs. pairs_of xs.items ≡ programs.channels_from 0 names.now) }
 {
     let mut all = Vec::new(alloc);
     let mut number = 0_u32;
     for name in names {
-        all.push(Named::new(alloc, name.as_slice(), byte_channel(alloc, number)?)?)?;
+        all.push(Named::new(name, byte_channel(alloc, number)?)?)?;
         number += 1;
     }
     Ok(all)
@@ -243,9 +241,8 @@ fn behind_items<'t>(
     names: Vec<Named>,
     body: &'t Process,
 ) -> Result<Term, CheckFault>
-    ensures { Unfolds term_of result unfolder.new.numbers
-        (behind (items_within (map item_of items.now) (pairs_of names.items))
-        (body_unfolded body.now) (meant_at unfolder.old at) 0 (counted unfolder.old)) }
+    ensures { Reads term_of result unfolder.old unfolder.new at 0
+        (body_behind items.now names.items body.now) }
 {
     unfolder.blocks.open(alloc, at)?;
     let heads = entered_items(unfolder, alloc, items, names)?;
@@ -263,8 +260,7 @@ fn entered_items<'t>(
     names: Vec<Named>,
 ) -> Result<Items<Declaration>, CheckFault>
     requires { HasBlock unfolder.old.blocks }
-    ensures { Declares result unfolder.old unfolder.new 1
-        (items_within (map item_of items.now) (pairs_of names.items)) }
+    ensures { Declares result unfolder.old unfolder.new 1 (items_and_names items.now names.items) }
 {
     let heads = items_declared(unfolder, alloc, 1, items)?;
     unfolder.blocks.enter(alloc, names)?;

@@ -48,11 +48,11 @@ one_formal x (Some w) rest = refl
 
 formal_step : (ns : Names) (line : ℕ) (s : L.Spec) (fs : List Formal) (i : ℕ) (f : Formal) → i < length fs → f ≡ get_or fs i f
     → other_formals ns line s (map lines.formal_of (drop i fs))
-    ≡ (named_formal f.name.items (wanted ns line (spec_after s (option_map lines.spec_of f.spec))) >>= after_one (other_formals ns line (spec_after s (option_map lines.spec_of f.spec)) (map lines.formal_of (drop (i + 1) fs))))
+    ≡ (named_formal f.name (wanted ns line (spec_after s (option_map lines.spec_of f.spec))) >>= after_one (other_formals ns line (spec_after s (option_map lines.spec_of f.spec)) (map lines.formal_of (drop (i + 1) fs))))
 unfolding other_formals
 formal_step ns line s fs i f h e =
     let next : i + 1 ≡ suc i = omega arith in
-    rw (drop-cons fs i f h, sym e, next) (one_formal f.name.items _ _)
+    rw (drop-cons fs i f h, sym e, next) (one_formal f.name _ _)
 
 those_and_one : (xs : List (Name × C.Wanted)) (x : Name × C.Wanted) (rest : Listed) → those_after xs (after_one rest x) ≡ those_after (xs ++ x ∷ []) rest
 those_and_one xs x None = refl
@@ -61,19 +61,19 @@ those_and_one xs x (Some ys) = ap Some (sym (append_assoc xs (x ∷ []) ys))
 module _ (ns : Names) (line : ℕ) (spec : Spec) (fs : List Formal) (i : ℕ) (all : List WantedFormal) (before now : Spec) (f : Formal)
     (below : i < length fs) (at : f ≡ get_or fs i f) (lists : Lists ns line spec fs i all before)
     (own : lines.spec_of now ≡ spec_after (lines.spec_of before) (option_map lines.spec_of f.spec)) where
-  formal_here : those_after (formals_of all) (named_formal f.name.items (wanted ns line (lines.spec_of now)) >>= after_one (other_formals ns line (lines.spec_of now) (map lines.formal_of (drop (i + 1) fs))))
+  formal_here : those_after (formals_of all) (named_formal f.name (wanted ns line (lines.spec_of now)) >>= after_one (other_formals ns line (lines.spec_of now) (map lines.formal_of (drop (i + 1) fs))))
       ≡ other_formals ns line (lines.spec_of spec) (map lines.formal_of fs)
   formal_here =
-      ap (λ (s : L.Spec). those_after (formals_of all) (named_formal f.name.items (wanted ns line s) >>= after_one (other_formals ns line s (map lines.formal_of (drop (i + 1) fs))))) own
+      ap (λ (s : L.Spec). those_after (formals_of all) (named_formal f.name (wanted ns line s) >>= after_one (other_formals ns line s (map lines.formal_of (drop (i + 1) fs))))) own
       ∙ ap (those_after (formals_of all)) (sym (formal_step ns line (lines.spec_of before) fs i f below at)) ∙ lists.is
 
-  pub formal_stops : (fault : CheckFault) → Refuses fault (named_formal f.name.items (wanted ns line (lines.spec_of now)))
+  pub formal_stops : (fault : CheckFault) → Refuses fault (named_formal f.name (wanted ns line (lines.spec_of now)))
       → Refuses fault (other_formals ns line (lines.spec_of spec) (map lines.formal_of fs))
   formal_stops fault r =
       refused_with fault _ _
       (λ none. sym formal_here ∙ ap (λ (o : Option (Name × C.Wanted)). those_after (formals_of all) (o >>= after_one (other_formals ns line (lines.spec_of now) (map lines.formal_of (drop (i + 1) fs))))) none) r
 
-  pub formal_next : (one : WantedFormal) (then_all : List WantedFormal) → named_formal f.name.items (wanted ns line (lines.spec_of now)) ≡ Some (formal_of one) → then_all ≡ all ++ one ∷ []
+  pub formal_next : (one : WantedFormal) (then_all : List WantedFormal) → named_formal f.name (wanted ns line (lines.spec_of now)) ≡ Some (formal_of one) → then_all ≡ all ++ one ∷ []
       → Lists ns line spec fs (i + 1) then_all now
   formal_next one then_all e more =
       let rest = other_formals ns line (lines.spec_of now) (map lines.formal_of (drop (i + 1) fs)) in

@@ -33,12 +33,11 @@ module _ (ns : Names) (line : ℕ) (input : InputTree) (v : VarTree) (p : Protoc
     pub listed_nothing : (e : CheckFault) → Refuses e (stored ns line ps (lines.target_of ts.first ∷ map lines.target_of ts.others.items)) → Refuses e (received ns line (lines.input_of input))
     listed_nothing e = refused_with e _ _ (λ h. listed ∙ none_then _ h)
 
-  module _ (name : Vec ℕ Global) (ts : Vec TargetTree Global) (x : List ℕ) (k : ℕ) (ys : List TargetTree) (is : input ≡ inputs.Tagged v name ts) (named : x ≡ name.items) (seen : ys ≡ ts.items) (tag : tag_in p x ≡ Some k) (after : parts_after p (Some k) ≡ Some parts) where
+  module _ (name : List ℕ) (ts : Vec TargetTree Global) (k : ℕ) (ys : List TargetTree) (is : input ≡ inputs.Tagged v name ts) (seen : ys ≡ ts.items) (tag : tag_in p name ≡ Some k) (after : parts_after p (Some k) ≡ Some parts) where
     tagged : received ns line (lines.input_of input) ≡ (stored ns line ps (map lines.target_of ys) >>= λ targets. Some (at, tagged_list k targets))
     tagged =
         ap (λ i. received ns line (lines.input_of i)) is
-        ∙ ap (λ r. r >>= λ c. tag_in c.0 name.items >>= λ k. parts_after c.0 (Some k) >>= λ parts. stored ns line parts (map lines.target_of ts.items) >>= λ targets. Some (c.1, tagged_list k targets)) channel
-        ∙ ap (λ z. tag_in p z >>= λ k. parts_after p (Some k) >>= λ parts. stored ns line parts (map lines.target_of ts.items) >>= λ targets. Some (at, tagged_list k targets)) (sym named)
+        ∙ ap (λ r. r >>= λ c. tag_in c.0 name >>= λ k. parts_after c.0 (Some k) >>= λ parts. stored ns line parts (map lines.target_of ts.items) >>= λ targets. Some (c.1, tagged_list k targets)) channel
         ∙ ap (λ r. r >>= λ k. parts_after p (Some k) >>= λ parts. stored ns line parts (map lines.target_of ts.items) >>= λ targets. Some (at, tagged_list k targets)) tag
         ∙ ap (λ r. r >>= λ parts. stored ns line parts (map lines.target_of ts.items) >>= λ targets. Some (at, tagged_list k targets)) after
         ∙ ap (λ qs. stored ns line qs (map lines.target_of ts.items) >>= λ targets. Some (at, tagged_list k targets)) (sym same)

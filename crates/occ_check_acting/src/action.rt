@@ -1,15 +1,11 @@
 //! Processes that stand in one line, and the parts of the others that declare nothing.
 
 ghost use Rattle.std.specs.Prelude.{◌∷◌, [], map};
-ghost use Rattle.occ_term.specs.Terms.{no_variants, or_variant};
 ghost use Rattle.occ_term.specs.View.{item_of, items_of, reception_of, targets_of, term_of, test_of, variants_of};
 ghost use Rattle.occ_check_meaning.specs.Actions as meant;
 ghost use Rattle.occ_check_meaning.specs.Items as items;
-ghost use Rattle.occ_check_acting.specs.Action.{Chooses, as_assignment, as_output, as_received, assigned_in, chosen_of, listed_of, output_in, received_in, selector_in, side_assigned, sides_in, test_in, variable_parts, variables_in};
-ghost use Rattle.occ_check_names.specs.View.{Gives, Lends, Makes, one_value, part_of, typed_of};
-ghost use Rattle.occ_check_names.specs.Reading.{all_of, read_in};
-ghost use Rattle.occ_tree_grammar.specs.Expressions.Trees.{expression_of as tree_of};
-ghost use Rattle.occ_tree_grammar.specs.Lines.Views.{var_of};
+ghost use Rattle.occ_check_acting.specs.Action.{Chooses, as_assignment, as_output, as_received, assigned_in, chosen_of, listed_of, output_in, received_in, selector_in, sides_in, test_in, variable_parts, variables_in, all_sides_in, all_variables_in, item_assigned, only_variant, side_in};
+ghost use Rattle.occ_check_names.specs.View.{Gives, Lends, Makes, one_value};
 
 use crate::target::{apart, placed, stored, stored_list};
 use indexmap::IndexSet;
@@ -71,8 +67,7 @@ fn all_variables(
     context: Context<'_, '_>,
     variables: &OneOrMore<Var>,
 ) -> Result<Vec<(Primitive, Part)>, CheckFault>
-    ensures { Gives variable_parts result
-        (variables_in context.entry (all_of var_of variables.now)) }
+    ensures { Gives variable_parts result (all_variables_in context.entry variables.now) }
 {
     let mut all = Vec::new(context.alloc);
     all.push(variable_of(context, &variables.first)?)?;
@@ -85,8 +80,7 @@ fn each_variable(
     context: Context<'_, '_>,
     variables: &[Var],
 ) -> Result<Vec<(Primitive, Part)>, CheckFault>
-    ensures { Gives variable_parts result
-        (variables_in context.entry (map var_of variables.now)) }
+    ensures { Gives variable_parts result (variables_in context.entry variables.now) }
 {
     let mut all = Vec::new(context.alloc);
     for variable in variables {
@@ -106,8 +100,7 @@ fn all_sides(
     variables: &[(Primitive, Part)],
     values: &OneOrMore<Expr>,
 ) -> Result<Items<Item>, CheckFault>
-    ensures { Gives items_of result
-        (sides_in context.entry variables.now (all_of tree_of values.now)) }
+    ensures { Gives items_of result (all_sides_in context.entry variables.now values.now) }
 {
     match variables.split_first() {
         None => Err(CheckFault::WrongType { line: context.line }),
@@ -126,8 +119,7 @@ fn each_side(
     variables: &[(Primitive, Part)],
     values: &[Expr],
 ) -> Result<Items<Item>, CheckFault>
-    ensures { Gives items_of result
-        (sides_in context.entry variables.now (map tree_of values.now)) }
+    ensures { Gives items_of result (sides_in context.entry variables.now values.now) }
 {
     let mut made = Items::new(context.alloc);
     let mut left = values;
@@ -154,8 +146,7 @@ fn one_side(
     variable: &(Primitive, Part),
     value: &Expr,
 ) -> Result<Item, CheckFault>
-    ensures { Gives item_of result
-        (read_in context.entry side_assigned variable.now (tree_of value.now)) }
+    ensures { Gives item_of result (side_in context.entry variable.now value.now) }
 {
     let value = typed(context, value)?;
     assigned_item(context.line, variable.0, &variable.1, value)
@@ -183,8 +174,7 @@ fn assigned_item(
     variable: &Part,
     value: Typed,
 ) -> Result<Item, CheckFault>
-    ensures { Gives item_of result
-        (items.assigned_item (primitive, part_of variable.now) (typed_of value)) }
+    ensures { Gives item_of result (item_assigned primitive variable.now value) }
 {
     let left = variable.left.as_slice();
     match value {
@@ -400,8 +390,7 @@ fn only_variant(
     targets: Items<Target>,
     body: Term,
 ) -> Result<Items<Variant>, AllocError>
-    ensures { Makes variants_of result
-        (or_variant tag [] (targets_of targets) (term_of body) no_variants) }
+    ensures { Makes variants_of result (only_variant tag targets body) }
 {
     let variant = Variant {
         tag,

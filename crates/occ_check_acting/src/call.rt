@@ -1,14 +1,12 @@
 //! Calls: what the formals stand for under the actuals.
 
-ghost use Rattle.std.specs.Prelude.{◌≡◌, map};
-ghost use Rattle.occ_tree_grammar.specs.Lines.Views as lines;
+ghost use Rattle.std.specs.Prelude.{◌≡◌};
 ghost use Rattle.occ_tree_grammar.specs.Expressions.Trees.{alone, operand_of, expression_of as tree_of};
 ghost use Rattle.occ_check_meaning.specs.Calls as meant;
 ghost use Rattle.occ_check_meaning.specs.Items as items;
-ghost use Rattle.occ_check_names.specs.View.{Gives, carried_of, channels_known, known_of, stretch_of, variable_known};
-ghost use Rattle.occ_check_names.specs.Reading.{all_of};
+ghost use Rattle.occ_check_names.specs.View.{Gives, carried_of, channels_known, known_of, variable_known};
 ghost use Rattle.occ_check_typing.specs.Declaration.{Opens};
-ghost use Rattle.occ_check_acting.specs.Call.{OpensGiven, actual_in, actuals_in, bound_in, channels_bound, name_with, variable_bound, wanted_of};
+ghost use Rattle.occ_check_acting.specs.Call.{OpensGiven, actual_in, actuals_in, bound_in, channels_bound, name_with, variable_bound, GetsChannels, GetsValue, GetsVariable, all_actuals_in, some_actuals_in};
 
 use crate::formals::{Wanted, WantedFormal};
 use crate::given::{Given, all_evaluated, part_of};
@@ -22,13 +20,14 @@ use occ_check_typing::expression::{known_name, typed, typed_subscripts};
 use occ_check_typing::overlap::some_overlap;
 use occ_check_typing::types::are_same_sizes;
 use occ_held::Held;
+use occ_held::letters::Letters;
 use occ_term::{Primitive, Protocol};
 use occ_tree_grammar::tree::expr::{Expr, Operand};
 use occ_tree_grammar::tree::line::OneOrMore;
 use std::alloc::Global;
 
 /// An actual of a formal that wants no value: a name, with its subscripts.
-fn as_named(line: u32, e: &Expr) -> Result<(&[u8], &[Expr]), CheckFault>
+fn as_named(line: u32, e: &Expr) -> Result<(&Letters, &[Expr]), CheckFault>
     ensures { Gives name_with result (meant.as_named (tree_of e.now)) }
 {
     match e {
@@ -37,7 +36,7 @@ fn as_named(line: u32, e: &Expr) -> Result<(&[u8], &[Expr]), CheckFault>
     }
 }
 
-fn named_operand(line: u32, operand: &Operand) -> Result<(&[u8], &[Expr]), CheckFault>
+fn named_operand(line: u32, operand: &Operand) -> Result<(&Letters, &[Expr]), CheckFault>
     ensures { Gives name_with result (meant.as_named (alone (operand_of operand.now))) }
 {
     match operand {
@@ -72,7 +71,7 @@ fn given_channels(line: u32, known: &Known) -> Result<(&Carried, &Stretch), Chec
 fn variable_given(
     alloc: Global,
     line: u32,
-    name: &[u8],
+    name: &Letters,
     sizes: &[Option<u32>],
     primitive: Primitive,
     own: Primitive,
@@ -80,7 +79,7 @@ fn variable_given(
     given: Given,
 ) -> Result<Opened, CheckFault>
     ensures { OpensGiven result given
-        (variable_bound name.now sizes.now primitive own (stretch_of stretch.now)) }
+        (variable_bound name.now sizes.now primitive own stretch.now) }
 {
     if is_same_type(own, primitive) && takes_sizes(sizes, given.left.as_slice()) {
         let Given {
@@ -100,15 +99,15 @@ fn variable_given(
 fn channels_given(
     alloc: Global,
     line: u32,
-    name: &[u8],
+    name: &Letters,
     sizes: &[Option<u32>],
     carried: &Carried,
     own: &Carried,
     stretch: &Stretch,
     given: Given,
 ) -> Result<Opened, CheckFault>
-    ensures { OpensGiven result given (channels_bound
-        name.now sizes.now (carried_of carried.now) (carried_of own.now) (stretch_of stretch.now)) }
+    ensures { OpensGiven result given
+        (channels_bound name.now sizes.now carried.now own.now stretch.now) }
 {
     if is_same_carried(carried, own) && takes_sizes(sizes, given.left.as_slice()) {
         let Given {
@@ -154,13 +153,13 @@ fn value_actual(
     numbers: &mut Numbers,
     context: Context<'_, '_>,
     depth: u32,
-    name: &[u8],
+    name: &Letters,
     sizes: &[Option<u32>],
     primitive: Primitive,
     e: &Expr,
 ) -> Result<Opened, CheckFault>
-    ensures { Opens result numbers.new (actual_in context.entry depth name.now
-        (meant.wants_value sizes.now primitive) e.now numbers.old) }
+    ensures { GetsValue result context.entry numbers.old numbers.new depth name.now sizes.now
+        primitive e.now }
 {
     let value = Held::new(typed(context, e)?);
     if has_type(sizes, primitive, &value.value) {
@@ -182,13 +181,13 @@ fn variable_actual(
     numbers: &mut Numbers,
     context: Context<'_, '_>,
     depth: u32,
-    name: &[u8],
+    name: &Letters,
     sizes: &[Option<u32>],
     primitive: Primitive,
     e: &Expr,
 ) -> Result<Opened, CheckFault>
-    ensures { Opens result numbers.new (actual_in context.entry depth name.now
-        (meant.wants_variable sizes.now primitive) e.now numbers.old) }
+    ensures { GetsVariable result context.entry numbers.old numbers.new depth name.now sizes.now
+        primitive e.now }
 {
     let (x, es) = as_named(context.line, e)?;
     let known = known_name(context, x)?;
@@ -221,13 +220,13 @@ fn channels_actual(
     numbers: &mut Numbers,
     context: Context<'_, '_>,
     depth: u32,
-    name: &[u8],
+    name: &Letters,
     sizes: &[Option<u32>],
     carried: &Carried,
     e: &Expr,
 ) -> Result<Opened, CheckFault>
-    ensures { Opens result numbers.new (actual_in context.entry depth name.now
-        (meant.wants_channels sizes.now (carried_of carried.now)) e.now numbers.old) }
+    ensures { GetsChannels result context.entry numbers.old numbers.new depth name.now sizes.now
+        carried.now e.now }
 {
     let (x, es) = as_named(context.line, e)?;
     let known = known_name(context, x)?;
@@ -263,10 +262,10 @@ fn actual_of(
     formal: &WantedFormal,
     e: &Expr,
 ) -> Result<Opened, CheckFault>
-    ensures { Opens result numbers.new (actual_in context.entry depth formal.now.name
-        (wanted_of formal.now.wanted) e.now numbers.old) }
+    ensures { Opens result numbers.new
+        (actual_in context.entry depth formal.now e.now numbers.old) }
 {
-    let name = formal.name.as_slice();
+    let name = &formal.name;
     match &formal.wanted {
         Wanted::Value(sizes, primitive) => {
             let sizes = sizes.as_slice();
@@ -291,7 +290,7 @@ fn all_actuals(
     actuals: &[Expr],
 ) -> Result<Opened, CheckFault>
     ensures { Opens result numbers.new
-        (actuals_in context.entry depth formals.now (map tree_of actuals.now) numbers.old) }
+        (all_actuals_in context.entry depth formals.now actuals.now numbers.old) }
 {
     let mut opened = Opened::new(context.alloc);
     let mut others = actuals;
@@ -318,8 +317,8 @@ fn actuals_of(
     formals: &[WantedFormal],
     actuals: &Option<OneOrMore<Expr>>,
 ) -> Result<Opened, CheckFault>
-    ensures { Opens result numbers.new (actuals_in context.entry depth formals.now
-        (meant.actual_list (lines.actuals_of actuals.now)) numbers.old) }
+    ensures { Opens result numbers.new
+        (actuals_in context.entry depth formals.now actuals.now numbers.old) }
 {
     match actuals {
         None => all_actuals(numbers, context, depth, formals, &[]),
@@ -335,7 +334,7 @@ fn some_actuals(
     actuals: &OneOrMore<Expr>,
 ) -> Result<Opened, CheckFault>
     ensures { Opens result numbers.new
-        (actuals_in context.entry depth formals.now (all_of tree_of actuals.now) numbers.old) }
+        (some_actuals_in context.entry depth formals.now actuals.now numbers.old) }
 {
     let Some((formal, rest)) = formals.split_first() else {
         return Err(CheckFault::Arguments { line: context.line });

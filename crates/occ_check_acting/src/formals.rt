@@ -1,13 +1,10 @@
 //! What the formals of a procedure want.
 
-ghost use Rattle.std.specs.Prelude.{◌≡◌, IfOk, map, option_map};
-ghost use Rattle.occ_tree_grammar.specs.Lines.Trees.{by_channel};
+ghost use Rattle.std.specs.Prelude.{◌≡◌, IfOk};
 ghost use Rattle.occ_tree_grammar.specs.Lines.Views as lines;
 ghost use Rattle.occ_check_meaning.specs.Calls as meant;
 ghost use Rattle.occ_check_names.specs.View.{Gives};
-ghost use Rattle.occ_check_names.specs.Reading.{read_in};
-ghost use Rattle.occ_check_acting.specs.Call.{all_formals, formal_of, formals_in, formals_of, listed_formals_in, named_formal, wanted_in, wanted_of, wants_a_value, wants_a_variable};
-ghost use Rattle.occ_check_typing.specs.Typing.{open_sizes_in};
+ghost use Rattle.occ_check_acting.specs.Call.{all_formals, formal_of, formals_in, formals_of, listed_formals_in, named_formal, wanted_in, wanted_of, following_spec, other_formals_in, some_formals_in, wants_channels_in, wants_value_in, wants_variable_in};
 
 use occ_check_names::context::Context;
 use occ_check_names::fault::CheckFault;
@@ -15,6 +12,7 @@ use occ_check_names::known::Carried;
 use occ_check_names::operators::primitive_of;
 use occ_check_typing::declaration::once;
 use occ_check_typing::types::{carried_by, open_sizes_of};
+use occ_held::letters::Letters;
 use occ_term::Primitive;
 use occ_tree_grammar::tree::line::{Carried as CarriedTree, Formal, Formals, Size, Spec};
 use sqlite_items::Items;
@@ -43,7 +41,7 @@ impl Drop for Wanted {
 /// A formal, and what it wants.
 pub struct WantedFormal {
     /// The name.
-    pub name: Items<u8>,
+    pub name: Letters,
     /// What it wants.
     pub wanted: Wanted,
 }
@@ -76,8 +74,7 @@ fn value_wanted(
     sizes: &[Size],
     primitive: Primitive,
 ) -> Result<Wanted, CheckFault>
-    ensures { Gives wanted_of result
-        (wants_a_value primitive (open_sizes_in context.entry sizes.now)) }
+    ensures { Gives wanted_of result (wants_value_in context.entry sizes.now primitive) }
 {
     let sizes = open_sizes_of(context, sizes)?;
     Ok(Wanted::Value(sizes, primitive))
@@ -88,8 +85,7 @@ fn variable_wanted(
     sizes: &[Size],
     primitive: Primitive,
 ) -> Result<Wanted, CheckFault>
-    ensures { Gives wanted_of result
-        (wants_a_variable primitive (open_sizes_in context.entry sizes.now)) }
+    ensures { Gives wanted_of result (wants_variable_in context.entry sizes.now primitive) }
 {
     let sizes = open_sizes_of(context, sizes)?;
     Ok(Wanted::Variable(sizes, primitive))
@@ -100,8 +96,7 @@ fn channels_wanted(
     sizes: &[Size],
     carried: &CarriedTree,
 ) -> Result<Wanted, CheckFault>
-    ensures { Gives wanted_of result (read_in context.entry meant.wanted
-        (by_channel (map lines.size_of sizes.now) (lines.carried_of carried.now))) }
+    ensures { Gives wanted_of result (wants_channels_in context.entry sizes.now carried.now) }
 {
     let sizes = open_sizes_of(context, sizes)?;
     let carried = carried_by(context, carried)?;
@@ -118,7 +113,7 @@ pub fn formals_of(
     context: Context<'_, '_>,
     formals: &Option<Box<Formals>>,
 ) -> Result<Vec<WantedFormal>, CheckFault>
-    ensures { Gives all_formals result (formals_in context.entry (lines.formals_of formals.now)) }
+    ensures { Gives all_formals result (formals_in context.entry formals.now) }
 {
     match formals {
         None => Ok(Vec::new(context.alloc)),
@@ -130,8 +125,7 @@ fn some_formals(
     context: Context<'_, '_>,
     formals: &Formals,
 ) -> Result<Vec<WantedFormal>, CheckFault>
-    ensures { Gives all_formals result
-        (formals_in context.entry (lines.some_formals_of formals.now)) }
+    ensures { Gives all_formals result (some_formals_in context.entry formals.now) }
 {
     let all = listed_formals(context, formals)?;
     let names = formal_names(context.alloc, &all)?;
@@ -139,12 +133,12 @@ fn some_formals(
     Ok(all)
 }
 
-fn formal_names(alloc: Global, formals: &[WantedFormal]) -> Result<Items<Items<u8>>, AllocError>
+fn formal_names(alloc: Global, formals: &[WantedFormal]) -> Result<Items<Letters>, AllocError>
     ensures { IfOk result (λ names. names ≡ meant.formal_names (formals_of formals.now)) }
 {
     let mut names = Items::new(alloc);
     for formal in formals {
-        names.push(Items::from_slice(alloc, formal.name.as_slice())?)?;
+        names.push(formal.name.copy()?)?;
     }
     Ok(names)
 }
@@ -166,12 +160,12 @@ fn listed_formals(
 fn wanted_formal(
     context: Context<'_, '_>,
     spec: &Spec,
-    name: &[u8],
+    name: &Letters,
 ) -> Result<WantedFormal, CheckFault>
     ensures { Gives formal_of result (named_formal name.now (wanted_in context.entry spec.now)) }
 {
     let wanted = wanted_by(context, spec)?;
-    let name = Items::from_slice(context.alloc, name)?;
+    let name = name.copy()?;
     Ok(WantedFormal { name, wanted })
 }
 
@@ -181,8 +175,7 @@ fn other_formals(
     spec: &Spec,
     formals: &[Formal],
 ) -> Result<Vec<WantedFormal>, CheckFault>
-    ensures { Gives all_formals result (read_in context.entry meant.other_formals
-        (lines.spec_of spec.now) (map lines.formal_of formals.now)) }
+    ensures { Gives all_formals result (other_formals_in context.entry spec.now formals.now) }
 {
     let mut all = Vec::new(context.alloc);
     let mut before = spec;
@@ -196,8 +189,7 @@ fn other_formals(
 
 /// The spec of a formal behind one of this spec.
 pub fn spec_after<'a>(before: &'a Spec, own: &'a Option<Spec>) -> &'a Spec
-    ensures { lines.spec_of result.now
-        ≡ meant.spec_after (lines.spec_of before.now) (option_map lines.spec_of own.now) }
+    ensures { lines.spec_of result.now ≡ following_spec before.now own.now }
 {
     match own {
         None => before,

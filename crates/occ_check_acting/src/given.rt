@@ -1,13 +1,11 @@
 //! The subscripts of an actual, evaluated where the call begins.
 
-ghost use Rattle.std.specs.Prelude.{ℕ, ◌≡◌, ◌∷◌, ◌++◌, [], IfOk, map, None};
+ghost use Rattle.std.specs.Prelude.{ℕ, ◌≡◌, ◌∷◌, ◌++◌, [], IfOk};
 ghost use Rattle.occ_term.specs.ArraySizes.{AreFew};
-ghost use Rattle.occ_term.specs.View.{expression_of, subscripts};
-ghost use Rattle.occ_check_meaning.specs.Calls as meant;
-ghost use Rattle.occ_check_meaning.specs.Constants.{constant};
-ghost use Rattle.occ_check_names.specs.View.{Makes, evaluated_of, numbers_of, stretch_of, subscripts_of};
+ghost use Rattle.occ_term.specs.View.{subscripts};
+ghost use Rattle.occ_check_names.specs.View.{Makes, numbers_of, stretch_of};
 ghost use Rattle.occ_check_names.specs.declared.numbers.Numbers.{Numbers};
-ghost use Rattle.occ_check_acting.specs.Call.{Evaluates, EvaluatesFrom, one_constant, part_under};
+ghost use Rattle.occ_check_acting.specs.Call.{Evaluates, EvaluatesFrom, one_constant, cell_evaluated, each_evaluated, stretch_under, subscript_evaluated};
 
 use occ_check_names::constant::{constant_of, is_below};
 use occ_check_names::fault::CheckFault;
@@ -15,6 +13,7 @@ use occ_check_names::known::{Evaluated, Stretch};
 use occ_check_names::measuring::count_declaration;
 use occ_check_names::numbers::Numbers;
 use occ_held::Held;
+use occ_held::letters::Letters;
 use occ_held::parts::Listed;
 use occ_term::{Declaration, Item, Primitive, Sizes, TermExpr};
 use sqlite_items::Items;
@@ -37,12 +36,12 @@ fn one_evaluated(
     alloc: Global,
     line: u32,
     depth: u32,
-    name: &[u8],
+    name: &Letters,
     size: u32,
     e: TermExpr,
 ) -> Result<Given, CheckFault>
-    ensures { EvaluatesFrom result numbers.old numbers.new (meant.one_evaluated
-        name.now depth size (expression_of e) (constant (expression_of e))) }
+    ensures { EvaluatesFrom result numbers.old numbers.new
+        (subscript_evaluated name.now depth size e) }
 {
     match constant_of(&e) {
         Some(value) => constant_given(alloc, line, size, value),
@@ -66,11 +65,11 @@ fn cell_given(
     alloc: Global,
     line: u32,
     depth: u32,
-    name: &[u8],
+    name: &Letters,
     e: TermExpr,
 ) -> Result<Given, CheckFault>
-    ensures { (size : ℕ) → EvaluatesFrom result numbers.old numbers.new
-        (meant.one_evaluated name.now depth size (expression_of e) None) }
+    ensures { (size : ℕ)
+        → EvaluatesFrom result numbers.old numbers.new (cell_evaluated name.now depth size e) }
 {
     let cell = numbers.more_cells(alloc, Primitive::Int, name, &[])?;
     let value = Item::One(Primitive::Int, e);
@@ -113,13 +112,13 @@ pub(crate) fn all_evaluated(
     alloc: Global,
     line: u32,
     depth: u32,
-    name: &[u8],
+    name: &Letters,
     under: Listed<TermExpr>,
     sizes: &[u32],
 ) -> Result<Given, CheckFault>
     requires { AreFew sizes.now }
     ensures { EvaluatesFrom result numbers.old numbers.new
-        (meant.all_evaluated name.now depth (subscripts_of under) sizes.now) }
+        (each_evaluated name.now depth under sizes.now) }
 {
     if under.is_empty() {
         let mut given = Given::new(alloc);
@@ -164,8 +163,7 @@ pub(crate) fn part_of(
     under: Items<Evaluated>,
     left: Sizes,
 ) -> Result<Stretch, AllocError>
-    ensures { Makes stretch_of result
-        (part_under (stretch_of stretch.now) (subscripts (map evaluated_of under)) left) }
+    ensures { Makes stretch_of result (stretch_under stretch.now under left) }
 {
     let mut all = Items::from_slice(alloc, stretch.subscripts.as_slice())?;
     all.append(under)?;

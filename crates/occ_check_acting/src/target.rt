@@ -1,13 +1,11 @@
 //! Where what is input is stored.
 
-ghost use Rattle.std.specs.Prelude.{◌≡◌, [], map};
-ghost use Rattle.occ_check_acting.specs.Action.{each_stored_in, stored_in, stored_one, takes};
+ghost use Rattle.std.specs.Prelude.{◌≡◌, []};
+ghost use Rattle.occ_check_acting.specs.Action.{each_stored_in, stored_in, takes, counted_target, list_stored_in, one_stored_in, plain_target, stored_list_in};
 ghost use Rattle.occ_check_clashes.specs.Clash.{stretches_at};
 ghost use Rattle.occ_check_meaning.specs.Expressions as expressions;
 ghost use Rattle.occ_check_meaning.specs.Items as meant;
-ghost use Rattle.occ_check_names.specs.View.{Allows, Gives, part_of, variable_part};
-ghost use Rattle.occ_check_names.specs.Reading.{all_of, read_in};
-ghost use Rattle.occ_tree_grammar.specs.Lines.Views.{target_of as target_tree};
+ghost use Rattle.occ_check_names.specs.View.{Allows, Gives, part_of};
 ghost use Rattle.occ_term.specs.View.{place_of, target_of, targets_of};
 
 use occ_check_clashes::clash::some_clash;
@@ -39,8 +37,7 @@ fn target_of(
     primitive: Primitive,
     variable: Part,
 ) -> Result<Target, CheckFault>
-    ensures { Gives target_of result
-        (meant.target_of line part.now (meant.aim primitive (part_of variable))) }
+    ensures { Gives target_of result (plain_target line part.now primitive variable) }
 {
     if takes_part(part, primitive, variable.left.as_slice()) {
         Ok(Target::Into(placed(line, variable)))
@@ -69,8 +66,7 @@ fn counted_target(
     number: (Primitive, Part),
     array: (Primitive, Part),
 ) -> Result<Target, CheckFault>
-    ensures { Gives target_of result (meant.target_of
-        line part.now (meant.counted_aim (variable_part number) (variable_part array))) }
+    ensures { Gives target_of result (counted_target line part.now number array) }
 {
     let (counts, number) = number;
     let (holds, array) = array;
@@ -104,8 +100,7 @@ fn one_stored(
     part: &PartType,
     target: &TargetTree,
 ) -> Result<Target, CheckFault>
-    ensures { Gives target_of result
-        (read_in context.entry stored_one part.now (target_tree target.now)) }
+    ensures { Gives target_of result (one_stored_in context.entry part.now target.now) }
 {
     match target {
         TargetTree::Whole(variable) => {
@@ -126,8 +121,7 @@ fn each_stored(
     parts: &[PartType],
     targets: &[TargetTree],
 ) -> Result<Items<Target>, CheckFault>
-    ensures { Gives targets_of result
-        (each_stored_in context.entry parts.now (map target_tree targets.now)) }
+    ensures { Gives targets_of result (each_stored_in context.entry parts.now targets.now) }
 {
     let mut made = Items::new(context.alloc);
     let mut left = targets;
@@ -173,8 +167,7 @@ pub fn stored(
     parts: &[PartType],
     targets: &[TargetTree],
 ) -> Result<Items<Target>, CheckFault>
-    ensures { Gives targets_of result
-        (stored_in context.entry parts.now (map target_tree targets.now)) }
+    ensures { Gives targets_of result (stored_in context.entry parts.now targets.now) }
 {
     let made = match each_stored(context, parts, targets) {
         Ok(made) => made,
@@ -196,8 +189,7 @@ pub fn stored_list(
     parts: &[PartType],
     targets: &OneOrMore<TargetTree>,
 ) -> Result<Items<Target>, CheckFault>
-    ensures { Gives targets_of result
-        (stored_in context.entry parts.now (all_of target_tree targets.now)) }
+    ensures { Gives targets_of result (stored_list_in context.entry parts.now targets.now) }
 {
     let made = match list_stored(context, parts, targets) {
         Ok(made) => made,
@@ -216,8 +208,7 @@ fn list_stored(
     parts: &[PartType],
     targets: &OneOrMore<TargetTree>,
 ) -> Result<Items<Target>, CheckFault>
-    ensures { Gives targets_of result
-        (each_stored_in context.entry parts.now (all_of target_tree targets.now)) }
+    ensures { Gives targets_of result (list_stored_in context.entry parts.now targets.now) }
 {
     match parts.split_first() {
         None => Err(CheckFault::Protocol { line: context.line }),

@@ -1,14 +1,15 @@
 -- Inputs of variants: what is checked and counted before what stands under them, the parts of a variant, and what is left of one.
 -- Manual: combining processes.
-use Rattle.std.specs.Prelude.{List, Option, Some, ℕ, map}
+use Rattle.std.specs.Prelude.{List, Option, Result, Some, ℕ, map}
 use Rattle.occ_tree_grammar.specs.Lines.Trees as L
 use Rattle.occ_tree_grammar.specs.declared.tree.process.Variant.TheVariants as variants
 use Rattle.occ_tree_grammar.specs.Many.{◌>>=◌}
 use Rattle.occ_tree_grammar.specs.Lines.Trees.{Var}
-use Rattle.occ_tree_grammar.specs.Lines.Views.{target_of}
-use Rattle.occ_tree_grammar.specs.Processes.Views.{process_of, held_decls}
+use Rattle.occ_tree_grammar.specs.Lines.Views.{target_of, var_of}
+use Rattle.occ_tree_grammar.specs.Processes.Views.{process_of, held_decls, variant_of}
 use Rattle.occ_tree_grammar.specs.Processes.Trees.{Decls}
 use Rattle.occ_tree_grammar.specs.declared.tree.line.Target.{Target}
+use Rattle.occ_tree_grammar.specs.declared.tree.line.Var.{Var as VarCode}
 use Rattle.occ_tree_grammar.specs.declared.tree.process.Decl.{Decl}
 use Rattle.occ_tree_grammar.specs.declared.tree.process.Process.{Process}
 use Rattle.occ_tree_grammar.specs.declared.tree.process.Variant.{Variant}
@@ -18,7 +19,9 @@ use Rattle.occ_term.specs.Sizes.{size_of_place, size_of_targets}
 use Rattle.occ_term.specs.Messages.{parts_after}
 use Rattle.occ_term.specs.declared.protocol.Protocol.{Protocol}
 use Rattle.occ_term.specs.Terms.{Variants}
-use Rattle.occ_term.specs.View.{declarations_of, targets_of}
+use Rattle.occ_term.specs.View.{declarations_of, place_of, targets_of}
+use Rattle.occ_term.specs.declared.expression.Place.{Place}
+use Rattle.occ_term.specs.declared.expression.Target.{Target as TermTarget}
 use Rattle.occ_check_meaning.specs.Performing as P
 use Rattle.occ_check_meaning.specs.Numbers as N
 use Rattle.occ_check_meaning.specs.Items.{channel_of, stored}
@@ -26,11 +29,16 @@ use Rattle.occ_check_meaning.specs.Actions.{with_tags}
 use Rattle.occ_check_meaning.specs.Numbers.{Numbers, room}
 use Rattle.occ_check_meaning.specs.Scope.{Names}
 use Rattle.occ_check_meaning.specs.Performing.{Under}
-use Rattle.occ_check_meaning.specs.Recursion.{all_declared, unfolded}
+use Rattle.occ_check_meaning.specs.Recursion.{all_declared, unfolded, variant_unfolded}
+use Rattle.occ_check_names.specs.Reading.{OfLine, ReadsIn}
+use Rattle.occ_check_names.specs.declared.context.Context.{Context}
+use Rattle.occ_check_names.specs.declared.fault.CheckFault.{CheckFault}
+use Rattle.occ_check_names.specs.declared.numbers.Numbers.{Numbers as CodeNumbers}
+use Rattle.occ_check_names.specs.declared.scope.Position.{Position}
 use Rattle.occ_check_opened.specs.declared.unfolder.Unfolder.{Unfolder}
 use Rattle.occ_check_opened.specs.Weights.{decl_nodes}
-use Rattle.occ_check_opened.specs.Progress.{meant_at, counted}
-use Rattle.occ_check_opened.specs.Opened.{put, body_unfolded}
+use Rattle.occ_check_opened.specs.Progress.{ReadsLine, body_weight, counted, meant_at, node_weight}
+use Rattle.occ_check_opened.specs.Opened.{OpensAt, body_unfolded, case_variants, put}
 use Rattle.occ_check_arms.specs.declared.variants.OpenedVariant.{OpenedVariant}
 use Rattle.occ_check_arms.specs.declared.variants.VariantHead.{VariantHead}
 
@@ -50,6 +58,28 @@ storing ns line depth p k ts n = do
   m ← room depth (size_of_targets targets) n
   Some (targets, m)
 
+-- .. of the code
+
+abbrev pub tagged_input : VarCode → OfLine (Protocol × T.Place)
+tagged_input v ns line depth n = variants_taken ns line depth (var_of v) n
+
+abbrev pub tagged_place : Protocol × Place → Protocol × T.Place
+tagged_place c = (c.0, place_of c.1)
+
+abbrev pub after_tag : Protocol → (tag : ℕ) → List Target → OfLine (List T.Target)
+after_tag p k ts ns line depth n = storing ns line depth p k (map target_of ts) n
+
+-- targets are answered that a line unfolds to, in a context and at a position
+abbrev pub StoresIn : Result (List TermTarget) CheckFault → Context → (old new : CodeNumbers) → ℕ → OfLine (List T.Target) → Type 0
+StoresIn result c old new depth part = ReadsIn targets_of result c old new depth part
+
+abbrev pub StoresAt : Result (List TermTarget) CheckFault → Unfolder → Unfolder → Position → (line depth : ℕ) → OfLine (List T.Target) → Type 0
+StoresAt result old new at line depth part = ReadsLine targets_of result old new at line depth part
+
+-- an input of variants
+abbrev pub input_case : ℕ → VarCode → List Variant → Under T.Term
+input_case line v vs = P.taken_by_variant line (var_of v) (case_variants vs)
+
 -- ---- the parts of a variant
 
 abbrev pub declarations_of_variant : Variant → Decls
@@ -67,6 +97,13 @@ body_of_variant (variants.Tagged' shape ds line x ts n) = n
 abbrev pub variant_with_targets : ℕ → List Target → List Decl → Process → Protocol → (tag : ℕ) → Under Variants
 variant_with_targets line ts ds p = P.variant_of line (map target_of ts) (all_declared (decl_nodes ds)) (body_unfolded p)
 
+-- a variant, and how large it is with what is in scope there
+abbrev pub a_variant : Variant → Protocol → (tag : ℕ) → Under Variants
+a_variant v = variant_unfolded (variant_of v)
+
+abbrev pub whole_variant : Unfolder → Position → Variant → ℕ
+whole_variant u at v = node_weight u at (variant_of v)
+
 -- ---- a variant that is opened
 
 abbrev pub variant_with : VariantHead → T.Term → T.Variants
@@ -74,3 +111,12 @@ variant_with h t = T.or_variant h.tag (declarations_of h.declarations) (targets_
 
 abbrev pub variant_left : Unfolder → OpenedVariant → Option (T.Variants × N.Numbers)
 variant_left u o = put (variant_with o.head) (unfolded (process_of o.body.now) (meant_at u o.at) o.depth (counted u))
+
+abbrev pub OpensVariant : Result OpenedVariant CheckFault → Unfolder → Unfolder → Position → ℕ → Under Variants → Type 0
+OpensVariant result old new at depth part = OpensAt variant_left result old new at depth part
+
+abbrev pub variant_weight : Unfolder → OpenedVariant → ℕ
+variant_weight u o = body_weight u o.at o.body.now
+
+abbrev pub OpensTargets : Result OpenedVariant CheckFault → Unfolder → Unfolder → Position → (depth line : ℕ) → List Target → List Decl → Process → Protocol → (tag : ℕ) → Type 0
+OpensTargets result old new at depth line ts ds p protocol tag = OpensVariant result old new at depth (variant_with_targets line ts ds p protocol tag)

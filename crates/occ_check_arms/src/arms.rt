@@ -1,21 +1,16 @@
 //! The arms of an ALT.
 
-ghost use Rattle.std.specs.Prelude.{◌≡◌, ◌<◌, ◌≤◌, ◌+◌, IfOk, OnOk};
+ghost use Rattle.std.specs.Prelude.{◌≡◌, ◌<◌, ◌≤◌, ◌+◌, IfOk};
 ghost use Rattle.occ_tree_grammar.specs.Processes.Trees.{more_nodes, no_node};
 ghost use Rattle.occ_tree_grammar.specs.Processes.Views as trees;
 ghost use Rattle.occ_tree_grammar.specs.Processes.Views.{held_arms, held_decls};
 ghost use Rattle.occ_tree_grammar.specs.declared.tree.process.Arm.TheBlock.{hidden-the_row-Arm-2, hidden-the_row-Decl-0};
-ghost use Rattle.occ_tree_grammar.specs.Lines.HeadViews.{guard_of};
-ghost use Rattle.occ_term.specs.View.{arms_of, declarations_of, term_of, variants_of};
-ghost use Rattle.occ_check_meaning.specs.Actions as meant;
-ghost use Rattle.occ_check_meaning.specs.Performing as performing;
-ghost use Rattle.occ_check_meaning.specs.Performing.{alternated};
-ghost use Rattle.occ_check_meaning.specs.Recursion.{all_arms, arm_unfolded};
-ghost use Rattle.occ_check_opened.specs.Opened.{Begins, IsReady, LeavesWithin, OpensAt, body_unfolded};
-ghost use Rattle.occ_check_arms.specs.Arms.{arm_depth, arm_left, arm_weight, arm_with, arms_behind, arms_within, variants_within, declarations_of_arm, each_arm_of, listening, arm_size};
-ghost use Rattle.occ_check_opened.specs.Progress.{body_weight, node_weight, nodes_weight, weight_at};
-ghost use Rattle.occ_check_opened.specs.Weights.{arm_nodes, decl_nodes, node_size};
-ghost use Rattle.occ_check_opened.specs.OpenBlocks.{Keeps};
+ghost use Rattle.occ_term.specs.View.{arms_of, term_of, variants_of};
+ghost use Rattle.occ_check_opened.specs.Opened.{Begins, IsReady, LeavesWithin, Below, Within};
+ghost use Rattle.occ_check_arms.specs.Arms.{arm_depth, arm_weight, arm_with, arms_behind, arms_within, variants_within, declarations_of_arm, listening, arm_size, OpensArm, alt_for, alt_of, an_arm, guard_behind, whole_arm, arms_headed};
+ghost use Rattle.occ_check_opened.specs.Progress.{body_weight, nodes_weight, weight_at, KeepsOpen, single_weight};
+ghost use Rattle.occ_check_opened.specs.Weights.{arm_nodes, decl_nodes};
+ghost use Rattle.occ_check_names.specs.View.{Makes};
 
 use crate::guards::{ArmGuard, depth_behind, guarding_at, guarding_variants_at};
 use crate::variants::listed_variants;
@@ -58,7 +53,7 @@ impl Drop for GuardedHead {
 impl GuardedHead {
     /// The arm with its process.
     pub fn with_process(self, alloc: Global, body: Term) -> Result<Items<TermArm>, AllocError>
-        ensures { IfOk result (λ xs. arms_of xs ≡ arm_with self (term_of body)) }
+        ensures { Makes arms_of result (arm_with self (term_of body)) }
     {
         let GuardedHead { heads, guard } = self;
         let arms = guard.with_process(alloc, body)?;
@@ -90,7 +85,7 @@ impl VariantsHead {
         alloc: Global,
         variants: Items<TermVariant>,
     ) -> Result<Items<TermArm>, AllocError>
-        ensures { IfOk result (λ xs. arms_of xs ≡ variants_within self (variants_of variants)) }
+        ensures { Makes arms_of result (variants_within self (variants_of variants)) }
     {
         let VariantsHead {
             heads,
@@ -122,7 +117,7 @@ impl ArmsHead {
         alloc: Global,
         arms: Items<TermArm>,
     ) -> Result<Items<TermArm>, AllocError>
-        ensures { IfOk result (λ xs. arms_of xs ≡ arms_within self (arms_of arms)) }
+        ensures { Makes arms_of result (arms_within self (arms_of arms)) }
     {
         let ArmsHead { heads, over } = self;
         let arms = over.with_arms(alloc, arms)?;
@@ -138,9 +133,8 @@ pub fn arms_opened<'t>(
     by_priority: bool,
     arms: &'t [Arm],
 ) -> Result<Opened<'t>, CheckFault>
-    ensures opens { Begins result unfolder.old unfolder.new at depth
-        (alternated by_priority (all_arms (arm_nodes arms.now))) }
-    ensures kept { OnOk result (Keeps unfolder.old.blocks unfolder.new.blocks) }
+    ensures opens { Begins result unfolder.old unfolder.new at depth (alt_of by_priority arms.now) }
+    ensures kept { KeepsOpen result unfolder.old unfolder.new }
     ensures weight { LeavesWithin result unfolder.new
         (nodes_weight unfolder.old at (arm_nodes arms.now)) }
     ensures ready { IfOk result IsReady }
@@ -165,10 +159,10 @@ pub fn each_arm_opened<'t>(
     arm: &'t Arm,
 ) -> Result<Opened<'t>, CheckFault>
     ensures opens { Begins result unfolder.old unfolder.new at depth
-        (alternated by_priority (each_arm_of line replicator.now arm.now)) }
-    ensures kept { OnOk result (Keeps unfolder.old.blocks unfolder.new.blocks) }
+        (alt_for by_priority line replicator.now arm.now) }
+    ensures kept { KeepsOpen result unfolder.old unfolder.new }
     ensures weight { LeavesWithin result unfolder.new
-        ((node_size (trees.arm_of arm.now) + 1) + weight_at unfolder.old at) }
+        (single_weight unfolder.old at (trees.arm_of arm.now)) }
     ensures ready { IfOk result IsReady }
 {
     unfolder.numbers.node(depth)?;
@@ -189,11 +183,9 @@ pub fn arm_opened<'t>(
     arm: &'t Arm,
 ) -> Result<OpenedArm<'t>, CheckFault>
     requires { depth ≤ 200 }
-    ensures opens { OpensAt arm_left result unfolder.old unfolder.new at depth
-        (arm_unfolded (trees.arm_of arm.now)) }
-    ensures kept { OnOk result (Keeps unfolder.old.blocks unfolder.new.blocks) }
-    ensures weight { IfOk result (λ o. arm_weight unfolder.new o
-        < node_weight unfolder.old at (trees.arm_of arm.now)) }
+    ensures opens { OpensArm result unfolder.old unfolder.new at depth (an_arm arm.now) }
+    ensures kept { KeepsOpen result unfolder.old unfolder.new }
+    ensures weight { Below arm_weight result unfolder.new (whole_arm unfolder.old at arm.now) }
     ensures within { IfOk result (λ o. arm_depth o ≤ 200) }
 {
     let (heads, inside) = unfolder.entering(alloc, at, depth, declarations_of(arm))?;
@@ -211,11 +203,11 @@ fn listening_opened<'t>(
     heads: Items<Declaration>,
 ) -> Result<OpenedArm<'t>, CheckFault>
     requires { depth ≤ 200 }
-    ensures opens { OpensAt arm_left result unfolder.old unfolder.new at depth
+    ensures opens { OpensArm result unfolder.old unfolder.new at depth
         (arms_behind heads (listening arm.now)) }
-    ensures kept { OnOk result (Keeps unfolder.old.blocks unfolder.new.blocks) }
-    ensures weight { IfOk result (λ o. arm_weight unfolder.new o
-        ≤ arm_size arm.now + weight_at unfolder.old at) }
+    ensures kept { KeepsOpen result unfolder.old unfolder.new }
+    ensures weight { Within arm_weight result unfolder.new
+        (arm_size arm.now + weight_at unfolder.old at) }
     ensures within { IfOk result (λ o. arm_depth o ≤ 200) }
 {
     match arm {
@@ -262,11 +254,10 @@ fn guard_opened<'t>(
     heads: Items<Declaration>,
 ) -> Result<OpenedArm<'t>, CheckFault>
     requires { depth ≤ 200 }
-    ensures opens { OpensAt arm_left result unfolder.old unfolder.new at depth
-        (arms_behind heads (performing.arm_of line (guard_of guard.now) (body_unfolded body.now))) }
-    ensures kept { OnOk result (Keeps unfolder.old.blocks unfolder.new.blocks) }
-    ensures weight { IfOk result (λ o. arm_weight unfolder.new o
-        ≤ body_weight unfolder.old at body.now) }
+    ensures opens { OpensArm result unfolder.old unfolder.new at depth
+        (guard_behind heads line guard.now body.now) }
+    ensures kept { KeepsOpen result unfolder.old unfolder.new }
+    ensures weight { Within arm_weight result unfolder.new (body_weight unfolder.old at body.now) }
     ensures within { IfOk result (λ o. arm_depth o ≤ 200) }
 {
     match guard {
@@ -291,8 +282,7 @@ fn arms_behind(
     heads: Items<Declaration>,
     arms: Items<TermArm>,
 ) -> Result<Items<TermArm>, AllocError>
-    ensures { IfOk result (λ xs. arms_of xs
-        ≡ meant.arms_behind (declarations_of heads) (arms_of arms)) }
+    ensures { Makes arms_of result (arms_headed heads arms) }
 {
     let mut heads = heads;
     let mut arms = arms;

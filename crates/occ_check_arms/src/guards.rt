@@ -1,16 +1,13 @@
 //! The guards of arms, each with the node that it heads.
 
-ghost use Rattle.std.specs.Prelude.{◌≡◌, ◌<◌, ◌≤◌, ◌+◌, IfOk, OnOk, option_map};
-ghost use Rattle.occ_tree_grammar.specs.Expressions.Trees.{expression_of as tree_of};
-ghost use Rattle.occ_tree_grammar.specs.Lines.Views as lines;
-ghost use Rattle.occ_term.specs.Terms.{input_arm, no_arms};
-ghost use Rattle.occ_term.specs.View.{arms_of, place_of, term_of, test_of as boolean_of};
+ghost use Rattle.std.specs.Prelude.{◌≡◌, ◌<◌, ◌≤◌, ◌+◌, IfOk};
+ghost use Rattle.occ_term.specs.View.{arms_of, term_of};
 ghost use Rattle.occ_check_meaning.specs.Actions as meant;
 ghost use Rattle.occ_check_acting.specs.Action.{listed_of};
-ghost use Rattle.occ_check_arms.specs.Guards.{guarded_by, guarded_of, variants_guard_of, guard_size, guarding, guarding_variants, variants_guard_size};
-ghost use Rattle.occ_check_names.specs.Reading.{read_in};
-ghost use Rattle.occ_check_names.specs.View.{TakesRoom, Unfolds, numbers_of};
-ghost use Rattle.occ_check_opened.specs.Progress.{counted, names_there};
+ghost use Rattle.occ_check_arms.specs.Guards.{guarded_by, guarded_of, a_guard, a_tag_guard, guarded_size, input_guarded, tag_guard_of, tag_guard_size};
+ghost use Rattle.occ_check_names.specs.Reading.{ReadsIn};
+ghost use Rattle.occ_check_names.specs.View.{TakesRoom, Makes};
+ghost use Rattle.occ_check_opened.specs.Progress.{OpensNothing, ReadsLine};
 
 use occ_check_acting::action::{Listed, as_reception, received, test_of, with_tags};
 use occ_check_names::context::Context;
@@ -60,7 +57,7 @@ impl Drop for ArmGuard {
 impl ArmGuard {
     /// The arm with its process.
     pub fn with_process(self, alloc: Global, body: Term) -> Result<Items<TermArm>, AllocError>
-        ensures { IfOk result (λ xs. arms_of xs ≡ guarded_by self (term_of body)) }
+        ensures { Makes arms_of result (guarded_by self (term_of body)) }
     {
         match self {
             ArmGuard::Input(guarded) => input_arm(alloc, guarded, body),
@@ -79,10 +76,9 @@ pub(crate) fn guarding_at(
     test: &Option<Expr>,
     input: &Input,
 ) -> Result<Guarded, CheckFault>
-    ensures guard { Unfolds guarded_of result unfolder.new.numbers
-        (guarding (names_there unfolder.old at) line depth (option_map tree_of test.now)
-        (lines.input_of input.now) (counted unfolder.old)) }
-    ensures kept { OnOk result (unfolder.new.blocks ≡ unfolder.old.blocks) }
+    ensures guard { ReadsLine guarded_of result unfolder.old unfolder.new at line depth
+        (a_guard test.now input.now) }
+    ensures kept { OpensNothing result unfolder.old unfolder.new }
     ensures within { IfOk result (λ g. meant.depth_behind (listed_of g.listed) (depth + 1) ≤ 200) }
 {
     let scope = names_at(&unfolder.blocks, at);
@@ -104,11 +100,9 @@ pub(crate) fn guarding_variants_at(
     line: u32,
     guard: &VariantGuard,
 ) -> Result<(Option<TermExpr>, Protocol, Place), CheckFault>
-    ensures guard { Unfolds variants_guard_of result unfolder.new.numbers
-        (guarding_variants (names_there unfolder.old at) line depth
-        (option_map tree_of guard.now.condition) (lines.var_of guard.now.channel)
-        (counted unfolder.old)) }
-    ensures kept { OnOk result (unfolder.new.blocks ≡ unfolder.old.blocks) }
+    ensures guard { ReadsLine tag_guard_of result unfolder.old unfolder.new at line depth
+        (a_tag_guard guard.now) }
+    ensures kept { OpensNothing result unfolder.old unfolder.new }
     ensures within { IfOk result (λ _. depth < 200) }
 {
     let scope = names_at(&unfolder.blocks, at);
@@ -122,9 +116,7 @@ pub(crate) fn guarding_variants_at(
 
 /// The arm of a guard with an input, and the process behind it.
 fn input_arm(alloc: Global, guarded: Guarded, body: Term) -> Result<Items<TermArm>, AllocError>
-    ensures { IfOk result (λ arms. arms_of arms
-        ≡ input_arm (boolean_of guarded.test) (place_of guarded.channel)
-        (meant.as_reception (listed_of guarded.listed) (term_of body)) no_arms) }
+    ensures { Makes arms_of result (input_guarded guarded (term_of body)) }
 {
     let Guarded {
         test,
@@ -145,8 +137,8 @@ fn guarding(
     test: &Option<Expr>,
     input: &Input,
 ) -> Result<Guarded, CheckFault>
-    ensures guard { Unfolds guarded_of result numbers.new (read_in context.entry guarding depth
-        (option_map tree_of test.now) (lines.input_of input.now) (numbers_of numbers.old)) }
+    ensures guard { ReadsIn guarded_of result context.entry numbers.old numbers.new depth
+        (a_guard test.now input.now) }
     ensures within { IfOk result (λ g. meant.depth_behind (listed_of g.listed) (depth + 1) ≤ 200) }
 {
     let test = Held::new(test_of(context, test)?);
@@ -169,7 +161,7 @@ fn count_guard(
     listed: &Listed,
 ) -> Result<(), CheckFault>
     ensures counts { TakesRoom result numbers.old numbers.new depth
-        (guard_size (boolean_of test.now) (place_of channel.now) (listed_of listed.now)) }
+        (guarded_size test.now channel.now listed.now) }
     ensures within { IfOk result (λ _. meant.depth_behind (listed_of listed.now) (depth + 1)
         ≤ 200) }
 {
@@ -213,9 +205,8 @@ fn guarding_variants(
     depth: u32,
     guard: &VariantGuard,
 ) -> Result<(Option<TermExpr>, Protocol, Place), CheckFault>
-    ensures guard { Unfolds variants_guard_of result numbers.new
-        (read_in context.entry guarding_variants depth (option_map tree_of guard.now.condition)
-        (lines.var_of guard.now.channel) (numbers_of numbers.old)) }
+    ensures guard { ReadsIn tag_guard_of result context.entry numbers.old numbers.new depth
+        (a_tag_guard guard.now) }
     ensures within { IfOk result (λ _. depth < 200) }
 {
     let test = Held::new(test_of(context, &guard.condition)?);
@@ -234,7 +225,7 @@ fn count_guarded_channel(
     channel: &Place,
 ) -> Result<(), CheckFault>
     ensures counts { TakesRoom result numbers.old numbers.new depth
-        (variants_guard_size (boolean_of test.now) (place_of channel.now)) }
+        (tag_guard_size test.now channel.now) }
     ensures within { IfOk result (λ _. depth < 200) }
 {
     numbers.node(depth)?;

@@ -1,22 +1,18 @@
 //! Inputs of variants.
 
-ghost use Rattle.std.specs.Prelude.{◌≡◌, ◌<◌, ◌≤◌, [], IfOk, OnOk, map};
+ghost use Rattle.std.specs.Prelude.{◌≡◌, ◌<◌, ◌≤◌, IfOk, map};
 ghost use Rattle.occ_tree_grammar.specs.Processes.Views as trees;
 ghost use Rattle.occ_tree_grammar.specs.Processes.Views.{held_decls, held_variants};
 ghost use Rattle.occ_tree_grammar.specs.declared.tree.process.Arm.TheBlock.{hidden-the_row-Decl-0, hidden-the_row-Variant-1};
 ghost use Rattle.occ_tree_grammar.specs.Lines.Views as lines;
 ghost use Rattle.occ_term.specs.Terms.{no_variants};
-ghost use Rattle.occ_term.specs.View.{place_of, targets_of, term_of, variant_of};
-ghost use Rattle.occ_check_meaning.specs.Performing as performing;
-ghost use Rattle.occ_check_meaning.specs.Recursion.{all_variants, variant_unfolded};
+ghost use Rattle.occ_term.specs.View.{term_of, variant_of};
 ghost use Rattle.occ_check_meaning.specs.Actions.{variant_tag};
-ghost use Rattle.occ_check_arms.specs.Variants.{storing, variants_taken, body_of_variant, declarations_of_variant, line_of_variant, targets_of_variant, variant_with_targets, variant_left, variant_with};
-ghost use Rattle.occ_check_names.specs.View.{Unfolds, numbers_of};
-ghost use Rattle.occ_check_opened.specs.Opened.{Begins, IsReady, LeavesWithin, OpensAt};
-ghost use Rattle.occ_check_names.specs.Reading.{read_in};
-ghost use Rattle.occ_check_opened.specs.Progress.{body_weight, counted, declared_weight, names_there, node_weight, nodes_weight};
+ghost use Rattle.occ_check_arms.specs.Variants.{body_of_variant, declarations_of_variant, line_of_variant, targets_of_variant, variant_with, OpensVariant, StoresAt, StoresIn, a_variant, after_tag, input_case, tagged_input, tagged_place, variant_weight, whole_variant, OpensTargets};
+ghost use Rattle.occ_check_opened.specs.Opened.{Begins, IsReady, LeavesWithin, Below, Within};
+ghost use Rattle.occ_check_names.specs.Reading.{ReadsIn};
+ghost use Rattle.occ_check_opened.specs.Progress.{nodes_weight, KeepsOpen, OpensNothing, ReadsLine, weight_behind};
 ghost use Rattle.occ_check_opened.specs.Weights.{decl_nodes, variant_nodes};
-ghost use Rattle.occ_check_opened.specs.OpenBlocks.{Keeps};
 
 use occ_check_acting::action::with_tags;
 use occ_check_acting::target::stored;
@@ -29,6 +25,7 @@ use occ_check_opened::one_line::names_at;
 use occ_check_opened::opened::{Left, Opened};
 use occ_check_opened::unfolder::Unfolder;
 use occ_check_typing::item::{channel_of, parts_after};
+use occ_held::letters::Letters;
 use occ_term::{Declaration, Place, Protocol, Target, Term, Variant as TermVariant};
 use occ_tree_grammar::tree::line::{Target as TargetTree, Var};
 use occ_tree_grammar::tree::process::{Decl, Process, Variant};
@@ -95,9 +92,8 @@ pub fn variants_opened<'t>(
     list: &'t [Variant],
 ) -> Result<Opened<'t>, CheckFault>
     ensures opens { Begins result unfolder.old unfolder.new at depth
-        (performing.taken_by_variant line (lines.var_of channel.now)
-        (λ p. all_variants (variant_nodes list.now) p [])) }
-    ensures kept { OnOk result (Keeps unfolder.old.blocks unfolder.new.blocks) }
+        (input_case line channel.now list.now) }
+    ensures kept { KeepsOpen result unfolder.old unfolder.new }
     ensures weight { LeavesWithin result unfolder.new
         (nodes_weight unfolder.old at (variant_nodes list.now)) }
     ensures ready { IfOk result IsReady }
@@ -121,11 +117,11 @@ pub fn variant_opened<'t>(
     variant: &'t Variant,
 ) -> Result<OpenedVariant<'t>, CheckFault>
     requires { depth ≤ 200 }
-    ensures opens { OpensAt variant_left result unfolder.old unfolder.new at depth
-        (variant_unfolded (trees.variant_of variant.now) protocol.now tag) }
-    ensures kept { OnOk result (Keeps unfolder.old.blocks unfolder.new.blocks) }
-    ensures weight { IfOk result (λ o. body_weight unfolder.new o.at o.body.now
-        < node_weight unfolder.old at (trees.variant_of variant.now)) }
+    ensures opens { OpensVariant result unfolder.old unfolder.new at depth
+        (a_variant variant.now protocol.now tag) }
+    ensures kept { KeepsOpen result unfolder.old unfolder.new }
+    ensures weight { Below variant_weight result unfolder.new
+        (whole_variant unfolder.old at variant.now) }
     ensures within { IfOk result (λ o. o.depth ≤ 200) }
 {
     let line = line_of(variant);
@@ -159,11 +155,10 @@ fn tagged_opened<'t>(
     targets: &[TargetTree],
     body: &'t Process,
 ) -> Result<OpenedVariant<'t>, CheckFault>
-    ensures opens { OpensAt variant_left result unfolder.old unfolder.new at depth
-        (variant_with_targets line targets.now declarations.now body.now protocol.now tag) }
-    ensures kept { OnOk result (Keeps unfolder.old.blocks unfolder.new.blocks) }
-    ensures weight { IfOk result (λ o. body_weight unfolder.new o.at o.body.now
-        ≤ declared_weight unfolder.old at declarations.now body.now) }
+    ensures opens { OpensTargets result unfolder.old unfolder.new at depth line targets.now declarations.now body.now protocol.now tag }
+    ensures kept { KeepsOpen result unfolder.old unfolder.new }
+    ensures weight { Within variant_weight result unfolder.new
+        (weight_behind unfolder.old at declarations.now body.now) }
     ensures within { IfOk result (λ o. o.depth ≤ 200) }
 {
     unfolder.numbers.node(depth)?;
@@ -200,10 +195,9 @@ fn variants_taken_at(
     line: u32,
     channel: &Var,
 ) -> Result<(Protocol, Place), CheckFault>
-    ensures taken { Unfolds (λ c. (c.0, place_of c.1)) result unfolder.new.numbers
-        (variants_taken (names_there unfolder.old at) line depth (lines.var_of channel.now)
-        (counted unfolder.old)) }
-    ensures kept { OnOk result (unfolder.new.blocks ≡ unfolder.old.blocks) }
+    ensures taken { ReadsLine tagged_place result unfolder.old unfolder.new at line depth
+        (tagged_input channel.now) }
+    ensures kept { OpensNothing result unfolder.old unfolder.new }
     ensures within { IfOk result (λ _. depth < 200) }
 {
     let scope = names_at(&unfolder.blocks, at);
@@ -226,10 +220,9 @@ fn storing_at(
     tag: u32,
     targets: &[TargetTree],
 ) -> Result<Items<Target>, CheckFault>
-    ensures targets { Unfolds targets_of result unfolder.new.numbers
-        (storing (names_there unfolder.old at) line depth protocol.now tag
-        (map lines.target_of targets.now) (counted unfolder.old)) }
-    ensures kept { OnOk result (unfolder.new.blocks ≡ unfolder.old.blocks) }
+    ensures targets { StoresAt result unfolder.old unfolder.new at line depth
+        (after_tag protocol.now tag targets.now) }
+    ensures kept { OpensNothing result unfolder.old unfolder.new }
 {
     let scope = names_at(&unfolder.blocks, at);
     storing(
@@ -249,9 +242,8 @@ fn variants_taken(
     depth: u32,
     channel: &Var,
 ) -> Result<(Protocol, Place), CheckFault>
-    ensures taken { Unfolds (λ c. (c.0, place_of c.1)) result numbers.new
-        (read_in context.entry variants_taken depth (lines.var_of channel.now)
-        (numbers_of numbers.old)) }
+    ensures taken { ReadsIn tagged_place result context.entry numbers.old numbers.new depth
+        (tagged_input channel.now) }
     ensures within { IfOk result (λ _. depth < 200) }
 {
     let (protocol, channel) = channel_of(context, channel)?;
@@ -271,8 +263,8 @@ fn storing(
     tag: u32,
     targets: &[TargetTree],
 ) -> Result<Items<Target>, CheckFault>
-    ensures { Unfolds targets_of result numbers.new (read_in context.entry storing depth
-        protocol.now tag (map lines.target_of targets.now) (numbers_of numbers.old)) }
+    ensures { StoresIn result context.entry numbers.old numbers.new depth
+        (after_tag protocol.now tag targets.now) }
 {
     let parts = parts_after(context.alloc, context.line, protocol, Some(tag))?;
     let targets = match stored(context, parts.as_slice(), targets) {
@@ -329,11 +321,11 @@ fn body_of(variant: &Variant) -> &Process
 
 /// The name of a variant's tag.
 #[tactic(auto, unfolding(occ_tree_grammar::specs::Processes::Views::variant_of))]
-pub fn tag_of(variant: &Variant) -> &[u8]
+pub fn tag_of(variant: &Variant) -> &Letters
     ensures { result.now ≡ variant_tag (trees.variant_of variant.now) }
 {
     match variant {
-        Variant::Tagged(_, _, tag, _, _) => tag.as_slice(),
+        Variant::Tagged(_, _, tag, _, _) => tag,
     }
 }
 

@@ -1,6 +1,6 @@
 -- The choices of an IF: what each unfolds to behind its declarations, and what is left of one that is opened.
 -- Manual: combining processes.
-use Rattle.std.specs.Prelude.{List, ℕ, ◌+◌, Option}
+use Rattle.std.specs.Prelude.{List, ℕ, ◌+◌, Option, Result}
 use Rattle.occ_tree_grammar.specs.declared.tree.process.Choice.TheVariants as choices
 use Rattle.occ_tree_grammar.specs.Lines.Views.{replicator_of}
 use Rattle.occ_tree_grammar.specs.Processes.Views.{process_of, choice_of, held_choices, held_decls}
@@ -11,16 +11,19 @@ use Rattle.occ_tree_grammar.specs.Expressions.Trees.{expression_of as tree_of}
 use Rattle.occ_term.specs.Terms as T
 use Rattle.occ_term.specs.Terms.{Choices}
 use Rattle.occ_term.specs.declared.expression.Declaration.{Declaration}
-use Rattle.occ_term.specs.View.{declarations_of, expression_of}
+use Rattle.occ_term.specs.View.{choices_of, declarations_of, expression_of}
+use Rattle.occ_term.specs.declared.term.Choice.{Choice as TermChoice}
 use Rattle.occ_check_meaning.specs.Performing as P
 use Rattle.occ_check_meaning.specs.Actions as A
 use Rattle.occ_check_meaning.specs.Numbers as N
 use Rattle.occ_check_meaning.specs.Performing.{nested, Under, each_of_choices}
 use Rattle.occ_check_meaning.specs.Recursion.{unfolded, all_choices, choice_unfolded}
+use Rattle.occ_check_names.specs.declared.fault.CheckFault.{CheckFault}
+use Rattle.occ_check_names.specs.declared.scope.Position.{Position}
 use Rattle.occ_check_opened.specs.declared.unfolder.Unfolder.{Unfolder}
 use Rattle.occ_check_opened.specs.Weights.{node_size, nodes_size, choice_nodes}
-use Rattle.occ_check_opened.specs.Progress.{meant_at, counted, nodes_weight, body_weight}
-use Rattle.occ_check_opened.specs.Opened.{put, each_choices}
+use Rattle.occ_check_opened.specs.Progress.{meant_at, counted, node_weight, nodes_weight, body_weight}
+use Rattle.occ_check_opened.specs.Opened.{OpensAt, each_choices, if_choices, put}
 use Rattle.occ_check_choices.specs.declared.choices.ChoicesHead.{ChoicesHead}
 use Rattle.occ_check_choices.specs.declared.choices.OpenedChoice.{OpenedChoice}
 use Rattle.occ_check_choices.specs.declared.choices.WhenHead.{WhenHead}
@@ -40,6 +43,20 @@ choosing (choices.InnerIfFor' shape ds line r p c) = nested (each_of_choices lin
 abbrev pub each_choice_of : ℕ → Replicator → Choice → Under Choices
 each_choice_of line r c = each_of_choices line (replicator_of r) (choice_unfolded (choice_of c))
 
+-- an IF, a replicated one, and a choice
+abbrev pub if_of : List Choice → Under T.Term
+if_of cs = P.conditioned (if_choices cs)
+
+abbrev pub if_for : ℕ → Replicator → Choice → Under T.Term
+if_for line r c = P.conditioned (each_choice_of line r c)
+
+abbrev pub a_choice : Choice → Under Choices
+a_choice c = choice_unfolded (choice_of c)
+
+-- how large a choice is with what is in scope there
+abbrev pub whole_choice : Unfolder → Position → Choice → ℕ
+whole_choice u at c = node_weight u at (choice_of c)
+
 -- the size of what stands under a choice
 abbrev pub choice_size : Choice → ℕ
 choice_size (choices.When' shape ds line e n) = node_size (process_of n) + 1
@@ -54,6 +71,10 @@ choice_with h t = A.choices_behind (declarations_of h.heads) (T.or_choice (expre
 abbrev pub choices_within : ChoicesHead → T.Choices → T.Choices
 choices_within h cs = A.choices_behind (declarations_of h.heads) (each_choices h.over cs)
 
+-- choices behind what is set for declarations
+abbrev pub choices_headed : List Declaration → List TermChoice → Choices
+choices_headed heads cs = A.choices_behind (declarations_of heads) (choices_of cs)
+
 -- behind what is set for declarations
 abbrev pub choices_behind : List Declaration → Under T.Choices → Under T.Choices
 choices_behind heads part sc depth n = put (A.choices_behind (declarations_of heads)) (part sc depth n)
@@ -61,6 +82,9 @@ choices_behind heads part sc depth n = put (A.choices_behind (declarations_of he
 abbrev pub choice_left : Unfolder → OpenedChoice → Option (T.Choices × N.Numbers)
 choice_left u (opened.When h p at depth) = put (choice_with h) (unfolded (process_of p.now) (meant_at u at) depth (counted u))
 choice_left u (opened.Inner h cs at depth) = put (choices_within h) (all_choices (choice_nodes cs.now) (meant_at u at) depth (counted u))
+
+abbrev pub OpensChoice : Result OpenedChoice CheckFault → Unfolder → Unfolder → Position → ℕ → Under T.Choices → Type 0
+OpensChoice result old new at depth part = OpensAt choice_left result old new at depth part
 
 abbrev pub choice_weight : Unfolder → OpenedChoice → ℕ
 choice_weight u (opened.When h p at depth) = body_weight u at p.now

@@ -1,19 +1,16 @@
 //! The choices of an IF.
 
-ghost use Rattle.std.specs.Prelude.{◌≡◌, ◌<◌, ◌≤◌, ◌+◌, IfOk, OnOk};
+ghost use Rattle.std.specs.Prelude.{◌≡◌, ◌<◌, ◌≤◌, ◌+◌, IfOk};
 ghost use Rattle.occ_tree_grammar.specs.Processes.Trees.{more_nodes, no_node};
 ghost use Rattle.occ_tree_grammar.specs.Processes.Views as trees;
 ghost use Rattle.occ_tree_grammar.specs.Processes.Views.{held_choices, held_decls};
 ghost use Rattle.occ_tree_grammar.specs.declared.tree.process.Arm.TheBlock.{hidden-the_row-Choice-3, hidden-the_row-Decl-0};
-ghost use Rattle.occ_term.specs.View.{choices_of, declarations_of, term_of};
-ghost use Rattle.occ_check_meaning.specs.Actions as meant;
-ghost use Rattle.occ_check_meaning.specs.Performing.{conditioned};
-ghost use Rattle.occ_check_meaning.specs.Recursion.{all_choices, choice_unfolded};
-ghost use Rattle.occ_check_opened.specs.Opened.{Begins, IsReady, LeavesWithin, OpensAt};
-ghost use Rattle.occ_check_choices.specs.Choices.{choice_depth, choice_left, choice_weight, choice_with, choices_behind, choices_within, choosing, declarations_of_choice, each_choice_of, choice_size};
-ghost use Rattle.occ_check_opened.specs.Progress.{node_weight, nodes_weight, weight_at};
-ghost use Rattle.occ_check_opened.specs.Weights.{choice_nodes, decl_nodes, node_size};
-ghost use Rattle.occ_check_opened.specs.OpenBlocks.{Keeps};
+ghost use Rattle.occ_term.specs.View.{choices_of, term_of};
+ghost use Rattle.occ_check_opened.specs.Opened.{Begins, IsReady, LeavesWithin, Below, Within};
+ghost use Rattle.occ_check_choices.specs.Choices.{choice_depth, choice_weight, choice_with, choices_behind, choices_within, choosing, declarations_of_choice, choice_size, OpensChoice, a_choice, if_for, if_of, whole_choice, choices_headed};
+ghost use Rattle.occ_check_opened.specs.Progress.{nodes_weight, weight_at, KeepsOpen, single_weight};
+ghost use Rattle.occ_check_opened.specs.Weights.{choice_nodes, decl_nodes};
+ghost use Rattle.occ_check_names.specs.View.{Makes};
 
 use occ_check_names::fault::CheckFault;
 use occ_check_names::numbers::deeper;
@@ -50,7 +47,7 @@ impl Drop for WhenHead {
 impl WhenHead {
     /// The choice with its process.
     pub fn with_process(self, alloc: Global, body: Term) -> Result<Items<TermChoice>, AllocError>
-        ensures { IfOk result (λ cs. choices_of cs ≡ choice_with self (term_of body)) }
+        ensures { Makes choices_of result (choice_with self (term_of body)) }
     {
         let WhenHead { heads, test } = self;
         let choices = only_choice(alloc, TermChoice::When(test, body))?;
@@ -77,7 +74,7 @@ impl ChoicesHead {
         alloc: Global,
         choices: Items<TermChoice>,
     ) -> Result<Items<TermChoice>, AllocError>
-        ensures { IfOk result (λ cs. choices_of cs ≡ choices_within self (choices_of choices)) }
+        ensures { Makes choices_of result (choices_within self (choices_of choices)) }
     {
         let ChoicesHead { heads, over } = self;
         let choices = over.with_choices(alloc, choices)?;
@@ -92,9 +89,8 @@ pub fn choices_opened<'t>(
     depth: u32,
     choices: &'t [Choice],
 ) -> Result<Opened<'t>, CheckFault>
-    ensures opens { Begins result unfolder.old unfolder.new at depth
-        (conditioned (all_choices (choice_nodes choices.now))) }
-    ensures kept { OnOk result (Keeps unfolder.old.blocks unfolder.new.blocks) }
+    ensures opens { Begins result unfolder.old unfolder.new at depth (if_of choices.now) }
+    ensures kept { KeepsOpen result unfolder.old unfolder.new }
     ensures weight { LeavesWithin result unfolder.new
         (nodes_weight unfolder.old at (choice_nodes choices.now)) }
     ensures ready { IfOk result IsReady }
@@ -118,10 +114,10 @@ pub fn each_choice_opened<'t>(
     choice: &'t Choice,
 ) -> Result<Opened<'t>, CheckFault>
     ensures opens { Begins result unfolder.old unfolder.new at depth
-        (conditioned (each_choice_of line replicator.now choice.now)) }
-    ensures kept { OnOk result (Keeps unfolder.old.blocks unfolder.new.blocks) }
+        (if_for line replicator.now choice.now) }
+    ensures kept { KeepsOpen result unfolder.old unfolder.new }
     ensures weight { LeavesWithin result unfolder.new
-        ((node_size (trees.choice_of choice.now) + 1) + weight_at unfolder.old at) }
+        (single_weight unfolder.old at (trees.choice_of choice.now)) }
     ensures ready { IfOk result IsReady }
 {
     unfolder.numbers.node(depth)?;
@@ -142,11 +138,10 @@ pub fn choice_opened<'t>(
     choice: &'t Choice,
 ) -> Result<OpenedChoice<'t>, CheckFault>
     requires { depth ≤ 200 }
-    ensures opens { OpensAt choice_left result unfolder.old unfolder.new at depth
-        (choice_unfolded (trees.choice_of choice.now)) }
-    ensures kept { OnOk result (Keeps unfolder.old.blocks unfolder.new.blocks) }
-    ensures weight { IfOk result (λ o. choice_weight unfolder.new o
-        < node_weight unfolder.old at (trees.choice_of choice.now)) }
+    ensures opens { OpensChoice result unfolder.old unfolder.new at depth (a_choice choice.now) }
+    ensures kept { KeepsOpen result unfolder.old unfolder.new }
+    ensures weight { Below choice_weight result unfolder.new
+        (whole_choice unfolder.old at choice.now) }
     ensures within { IfOk result (λ o. choice_depth o ≤ 200) }
 {
     let (heads, inside) = unfolder.entering(alloc, at, depth, declarations_of(choice))?;
@@ -164,11 +159,11 @@ fn chosen_opened<'t>(
     heads: Items<Declaration>,
 ) -> Result<OpenedChoice<'t>, CheckFault>
     requires { depth ≤ 200 }
-    ensures opens { OpensAt choice_left result unfolder.old unfolder.new at depth
+    ensures opens { OpensChoice result unfolder.old unfolder.new at depth
         (choices_behind heads (choosing choice.now)) }
-    ensures kept { OnOk result (Keeps unfolder.old.blocks unfolder.new.blocks) }
-    ensures weight { IfOk result (λ o. choice_weight unfolder.new o
-        ≤ choice_size choice.now + weight_at unfolder.old at) }
+    ensures kept { KeepsOpen result unfolder.old unfolder.new }
+    ensures weight { Within choice_weight result unfolder.new
+        (choice_size choice.now + weight_at unfolder.old at) }
     ensures within { IfOk result (λ o. choice_depth o ≤ 200) }
 {
     match choice {
@@ -199,8 +194,7 @@ fn choices_behind(
     heads: Items<Declaration>,
     choices: Items<TermChoice>,
 ) -> Result<Items<TermChoice>, AllocError>
-    ensures { IfOk result (λ cs. choices_of cs
-        ≡ meant.choices_behind (declarations_of heads) (choices_of choices)) }
+    ensures { Makes choices_of result (choices_headed heads choices) }
 {
     let mut heads = heads;
     let mut choices = choices;

@@ -1,25 +1,18 @@
 //! The options of a CASE.
 
-ghost use Rattle.std.specs.Prelude.{◌≡◌, ◌<◌, ◌≤◌, IfOk, OnOk, map};
-ghost use Rattle.occ_tree_grammar.specs.Processes.Views.{held_selections, selection_of};
+ghost use Rattle.std.specs.Prelude.{◌≡◌, ◌<◌, ◌≤◌, IfOk};
+ghost use Rattle.occ_tree_grammar.specs.Processes.Views.{held_selections};
 ghost use Rattle.occ_tree_grammar.specs.declared.tree.process.Arm.TheBlock.{hidden-the_row-Selection-5};
-ghost use Rattle.occ_tree_grammar.specs.Expressions.Trees.{expression_of as tree_of};
 ghost use Rattle.occ_term.specs.Terms.{no_options};
-ghost use Rattle.occ_term.specs.View.{expression_of, option_of, term_of};
+ghost use Rattle.occ_term.specs.View.{option_of, term_of};
 ghost use Rattle.occ_check_meaning.specs.Actions as meant;
-ghost use Rattle.occ_check_meaning.specs.Expressions.{constant_as};
-ghost use Rattle.occ_check_meaning.specs.Performing as performing;
-ghost use Rattle.occ_check_meaning.specs.Recursion.{all_options, option_unfolded};
-ghost use Rattle.occ_check_meaning.specs.Scope.{each_of};
 ghost use Rattle.occ_check_acting.specs.Action.{chosen_of};
-ghost use Rattle.occ_check_choices.specs.Options.{choosing_values, listing, selecting, option_left, option_with, Lists, option_with_else, option_with_values};
-ghost use Rattle.occ_check_names.specs.View.{Gives, Unfolds, numbers_of};
-ghost use Rattle.occ_check_opened.specs.Opened.{Begins, IsReady, LeavesWithin, OpensAt};
-ghost use Rattle.occ_check_names.specs.Reading.{read_in};
-ghost use Rattle.occ_check_opened.specs.Progress.{body_weight, counted, declared_weight, names_there, node_weight, nodes_weight};
+ghost use Rattle.occ_check_choices.specs.Options.{listing, option_with, ListsAt, ListsFrom, OpensElse, OpensOption, OpensValues, a_selector, all_constants_in, case_of, constants_in, option_weight, whole_option};
+ghost use Rattle.occ_check_names.specs.View.{Answers, one_value};
+ghost use Rattle.occ_check_opened.specs.Opened.{Begins, IsReady, LeavesWithin, Below, Within};
+ghost use Rattle.occ_check_names.specs.Reading.{ReadsIn};
+ghost use Rattle.occ_check_opened.specs.Progress.{nodes_weight, KeepsOpen, OpensNothing, ReadsLine, weight_behind};
 ghost use Rattle.occ_check_opened.specs.Weights.{option_nodes};
-ghost use Rattle.occ_check_opened.specs.OpenBlocks.{Keeps};
-ghost use Rattle.occ_check_opened.specs.OneLine.{expressions_of};
 
 use indexmap::IndexSet;
 use occ_check_acting::action::{Chosen, choosing, choosing_else, selector};
@@ -92,9 +85,8 @@ pub fn options_opened<'t>(
     selections: &'t [Selection],
 ) -> Result<Opened<'t>, CheckFault>
     ensures opens { Begins result unfolder.old unfolder.new at depth
-        (performing.selected line (tree_of e.now)
-        (λ type. all_options (option_nodes selections.now) type meant.none_chosen)) }
-    ensures kept { OnOk result (Keeps unfolder.old.blocks unfolder.new.blocks) }
+        (case_of line e.now selections.now) }
+    ensures kept { KeepsOpen result unfolder.old unfolder.new }
     ensures weight { LeavesWithin result unfolder.new
         (nodes_weight unfolder.old at (option_nodes selections.now)) }
     ensures ready { IfOk result IsReady }
@@ -118,11 +110,11 @@ pub fn option_opened<'t>(
     selection: &'t Selection,
 ) -> Result<OpenedOption<'t>, CheckFault>
     requires { depth ≤ 200 }
-    ensures opens { OpensAt (option_left chosen.new) result unfolder.old unfolder.new at depth
-        (option_unfolded (selection_of selection.now) primitive (chosen_of chosen.old)) }
-    ensures kept { OnOk result (Keeps unfolder.old.blocks unfolder.new.blocks) }
-    ensures weight { IfOk result (λ o. body_weight unfolder.new o.at o.body.now
-        < node_weight unfolder.old at (selection_of selection.now)) }
+    ensures opens { OpensOption result chosen.old chosen.new unfolder.old unfolder.new at depth
+        selection.now primitive }
+    ensures kept { KeepsOpen result unfolder.old unfolder.new }
+    ensures weight { Below option_weight result unfolder.new
+        (whole_option unfolder.old at selection.now) }
     ensures within { IfOk result (λ o. o.depth ≤ 200) }
 {
     match selection {
@@ -170,12 +162,11 @@ fn values_opened<'t>(
     values: &OneOrMore<Expr>,
     body: &'t Process,
 ) -> Result<OpenedOption<'t>, CheckFault>
-    ensures opens { OpensAt (option_left chosen.new) result unfolder.old unfolder.new at depth
-        (option_with_values line values.now declarations.now body.now primitive
-        (chosen_of chosen.old)) }
-    ensures kept { OnOk result (Keeps unfolder.old.blocks unfolder.new.blocks) }
-    ensures weight { IfOk result (λ o. body_weight unfolder.new o.at o.body.now
-        ≤ declared_weight unfolder.old at declarations.now body.now) }
+    ensures opens { OpensValues result chosen.old chosen.new unfolder.old unfolder.new at depth line
+        values.now declarations.now body.now primitive }
+    ensures kept { KeepsOpen result unfolder.old unfolder.new }
+    ensures weight { Within option_weight result unfolder.new
+        (weight_behind unfolder.old at declarations.now body.now) }
     ensures within { IfOk result (λ o. o.depth ≤ 200) }
 {
     unfolder.numbers.node(depth)?;
@@ -209,11 +200,11 @@ fn else_opened<'t>(
     declarations: &'t [Decl],
     body: &'t Process,
 ) -> Result<OpenedOption<'t>, CheckFault>
-    ensures opens { OpensAt (option_left chosen.new) result unfolder.old unfolder.new at depth
-        (option_with_else declarations.now body.now (chosen_of chosen.old)) }
-    ensures kept { OnOk result (Keeps unfolder.old.blocks unfolder.new.blocks) }
-    ensures weight { IfOk result (λ o. body_weight unfolder.new o.at o.body.now
-        ≤ declared_weight unfolder.old at declarations.now body.now) }
+    ensures opens { OpensElse result chosen.old chosen.new unfolder.old unfolder.new at depth
+        declarations.now body.now }
+    ensures kept { KeepsOpen result unfolder.old unfolder.new }
+    ensures weight { Within option_weight result unfolder.new
+        (weight_behind unfolder.old at declarations.now body.now) }
     ensures within { IfOk result (λ o. o.depth ≤ 200) }
 {
     unfolder.numbers.node(depth)?;
@@ -236,10 +227,9 @@ fn selecting_at(
     line: u32,
     e: &Expr,
 ) -> Result<(Primitive, TermExpr), CheckFault>
-    ensures selector { Unfolds (λ s. (s.0, expression_of s.1)) result unfolder.new.numbers
-        (selecting (names_there unfolder.old at) line depth (tree_of e.now)
-        (counted unfolder.old)) }
-    ensures kept { OnOk result (unfolder.new.blocks ≡ unfolder.old.blocks) }
+    ensures selector { ReadsLine one_value result unfolder.old unfolder.new at line depth
+        (a_selector e.now) }
+    ensures kept { OpensNothing result unfolder.old unfolder.new }
     ensures within { IfOk result (λ _. depth < 200) }
 {
     let scope = names_at(&unfolder.blocks, at);
@@ -262,10 +252,9 @@ fn choosing_values(
     chosen: &mut Chosen,
     values: &OneOrMore<Expr>,
 ) -> Result<Items<i64>, CheckFault>
-    ensures constants { Lists result chosen.new unfolder.new.numbers
-        (choosing_values (names_there unfolder.old at) line depth primitive
-        (expressions_of values.now) (chosen_of chosen.old) (counted unfolder.old)) }
-    ensures kept { OnOk result (unfolder.new.blocks ≡ unfolder.old.blocks) }
+    ensures constants { ListsAt result chosen.old chosen.new unfolder.old unfolder.new at line depth
+        primitive values.now }
+    ensures kept { OpensNothing result unfolder.old unfolder.new }
 {
     let scope = names_at(&unfolder.blocks, at);
     let constants = constants(Context { alloc, scope, line }, primitive, values)?;
@@ -279,8 +268,8 @@ fn selecting(
     depth: u32,
     e: &Expr,
 ) -> Result<(Primitive, TermExpr), CheckFault>
-    ensures selector { Unfolds (λ s. (s.0, expression_of s.1)) result numbers.new
-        (read_in context.entry selecting depth (tree_of e.now) (numbers_of numbers.old)) }
+    ensures selector { ReadsIn one_value result context.entry numbers.old numbers.new depth
+        (a_selector e.now) }
     ensures within { IfOk result (λ _. depth < 200) }
 {
     let (primitive, e) = selector(context, e)?;
@@ -307,8 +296,8 @@ fn chosen_constants(
     chosen: &mut Chosen,
     constants: Items<i64>,
 ) -> Result<Items<i64>, CheckFault>
-    ensures { Lists result chosen.new numbers.new
-        (listing constants depth (chosen_of chosen.old) (numbers_of numbers.old)) }
+    ensures { ListsFrom result chosen.old chosen.new numbers.old numbers.new
+        (listing constants depth) }
 {
     choosing(alloc, line, constants.as_slice(), chosen)?;
     count_constants(numbers, depth, constants.as_slice())?;
@@ -322,8 +311,7 @@ fn constants(
     primitive: Primitive,
     values: &OneOrMore<Expr>,
 ) -> Result<Items<i64>, CheckFault>
-    ensures { Gives (λ vs. vs) result
-        (each_of (read_in context.entry constant_as primitive) (expressions_of values.now)) }
+    ensures { Answers result (all_constants_in context.entry primitive values.now) }
 {
     let first = constant_as(context, primitive, &values.first)?;
     let others = each_constant(context, primitive, &values.others)?;
@@ -339,8 +327,7 @@ fn each_constant(
     primitive: Primitive,
     values: &[Expr],
 ) -> Result<Items<i64>, CheckFault>
-    ensures { Gives (λ vs. vs) result
-        (each_of (read_in context.entry constant_as primitive) (map tree_of values.now)) }
+    ensures { Answers result (constants_in context.entry primitive values.now) }
 {
     let mut made = Items::new(context.alloc);
     for value in values {

@@ -1,6 +1,6 @@
 -- Tags by their names, and those that are listed.
 use Rattle.std.proofs.Common.{◌≡◌, ◌∙◌, sym, ap, refl, arith, ℕ, suc, ◌+◌, ◌<◌, List, [], ◌∷◌, drop, get_or, length, Bool, true, false, cond, Option, Some, None, if◌then◌else◌}
-use Rattle.std.specs.Prelude.{Vec, bytes_eq, nat_lt, not}
+use Rattle.std.specs.Prelude.{bytes_eq, nat_lt, not}
 use Rattle.std.proofs.Math.Seq.{drop-cons}
 use Rattle.std.proofs.lemmas.List.{drop_all}
 use Rattle.std.proofs.lemmas.Slice.Eq.{bytes_eq-Decides}
@@ -22,41 +22,41 @@ same_bytes x y h = (bytes_eq-Decides x y).0 h
 itself : (x : Name) → bytes_eq x x ≡ true
 itself x = (bytes_eq-Decides x x).1 refl
 
-put_in : {A : Type 0} (x : Name) (es : List (Vec ℕ A × ℕ)) (k : Vec ℕ A) (n : ℕ)
-    → number_at x (insert_entry (λ a b. bytes_eq a.items b.items) es k n) ≡ cond (bytes_eq x k.items) (Some n) (number_at x es)
+put_in : (x : Name) (es : List (Name × ℕ)) (k : Name) (n : ℕ)
+    → number_at x (insert_entry bytes_eq es k n) ≡ cond (bytes_eq x k) (Some n) (number_at x es)
 put_in x [] k n = refl
-put_in {A} x (e ∷ es) k n = by (bytes_eq k.items e.0.items) refl (put_in x es k n)
+put_in x (e ∷ es) k n = by (bytes_eq k e.0) refl (put_in x es k n)
   where
     again : (b : Bool) (o : Option ℕ) → cond b (Some n) o ≡ cond b (Some n) (cond b (Some e.1) o)
     again true o = refl
     again false o = refl
 
-    apart : (b c : Bool) (o : Option ℕ) → bytes_eq x e.0.items ≡ b → bytes_eq x k.items ≡ c → bytes_eq k.items e.0.items ≡ false → cond b (Some e.1) (cond c (Some n) o) ≡ cond c (Some n) (cond b (Some e.1) o)
+    apart : (b c : Bool) (o : Option ℕ) → bytes_eq x e.0 ≡ b → bytes_eq x k ≡ c → bytes_eq k e.0 ≡ false → cond b (Some e.1) (cond c (Some n) o) ≡ cond c (Some n) (cond b (Some e.1) o)
     apart false c o is at other = refl
     apart true false o is at other = refl
     apart true true o is at other =
-        let one : bytes_eq e.0.items e.0.items ≡ false = ap (λ y. bytes_eq y e.0.items) (sym (same_bytes x e.0.items is) ∙ same_bytes x k.items at) ∙ other in
-        absurd (differ (sym (itself e.0.items) ∙ one))
+        let one : bytes_eq e.0 e.0 ≡ false = ap (λ y. bytes_eq y e.0) (sym (same_bytes x e.0 is) ∙ same_bytes x k at) ∙ other in
+        absurd (differ (sym (itself e.0) ∙ one))
       where
         differ : true ≡ false → ⊥
         differ h = cc
 
-    by : (b : Bool) → bytes_eq k.items e.0.items ≡ b → number_at x (insert_entry (λ a b. bytes_eq a.items b.items) es k n) ≡ cond (bytes_eq x k.items) (Some n) (number_at x es)
-        → number_at x (if b then (e.0, n) ∷ es else e ∷ insert_entry (λ a b. bytes_eq a.items b.items) es k n) ≡ cond (bytes_eq x k.items) (Some n) (number_at x (e ∷ es))
+    by : (b : Bool) → bytes_eq k e.0 ≡ b → number_at x (insert_entry bytes_eq es k n) ≡ cond (bytes_eq x k) (Some n) (number_at x es)
+        → number_at x (if b then (e.0, n) ∷ es else e ∷ insert_entry bytes_eq es k n) ≡ cond (bytes_eq x k) (Some n) (number_at x (e ∷ es))
     by true same rest =
-        again (bytes_eq x e.0.items) (number_at x es)
-        ∙ ap (λ y. cond (bytes_eq x y) (Some n) (number_at x (e ∷ es))) (sym (same_bytes k.items e.0.items same))
+        again (bytes_eq x e.0) (number_at x es)
+        ∙ ap (λ y. cond (bytes_eq x y) (Some n) (number_at x (e ∷ es))) (sym (same_bytes k e.0 same))
     by false other rest =
-        ap (λ o. cond (bytes_eq x e.0.items) (Some e.1) o) rest
-        ∙ apart (bytes_eq x e.0.items) (bytes_eq x k.items) (number_at x es) refl refl other
+        ap (λ o. cond (bytes_eq x e.0) (Some e.1) o) rest
+        ∙ apart (bytes_eq x e.0) (bytes_eq x k) (number_at x es) refl refl other
 
 -- no tags, and the tags from the last one on
-pub none_behind : {A : Type 0} (tags : List Tag) (es : List (Vec ℕ A × ℕ)) → es ≡ [] → (x : Name) → number_at x es ≡ tag_number (drop (length tags) tags) x (length tags)
+pub none_behind : (tags : List Tag) (es : List (Name × ℕ)) → es ≡ [] → (x : Name) → number_at x es ≡ tag_number (drop (length tags) tags) x (length tags)
 unfolding tag_number
 none_behind tags es none x = ap (number_at x) none ∙ sym (ap (λ ts. tag_number ts x (length tags)) (drop_all (length tags) tags (omega arith)))
 
-pub one_before : {A : Type 0} (tags : List Tag) (i : ℕ) (d : Tag) (es now : List (Vec ℕ A × ℕ)) (k : Vec ℕ A) → i < length tags → k.items ≡ (get_or tags i d).name
-    → now ≡ insert_entry (λ a b. bytes_eq a.items b.items) es k i → ((x : Name) → number_at x es ≡ tag_number (drop (i + 1) tags) x (i + 1))
+pub one_before : (tags : List Tag) (i : ℕ) (d : Tag) (es now : List (Name × ℕ)) (k : Name) → i < length tags → k ≡ (get_or tags i d).name
+    → now ≡ insert_entry bytes_eq es k i → ((x : Name) → number_at x es ≡ tag_number (drop (i + 1) tags) x (i + 1))
     → (x : Name) → number_at x now ≡ tag_number (drop i tags) x i
 unfolding tag_number
 one_before tags i d es now k below name is later x =

@@ -2,15 +2,15 @@
 
 ghost use Rattle.std.specs.Prelude.{ℕ, ◌≡◌, ◌∷◌, [], IfErr, IfOk, List};
 ghost use Rattle.occ_term.specs.declared.protocol.Protocol.{Protocol};
-ghost use Rattle.occ_check_meaning.specs.Actions as meant;
 ghost use Rattle.occ_check_meaning.specs.Items.{tag_number};
 ghost use Rattle.occ_check_names.specs.View.{Answers};
 ghost use Rattle.occ_check_names.specs.declared.fault.CheckFault.TheVariants.{Memory};
-ghost use Rattle.occ_check_clashes.specs.Tags.{AreTagsOf, listed_in, number_at, tags_of};
+ghost use Rattle.occ_check_clashes.specs.Tags.{AreTagsOf, listed_in, number_at, tags_of, next_tag};
 
 use indexmap::{IndexMap, IndexSet};
 use occ_check_names::fault::CheckFault;
 use occ_check_typing::item::word_of;
+use occ_held::letters::Letters;
 use occ_term::{Protocol, Tag};
 use std::alloc::Global;
 
@@ -18,7 +18,7 @@ use std::alloc::Global;
 #[derive(Drop)]
 pub struct Tags {
     /// The number of each name: of the first tag that has it.
-    pub numbers: IndexMap<Vec<u8>, usize>,
+    pub numbers: IndexMap<Letters, usize>,
     /// The numbers that are listed so far, in order.
     pub listed: IndexSet<u32>,
 }
@@ -46,9 +46,9 @@ impl Tags {
     /// # Errors
     ///
     /// `Tag` for one that was, for one that the protocol has not or has behind 2 to the 32 others, and `Memory`.
-    pub fn next(&mut self, line: u32, name: &[u8]) -> Result<u32, CheckFault>
+    pub fn next(&mut self, line: u32, name: &Letters) -> Result<u32, CheckFault>
         ensures tag { (p : Protocol) → AreTagsOf p self.old
-            → Answers result (meant.new_tag p name.now (listed_in self.old)) }
+            → Answers result (next_tag p name.now self.old) }
         ensures listed { IfOk result (λ k. listed_in self.new ≡ k ∷ listed_in self.old) }
         ensures numbers { self.new.numbers ≡ self.old.numbers }
     {
@@ -79,7 +79,7 @@ fn tags_in(protocol: &Protocol) -> &[Tag]
 }
 
 /// The number of each name. The last tag comes first, so that the first one of a name stays.
-fn numbers_of(alloc: Global, tags: &[Tag]) -> Result<IndexMap<Vec<u8>, usize>, CheckFault>
+fn numbers_of(alloc: Global, tags: &[Tag]) -> Result<IndexMap<Letters, usize>, CheckFault>
     ensures numbers { IfOk result
         (λ ns. (x : List ℕ) → number_at x ns.entries ≡ tag_number tags.now x 0) }
     ensures memory { IfErr result (λ e. e ≡ Memory) }
@@ -88,7 +88,7 @@ fn numbers_of(alloc: Global, tags: &[Tag]) -> Result<IndexMap<Vec<u8>, usize>, C
     let mut left = tags.len();
     while left > 0 {
         left -= 1;
-        let name = Vec::from_slice(alloc, tags[left].name.as_slice())?;
+        let name = tags[left].name.copy()?;
         numbers.insert(name, left)?;
     }
     Ok(numbers)

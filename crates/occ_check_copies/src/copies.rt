@@ -1,17 +1,13 @@
 //! The copies of a replicated PAR.
 
 ghost use Rattle.std.specs.Prelude.{◌≡◌, ◌<◌, ◌≤◌, ◌-◌, ◌+ℤ◌, ◌≤ℤ◌, pos, IfErr, IfOk, OnOk};
-ghost use Rattle.occ_tree_grammar.specs.Lines.Views.{replicator_of};
-ghost use Rattle.occ_check_meaning.specs.Declarations.{index_of};
-ghost use Rattle.occ_check_meaning.specs.Performing.{copies_beside};
 ghost use Rattle.occ_check_meaning.specs.Scope.{within};
-ghost use Rattle.occ_check_copies.specs.Copies.{copies_counted, copies_there, numbered_copy, copy_left};
-ghost use Rattle.occ_check_opened.specs.Opened.{Begins, IsReady, LeavesWithin, Opens, body_unfolded};
-ghost use Rattle.occ_check_names.specs.View.{Unfolds, numbers_of};
-ghost use Rattle.occ_check_names.specs.Reading.{read_in};
-ghost use Rattle.occ_check_opened.specs.Progress.{body_weight, counted, meant_at, names_there, weight_at};
+ghost use Rattle.occ_check_copies.specs.Copies.{OpensCopy, copy_weight, counted_copies, inside_copy, par_for};
+ghost use Rattle.occ_check_opened.specs.Opened.{Begins, IsReady, LeavesWithin};
+ghost use Rattle.occ_check_names.specs.View.{itself};
+ghost use Rattle.occ_check_names.specs.Reading.{ReadsIn};
+ghost use Rattle.occ_check_opened.specs.Progress.{body_weight, counted, meant_at, weight_at, KeepsOpen, OpensNothing, ReadsLine};
 ghost use Rattle.occ_check_names.specs.declared.fault.CheckFault.TheVariants.{Memory};
-ghost use Rattle.occ_check_opened.specs.OpenBlocks.{Keeps};
 
 use occ_check_names::context::Context;
 use occ_check_names::fault::CheckFault;
@@ -51,8 +47,8 @@ pub fn copies_opened<'t>(
     body: &'t Process,
 ) -> Result<Opened<'t>, CheckFault>
     ensures opens { Begins result unfolder.old unfolder.new at depth
-        (copies_beside line (replicator_of replicator.now) (body_unfolded body.now)) }
-    ensures kept { OnOk result (Keeps unfolder.old.blocks unfolder.new.blocks) }
+        (par_for line replicator.now body.now) }
+    ensures kept { KeepsOpen result unfolder.old unfolder.new }
     ensures weight { LeavesWithin result unfolder.new (body_weight unfolder.old at body.now) }
     ensures ready { IfOk result IsReady }
 {
@@ -75,11 +71,10 @@ pub fn copy_opened<'t>(
     body: &'t Process,
 ) -> Result<OpenedCopy<'t>, CheckFault>
     requires { depth ≤ 200 }
-    ensures opens { Opens copy_left result unfolder.new
-        (numbered_copy (copies_there unfolder.old at depth replicator.now body.now) value
-        (counted unfolder.old)) }
-    ensures kept { OnOk result (Keeps unfolder.old.blocks unfolder.new.blocks) }
-    ensures weight { IfOk result (λ o. body_weight unfolder.new o.at o.body.now
+    ensures opens { OpensCopy result unfolder.old unfolder.new at depth replicator.now body.now
+        value }
+    ensures kept { KeepsOpen result unfolder.old unfolder.new }
+    ensures weight { IfOk result (λ o. copy_weight unfolder.new o
         ≡ body_weight unfolder.old at body.now) }
     ensures within { IfOk result (λ o. o.depth ≤ 200) }
 {
@@ -102,9 +97,9 @@ fn at_value(
     value: i64,
 ) -> Result<Position, CheckFault>
     ensures scope { IfOk result (λ p. meant_at unfolder.new p
-        ≡ within (index_of (replicator_of replicator.now) value) (meant_at unfolder.old at)) }
+        ≡ inside_copy unfolder.old at replicator.now value) }
     ensures weight { IfOk result (λ p. weight_at unfolder.new p ≡ weight_at unfolder.old at) }
-    ensures kept { OnOk result (Keeps unfolder.old.blocks unfolder.new.blocks) }
+    ensures kept { KeepsOpen result unfolder.old unfolder.new }
     ensures numbers { OnOk result (unfolder.new.numbers ≡ unfolder.old.numbers) }
     ensures memory { IfErr result (λ e. e ≡ Memory) }
 {
@@ -123,10 +118,9 @@ fn copies_counted_at(
     line: u32,
     replicator: &Replicator,
 ) -> Result<(i64, u64), CheckFault>
-    ensures counted { Unfolds (λ c. c) result unfolder.new.numbers
-        (copies_counted (names_there unfolder.old at) line depth (replicator_of replicator.now)
-        (counted unfolder.old)) }
-    ensures kept { OnOk result (unfolder.new.blocks ≡ unfolder.old.blocks) }
+    ensures counted { ReadsLine itself result unfolder.old unfolder.new at line depth
+        (counted_copies replicator.now) }
+    ensures kept { OpensNothing result unfolder.old unfolder.new }
     ensures within { IfOk result (λ _. depth < 200) }
     ensures last { IfOk result (λ c. (c.0 +ℤ pos c.1) ≤ℤ pos 2147483648) }
 {
@@ -147,8 +141,8 @@ fn copies_counted(
     depth: u32,
     replicator: &Replicator,
 ) -> Result<(i64, u64), CheckFault>
-    ensures counted { Unfolds (λ c. c) result numbers.new (read_in context.entry copies_counted
-        depth (replicator_of replicator.now) (numbers_of numbers.old)) }
+    ensures counted { ReadsIn itself result context.entry numbers.old numbers.new depth
+        (counted_copies replicator.now) }
     ensures within { IfOk result (λ _. depth < 200) }
     ensures last { IfOk result (λ c. (c.0 +ℤ pos c.1) ≤ℤ pos 2147483648) }
 {

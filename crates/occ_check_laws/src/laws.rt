@@ -1,25 +1,21 @@
 //! Laws of the definitions, which no code uses.
 
-ghost use Rattle.std.specs.Prelude.{length, List, Some, ℕ, ◌≡◌};
+ghost use Rattle.std.specs.Prelude.{length, List};
 ghost use Rattle.occ_tree_grammar.specs.Processes.Trees.{Item};
 ghost use Rattle.occ_term.specs.Processes.{branches_in, processes_of};
 ghost use Rattle.occ_term.specs.Sizes.{size_of};
 ghost use Rattle.occ_term.specs.UnfoldedProgram as Unfolded;
 ghost use Rattle.occ_term.specs.UnfoldedProgram.{IsWellFormed, NumberedFrom};
-ghost use Rattle.occ_term.specs.TermTyping.{Declared};
-ghost use Rattle.occ_tree_grammar.specs.Expressions.Trees.{Expression};
 ghost use Rattle.occ_check_laws.specs.CellOrder.{cells_in, InOrder};
 ghost use Rattle.occ_check_laws.specs.Counting.{Counted};
-ghost use Rattle.occ_check_meaning.specs.Expressions.{Typed, typed};
 ghost use Rattle.occ_check_laws.specs.Growth.{Grown, IsWithinLimits};
 ghost use Rattle.occ_check_laws.specs.Limits.{KeepsLimits};
-ghost use Rattle.occ_check_laws.specs.Having.{NamesHave, TypedHas};
+ghost use Rattle.occ_check_laws.specs.Having.{TypedHas};
 ghost use Rattle.occ_check_laws.specs.Numbering.{NumberedUpTo};
 ghost use Rattle.occ_check_laws.specs.Scoping.{EachAlt, IsScoped, SetsTheSameAgain};
-ghost use Rattle.occ_check_laws.specs.Laws.{EachProcess, EachProgram};
+ghost use Rattle.occ_check_laws.specs.Laws.{EachProcess, EachProgram, EachExpression};
 ghost use Rattle.occ_check_meaning.specs.Numbers.{at_start};
 ghost use Rattle.occ_check_meaning.specs.ProgramUnfolding.{UnfoldsTo};
-ghost use Rattle.occ_check_meaning.specs.Scope.{Names};
 
 /// The nodes that are counted are those of the term, and none stands deeper than may be.
 pub fn counted()
@@ -36,8 +32,7 @@ pub fn processes_in_order()
 
 /// An expression under names that have what is declared has its type.
 pub fn expressions_have_types()
-    ensures { (d : Declared) (ns : Names) (line : ℕ) (e : Expression) (t : Typed)
-        → NamesHave d ns → typed ns line e ≡ Some t → TypedHas d.types t }
+    ensures { EachExpression (λ d t. TypedHas d.types t) }
 {}
 
 /// Cells and channels are only added, and never more than there may be.

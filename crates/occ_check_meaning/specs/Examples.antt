@@ -21,6 +21,10 @@ term_of_program is = option_map (λ x. x.0) (program_unfolded is)
 abbrev pub channel_names : List Item → Option (List (List ℕ))
 channel_names is = option_map (λ x. map (λ (c : Channel). c.name) x.1.channels) (program_unfolded is)
 
+-- the channels of a program with these of its own
+abbrev pub with_own_channels : List (List ℕ) → List (List ℕ)
+with_own_channels own = codes "keyboard" ∷ codes "screen" ∷ codes "error" ∷ own
+
 abbrev pub nodes_of : List Item → Option ℕ
 nodes_of is = option_map (λ x. x.1.nodes) (program_unfolded is)
 

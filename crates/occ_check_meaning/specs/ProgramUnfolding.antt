@@ -9,7 +9,7 @@ use Rattle.occ_check_meaning.specs.Numbers.{Numbers, at_start}
 use Rattle.occ_check_meaning.specs.Actions.{headed, opening}
 use Rattle.occ_check_meaning.specs.Performing.{Entered, entered}
 use Rattle.occ_check_meaning.specs.Unfolding.{Procedure, Procedures, DeclaresItem, Unfolding}
-use Rattle.occ_check_meaning.specs.Programs.{Main, main_of, main_names, channels_from}
+use Rattle.occ_check_meaning.specs.Programs.{Main, main_of, main_names, channels_from, program_unfolded}
 
 -- each item in the scope of those before it
 pub data DeclareItems : Procedures → (depth : ℕ) → Numbers → List Item → Entered Procedure → Type 0 where
@@ -27,3 +27,11 @@ pub data ProgramUnfolding : List Item → Term → Numbers → Type 0 where
 -- the same as a program with the cells and channels that it declares
 abbrev pub UnfoldsTo : List Item → Unfolded.UnfoldedProgram → Type 0
 UnfoldsTo items u = (m : Numbers) × ProgramUnfolding items (Unfolded.meaning u) m × (m.cells ≡ u.cells) × (m.channels ≡ u.channels)
+
+-- what the recursion answers of a program, as a relation
+abbrev pub ProgramAnswered : List Item → Term → Numbers → Type 0
+ProgramAnswered items t m = program_unfolded items ≡ Some (t, m)
+
+-- what the one relation has of a program, the other one has
+abbrev pub ProgramImplies : (One Other : List Item → Term → Numbers → Type 0) → Type 0
+ProgramImplies One Other = (items : List Item) (t : Term) (m : Numbers) → One items t m → Other items t m

@@ -2,7 +2,7 @@
 
 ghost use Rattle.std.specs.Prelude.{[], codes, neg_ℤ, None, pos, Some, ◌∷◌, ◌≡◌};
 ghost use Rattle.occ_term.specs.Terms as T;
-ghost use Rattle.occ_check_meaning.specs.Examples.{channel_names, carrying, copies, copying, empty_sequence, hidden, hiding, holding, idle, named, naming, nested, nesting, no_copies, nodes_of, overlapping, own_cell, self_calling, storing_at, storing_under, swapped, swapping, term_of_program, twice, with_own};
+ghost use Rattle.occ_check_meaning.specs.Examples.{channel_names, carrying, copies, copying, empty_sequence, hidden, hiding, holding, idle, named, naming, nested, nesting, no_copies, nodes_of, overlapping, own_cell, self_calling, storing_at, storing_under, swapped, swapping, term_of_program, twice, with_own, with_own_channels};
 ghost use Rattle.occ_check_meaning.specs.Examples as Examples;
 ghost use Rattle.occ_check_meaning.specs.CallExamples as CallExamples;
 
@@ -20,8 +20,7 @@ pub fn own_variable()
 pub fn copies_have_constants()
     ensures copies { term_of_program copying ≡ Some copies }
     ensures names { channel_names copying
-        ≡ Some (codes "keyboard" ∷ codes "screen" ∷ codes "error"
-        ∷ codes "c[0]" ∷ codes "c[1]" ∷ codes "c[2]" ∷ []) }
+        ≡ Some (with_own_channels (codes "c[0]" ∷ codes "c[1]" ∷ codes "c[2]" ∷ [])) }
 {}
 
 /// A named value that isn't constant has a cell of its own.

@@ -1,6 +1,5 @@
 -- Look-ups in blocks are look-ups in a list of pairs.
 use Rattle.std.proofs.Common.{option_map, inl, inr, ◌≡◌, ◌<◌, ◌≤◌, ◌+◌, ℕ, zero, suc, List, [], ◌∷◌, ◌++◌, Bool, true, false, cond, if◌then◌else◌, nat_eq, bytes_eq, Option, Some, None, is_some, refl, ap, sym, subst, ◌∙◌, take, length, slice_get, get_or, arith, reverse}
-use Rattle.std.specs.Prelude.{Vec}
 use Rattle.std.specs.List.{IsDistinct, AllByRecursion}
 use Rattle.std.proofs.lemmas.Map.Keys.{IsDistinct-head, IsDistinct-tail}
 use Rattle.indexmap.specs.IndexMap.{insert_entry}
@@ -25,12 +24,12 @@ use Rattle.occ_check_names.specs.View.{binding_of, innermost, pairs_before, scop
 -- ---- one block
 
 -- what is found behind names that don't have it
-pub lacks : {A : Type 0} (x : List ℕ) (es : List (Vec ℕ A × BindingCode)) (sc : Procedures) → Lacks x es → found (pairs_before es sc) x ≡ found sc x
+pub lacks : (x : List ℕ) (es : List (List ℕ × BindingCode)) (sc : Procedures) → Lacks x es → found (pairs_before es sc) x ≡ found sc x
 unfolding found
 lacks x [] sc h = refl
-lacks x (e ∷ es) sc h = lacks x es ((e.0.items, binding_of e.1) ∷ sc) h.1 ∙ ap (λ b. cond b (Some (binding_of e.1, sc)) (found sc x)) h.0
+lacks x (e ∷ es) sc h = lacks x es ((e.0, binding_of e.1) ∷ sc) h.1 ∙ ap (λ b. cond b (Some (binding_of e.1, sc)) (found sc x)) h.0
 
-pub fewer : {A : Type 0} (x : List ℕ) (es : List (Vec ℕ A × BindingCode)) (n : ℕ) → Lacks x es → Lacks x (take n es)
+pub fewer : (x : List ℕ) (es : List (List ℕ × BindingCode)) (n : ℕ) → Lacks x es → Lacks x (take n es)
 fewer x es zero h = tt
 fewer x [] (suc n) h = tt
 fewer x (e ∷ es) (suc n) h = (h.0, fewer x es n h.1)
@@ -39,54 +38,54 @@ same_bytes : (x y : List ℕ) → bytes_eq x y ≡ true → x ≡ y
 same_bytes x y h = (bytes_eq-Decides x y).0 h
 
 -- where the name is the key of one entry, the entries after it don't have it
-pub only_once : {A : Type 0} (x : List ℕ) (e : Vec ℕ A × BindingCode) (es : List (Vec ℕ A × BindingCode)) → bytes_eq x e.0.items ≡ true
-    → AllByRecursion (λ k. bytes_eq e.0.items k.items ≡ false) (keys_of es) → Lacks x es
+pub only_once : (x : List ℕ) (e : List ℕ × BindingCode) (es : List (List ℕ × BindingCode)) → bytes_eq x e.0 ≡ true
+    → AllByRecursion (λ k. bytes_eq e.0 k ≡ false) (keys_of es) → Lacks x es
 only_once x e [] same h = tt
-only_once x e (f ∷ es) same h = (subst (λ y. bytes_eq y f.0.items ≡ false) (sym (same_bytes x e.0.items same)) h.0, only_once x e es same h.1)
+only_once x e (f ∷ es) same h = (subst (λ y. bytes_eq y f.0 ≡ false) (sym (same_bytes x e.0 same)) h.0, only_once x e es same h.1)
 
-abbrev pub has_key : {A : Type 0} → List ℕ → Vec ℕ A → Bool
-has_key x = λ k. bytes_eq x k.items
+abbrev pub has_key : List ℕ → List ℕ → Bool
+has_key x = bytes_eq x
 
-module _ {A : Type 0} (x : List ℕ) where
-  pub absent : (es : List (Vec ℕ A × BindingCode)) → lookup (has_key x) es ≡ None → Lacks x es
+module _ (x : List ℕ) where
+  pub absent : (es : List (List ℕ × BindingCode)) → lookup (has_key x) es ≡ None → Lacks x es
   absent [] h = tt
-  absent (e ∷ es) h = by (bytes_eq x e.0.items) refl (absent es) h
+  absent (e ∷ es) h = by (bytes_eq x e.0) refl (absent es) h
     where
-      by : (b : Bool) → bytes_eq x e.0.items ≡ b → (lookup (has_key x) es ≡ None → Lacks x es) → cond b (Some e.1) (lookup (has_key x) es) ≡ None → Lacks x (e ∷ es)
+      by : (b : Bool) → bytes_eq x e.0 ≡ b → (lookup (has_key x) es ≡ None → Lacks x es) → cond b (Some e.1) (lookup (has_key x) es) ≡ None → Lacks x (e ∷ es)
       by true same rest h = absurd cc
       by false same rest h = (same, rest h)
 
   -- the i-th entry is the only one with the name
-  abbrev pub IsOnlyAt : List (Vec ℕ A × BindingCode) → ℕ → (Vec ℕ A × BindingCode) → Type 0
+  abbrev pub IsOnlyAt : List (List ℕ × BindingCode) → ℕ → (List ℕ × BindingCode) → Type 0
   IsOnlyAt [] i e = ⊥
-  IsOnlyAt (f ∷ es) zero e = (bytes_eq x f.0.items ≡ true) × (f ≡ e) × Lacks x es
-  IsOnlyAt (f ∷ es) (suc i) e = (bytes_eq x f.0.items ≡ false) × IsOnlyAt es i e
+  IsOnlyAt (f ∷ es) zero e = (bytes_eq x f.0 ≡ true) × (f ≡ e) × Lacks x es
+  IsOnlyAt (f ∷ es) (suc i) e = (bytes_eq x f.0 ≡ false) × IsOnlyAt es i e
 
-  pub only_at : (es : List (Vec ℕ A × BindingCode)) (i : ℕ) (e : Vec ℕ A × BindingCode) (d : Vec ℕ A) → IsDistinct (λ a b. bytes_eq a.items b.items) (keys_of es)
+  pub only_at : (es : List (List ℕ × BindingCode)) (i : ℕ) (e : List ℕ × BindingCode) (d : List ℕ) → IsDistinct bytes_eq (keys_of es)
       → ((k : ℕ) → k < i → has_key x (get_or (keys_of es) k d) ≡ false) → has_key x (get_or (keys_of es) i d) ≡ true → slice_get es i ≡ Some e → IsOnlyAt es i e
   only_at [] i e d distinct before at there = absurd cc
-  only_at (f ∷ es) zero e d distinct before at there = (at, cc, only_once x f es at (IsDistinct-head (λ a b. bytes_eq a.items b.items) f.0 (keys_of es) distinct))
-  only_at (f ∷ es) (suc i) e d distinct before at there = (before 0 (omega arith), only_at es i e d (IsDistinct-tail (λ a b. bytes_eq a.items b.items) f.0 (keys_of es) distinct) (λ k p. before (suc k) (omega (arith, p))) at there)
+  only_at (f ∷ es) zero e d distinct before at there = (at, cc, only_once x f es at (IsDistinct-head bytes_eq f.0 (keys_of es) distinct))
+  only_at (f ∷ es) (suc i) e d distinct before at there = (before 0 (omega arith), only_at es i e d (IsDistinct-tail bytes_eq f.0 (keys_of es) distinct) (λ k p. before (suc k) (omega (arith, p))) at there)
 
   -- what a look-up by index says
-  pub looked_up : (es : List (Vec ℕ A × BindingCode)) (i : ℕ) (e : Vec ℕ A × BindingCode) → IsDistinct (λ a b. bytes_eq a.items b.items) (keys_of es)
+  pub looked_up : (es : List (List ℕ × BindingCode)) (i : ℕ) (e : List ℕ × BindingCode) → IsDistinct bytes_eq (keys_of es)
       → position (has_key x) (keys_of es) ≡ Some i → slice_get es i ≡ Some e → IsOnlyAt es i e
   looked_up es i e distinct at there =
       let h = position-Some (has_key x) (keys_of es) i e.0 at in only_at es i e e.0 distinct h.2 h.1 there
 
   -- it hides what stands before it
-  pub seen : (es : List (Vec ℕ A × BindingCode)) (i n : ℕ) (e : Vec ℕ A × BindingCode) (sc : Procedures) → IsOnlyAt es i e → i < n
+  pub seen : (es : List (List ℕ × BindingCode)) (i n : ℕ) (e : List ℕ × BindingCode) (sc : Procedures) → IsOnlyAt es i e → i < n
       → found (pairs_before (take n es) sc) x ≡ Some (binding_of e.1, pairs_before (take i es) sc)
   unfolding found
   seen [] i n e sc only below = absurd only
   seen (f ∷ es) i zero e sc only below = absurd (omega (arith, below))
   seen (f ∷ es) zero (suc n) e sc only below =
-      lacks x (take n es) ((f.0.items, binding_of f.1) ∷ sc) (fewer x es n only.2)
-      ∙ ap (λ b. cond b (Some (binding_of f.1, sc)) (found sc x)) only.0 ∙ ap (λ (g : Vec ℕ A × BindingCode). Some (binding_of g.1, sc)) only.1
-  seen (f ∷ es) (suc i) (suc n) e sc only below = seen es i n e ((f.0.items, binding_of f.1) ∷ sc) only.1 (omega (arith, below))
+      lacks x (take n es) ((f.0, binding_of f.1) ∷ sc) (fewer x es n only.2)
+      ∙ ap (λ b. cond b (Some (binding_of f.1, sc)) (found sc x)) only.0 ∙ ap (λ (g : List ℕ × BindingCode). Some (binding_of g.1, sc)) only.1
+  seen (f ∷ es) (suc i) (suc n) e sc only below = seen es i n e ((f.0, binding_of f.1) ∷ sc) only.1 (omega (arith, below))
 
   -- and what stands before it doesn't have the name
-  pub unseen : (es : List (Vec ℕ A × BindingCode)) (i n : ℕ) (e : Vec ℕ A × BindingCode) → IsOnlyAt es i e → n ≤ i → Lacks x (take n es)
+  pub unseen : (es : List (List ℕ × BindingCode)) (i n : ℕ) (e : List ℕ × BindingCode) → IsOnlyAt es i e → n ≤ i → Lacks x (take n es)
   unseen [] i n e only below = absurd only
   unseen (f ∷ es) i zero e only below = tt
   unseen (f ∷ es) zero (suc n) e only below = absurd (omega (arith, below))
@@ -151,11 +150,11 @@ none_is : {X : Type 0} (r : Option X) → false ≡ is_some r → r ≡ None
 none_is None e = refl
 none_is (Some x) e = absurd cc
 
-module _ {A : Type 0} (x : List ℕ) (es : List (Vec ℕ A × BindingCode)) (n : ℕ) where
+module _ (x : List ℕ) (es : List (List ℕ × BindingCode)) (n : ℕ) where
   pub not_there : false ≡ is_some (lookup (has_key x) es) → IsSeen n es x None
   not_there e = λ sc. lacks x (take n es) sc (fewer x es n (absent x es (none_is (lookup (has_key x) es) e)))
 
-  module _ (i : ℕ) (e : Vec ℕ A × BindingCode) (distinct : IsDistinct (λ a b. bytes_eq a.items b.items) (keys_of es))
+  module _ (i : ℕ) (e : List ℕ × BindingCode) (distinct : IsDistinct bytes_eq (keys_of es))
       (at : Some i ≡ position (has_key x) (keys_of es)) (there : Some e ≡ slice_get es i) where
     pub not_yet : n ≤ i → (sc : Procedures) → found (pairs_before (take n es) sc) x ≡ found sc x
     not_yet below = λ sc. lacks x (take n es) sc (unseen x es i n e (looked_up x es i e distinct (sym at) (sym there)) below)
@@ -165,13 +164,13 @@ module _ {A : Type 0} (x : List ℕ) (es : List (Vec ℕ A × BindingCode)) (n :
 
 -- ---- a name that is added
 
-pub one_more : {A : Type 0} (es : List (Vec ℕ A × BindingCode)) (e : Vec ℕ A × BindingCode) (sc : Procedures) → pairs_before (es ++ e ∷ []) sc ≡ (e.0.items, binding_of e.1) ∷ pairs_before es sc
+pub one_more : (es : List (List ℕ × BindingCode)) (e : List ℕ × BindingCode) (sc : Procedures) → pairs_before (es ++ e ∷ []) sc ≡ (e.0, binding_of e.1) ∷ pairs_before es sc
 one_more [] e sc = refl
-one_more (f ∷ es) e sc = one_more es e ((f.0.items, binding_of f.1) ∷ sc)
+one_more (f ∷ es) e sc = one_more es e ((f.0, binding_of f.1) ∷ sc)
 
-pub added : {A : Type 0} (es : List (Vec ℕ A × BindingCode)) (k : Vec ℕ A) (b : BindingCode) → Lacks k.items es → insert_entry (λ a b. bytes_eq a.items b.items) es k b ≡ es ++ (k, b) ∷ []
+pub added : (es : List (List ℕ × BindingCode)) (k : List ℕ) (b : BindingCode) → Lacks k es → insert_entry bytes_eq es k b ≡ es ++ (k, b) ∷ []
 added [] k b h = refl
-added (f ∷ es) k b h = ap (λ t. if t then (f.0, b) ∷ es else f ∷ insert_entry (λ a b. bytes_eq a.items b.items) es k b) h.0 ∙ ap (λ l. f ∷ l) (added es k b h.1)
+added (f ∷ es) k b h = ap (λ t. if t then (f.0, b) ∷ es else f ∷ insert_entry bytes_eq es k b) h.0 ∙ ap (λ l. f ∷ l) (added es k b h.1)
 
 -- ---- what the blocks tell
 

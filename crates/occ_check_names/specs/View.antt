@@ -1,7 +1,7 @@
 -- The types of the code as those of the definitions.
 -- Manual: nothing; this is (own).
 use Rattle.std.specs.Borrow.{Bor}
-use Rattle.std.specs.Prelude.{List, bytes_eq, false, None, Option, Some, [], if◌then◌else◌, length, map, nat_eq, pos, reverse, suc, take, Vec, Result, Ok, Err, ℕ, ⊤, ◌++◌, ◌<◌, ◌≤◌, ◌∷◌, ◌≡◌, IfOk}
+use Rattle.std.specs.Prelude.{List, bytes_eq, false, None, Option, Some, [], if◌then◌else◌, length, map, nat_eq, pos, reverse, suc, take, Result, Ok, Err, ℕ, ⊤, ◌++◌, ◌<◌, ◌≤◌, ◌∷◌, ◌≡◌, IfOk}
 use Rattle.occ_tree_grammar.specs.Lines.Views.{formals_of}
 use Rattle.occ_tree_grammar.specs.Processes.Views.{process_of}
 use Rattle.occ_term.specs.Sizes.{Size}
@@ -115,9 +115,9 @@ binding_of (bindings.Procedure p) = S.proc (procedure p.line (formals_of p.forma
 -- ---- scopes
 
 -- names of a block before a scope, each before those that are declared before it
-abbrev pub pairs_before : {A : Type 0} → List (Vec ℕ A × Binding) → Procedures → Procedures
+abbrev pub pairs_before : List (List ℕ × Binding) → Procedures → Procedures
 pairs_before [] sc = sc
-pairs_before (e ∷ es) sc = pairs_before es ((e.0.items, binding_of e.1) ∷ sc)
+pairs_before (e ∷ es) sc = pairs_before es ((e.0, binding_of e.1) ∷ sc)
 
 -- what is in scope at a position, where the last block stands first
 abbrev pub scope_in : List Block → Position → Procedures
@@ -165,15 +165,23 @@ Counts (Err e) after given = Refuses e given
 abbrev pub TakesRoom : {X : Type 0} → Result X CheckFault → (old new : Numbers) → ℕ → Size → Type 0
 TakesRoom result old new depth size = Counts result new (N.room depth size (numbers_of old))
 
+-- .. whatever its tag is
+abbrev pub TakesRoomAnyTag : {X A : Type 0} → Result X CheckFault → (old new : Numbers) → ℕ → (A → Size) → Type 0
+TakesRoomAnyTag {A = A} result old new depth size = (tag : A) → TakesRoom result old new depth (size tag)
+
 -- and what it answers with them
 abbrev pub Unfolds : {X Y : Type 0} → (X → Y) → Result X CheckFault → Numbers → Option (Y × N.Numbers) → Type 0
 Unfolds view (Ok x) after given = given ≡ Some (view x, numbers_of after)
 Unfolds view (Err e) after given = Refuses e given
 
+-- the same where it answers what the definition has, as it is
+abbrev pub itself : {X : Type 0} → X → X
+itself x = x
+
 -- ---- look-ups
 
 -- what the first names of a block hide: the binding with the number of those before it, or nothing
-abbrev pub IsSeen : {A : Type 0} → ℕ → List (Vec ℕ A × Binding) → List ℕ → Option (Bor Binding × ℕ) → Type 0
+abbrev pub IsSeen : ℕ → List (List ℕ × Binding) → List ℕ → Option (Bor Binding × ℕ) → Type 0
 IsSeen seen es x None = (sc : Procedures) → U.found (pairs_before (take seen es) sc) x ≡ U.found sc x
 IsSeen seen es x (Some (b, i)) = (sc : Procedures) → U.found (pairs_before (take seen es) sc) x ≡ Some (binding_of b.now, pairs_before (take i es) sc)
 
@@ -193,10 +201,14 @@ abbrev pub innermost : List Block → Procedures
 innermost [] = []
 innermost (f ∷ older) = pairs_before f.names.entries (scope_in older f.outer)
 
+-- a block with one name more, which is the innermost of its names
+abbrev pub IsBlockWith : Block → List ℕ → Binding → Block → Type 0
+IsBlockWith before x b after = (sc : Procedures) → pairs_before after.names.entries sc ≡ (x, binding_of b) ∷ pairs_before before.names.entries sc
+
 -- no name of a block is this one
-abbrev pub Lacks : {A : Type 0} → List ℕ → List (Vec ℕ A × Binding) → Type 0
+abbrev pub Lacks : List ℕ → List (List ℕ × Binding) → Type 0
 Lacks x [] = ⊤
-Lacks x (e ∷ es) = (bytes_eq x e.0.items ≡ false) × Lacks x es
+Lacks x (e ∷ es) = (bytes_eq x e.0 ≡ false) × Lacks x es
 
 -- what is found among blocks, or behind the innermost of them
 abbrev pub IsLooked : Option (S.Binding U.Procedure × Procedures) → List Block → List ℕ → Looked → Type 0

@@ -3,6 +3,7 @@
 ghost use Rattle.std.specs.Prelude.{◌≡◌};
 ghost use Rattle.occ_check_names.specs.declared.fault.CheckFault.TheVariants.{Memory};
 
+use occ_held::letters::Letters;
 use std::alloc::{AllocError, AllocFailed, Global};
 use thiserror::Error;
 
@@ -73,16 +74,16 @@ impl<T: Drop> From<AllocFailed<T>> for CheckFault {
 }
 
 /// The fault of a name that stands for nothing.
-pub fn unknown(alloc: Global, line: u32, name: &[u8]) -> CheckFault {
-    match text_of(alloc, name) {
+pub fn unknown(alloc: Global, line: u32, name: &Letters) -> CheckFault {
+    match text_of(alloc, name.as_slice()) {
         Ok(name) => CheckFault::Unknown { line, name },
         Err(_) => CheckFault::Memory,
     }
 }
 
 /// The fault of a name that stands twice.
-pub fn twice(alloc: Global, line: u32, name: &[u8]) -> CheckFault {
-    match text_of(alloc, name) {
+pub fn twice(alloc: Global, line: u32, name: &Letters) -> CheckFault {
+    match text_of(alloc, name.as_slice()) {
         Ok(name) => CheckFault::Twice { line, name },
         Err(_) => CheckFault::Memory,
     }

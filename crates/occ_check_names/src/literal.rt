@@ -38,8 +38,8 @@ pub fn typed_literal(
         },
         Literal::Text(bytes) => match primitive {
             None => {
-                string_size(line, bytes)?;
-                let bytes = Text::new(alloc, bytes)?;
+                string_size(line, bytes.as_slice())?;
+                let bytes = Text::of(bytes.copy()?);
                 let string = whole_string(alloc, bytes)?;
                 Ok(string)
             }

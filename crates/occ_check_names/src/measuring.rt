@@ -1,11 +1,9 @@
 //! Counting the nodes of what stands in a term: no count goes deeper than a program may be.
 
-ghost use Rattle.std.specs.Prelude.{[], Option, ℕ};
-ghost use Rattle.occ_term.specs.Sizes.{no_size, size_of, size_of_array, size_of_constants, size_of_declaration, size_of_expression, size_of_item, size_of_items, size_of_place, size_of_replicator, size_of_subscripts, size_of_target, size_of_targets, size_of_test};
-ghost use Rattle.occ_term.specs.Terms.{Assign, Input, Output, Skip, VariantInput, no_variants, or_variant};
-ghost use Rattle.occ_term.specs.View.{array_of, declaration_of, expression_of, item_of, items_of, place_of, replicator_of, target_of, targets_of, test_of};
-ghost use Rattle.occ_check_names.specs.Measuring.{size_within};
-ghost use Rattle.occ_check_names.specs.View.{TakesRoom, subscripts_of};
+ghost use Rattle.occ_term.specs.Sizes.{no_size, size_of_array, size_of_constants, size_of_expression, size_of_item, size_of_items, size_of_place, size_of_replicator, size_of_subscripts, size_of_target, size_of_targets, size_of_test};
+ghost use Rattle.occ_term.specs.View.{array_of, expression_of, item_of, items_of, place_of, replicator_of, target_of, targets_of, test_of};
+ghost use Rattle.occ_check_names.specs.Measuring.{size_within, assignment_size, declaration_size, input_size, output_size, tagged_input_size};
+ghost use Rattle.occ_check_names.specs.View.{TakesRoom, subscripts_of, TakesRoomAnyTag};
 
 use crate::fault::CheckFault;
 use crate::numbers::Numbers;
@@ -175,8 +173,7 @@ pub fn count_declaration(
     depth: u32,
     declaration: &Declaration,
 ) -> Result<(), CheckFault>
-    ensures { TakesRoom result numbers.old numbers.new depth
-        (size_of_declaration (declaration_of declaration.now)) }
+    ensures { TakesRoom result numbers.old numbers.new depth (declaration_size declaration.now) }
 {
     match declaration {
         Declaration::Clearing(_, _, _) => numbers.node(depth),
@@ -252,7 +249,7 @@ pub fn count_assignment(
     items: &[Item],
 ) -> Result<(), CheckFault>
     ensures { TakesRoom result numbers.old numbers.new depth
-        (size_of (Assign (targets_of targets.now) (items_of items.now))) }
+        (assignment_size targets.now items.now) }
 {
     numbers.node(depth)?;
     count_targets(numbers, depth + 1, targets)?;
@@ -270,8 +267,7 @@ pub fn count_input(
     channel: &Place,
     targets: &[Target],
 ) -> Result<(), CheckFault>
-    ensures { TakesRoom result numbers.old numbers.new depth
-        (size_of (Input (place_of channel.now) (targets_of targets.now))) }
+    ensures { TakesRoom result numbers.old numbers.new depth (input_size channel.now targets.now) }
 {
     numbers.node(depth)?;
     count_place(numbers, depth + 1, channel)?;
@@ -289,8 +285,8 @@ pub fn count_output(
     channel: &Place,
     items: &[Item],
 ) -> Result<(), CheckFault>
-    ensures { (tag : Option ℕ) → TakesRoom result numbers.old numbers.new depth
-        (size_of (Output (place_of channel.now) tag (items_of items.now))) }
+    ensures { TakesRoomAnyTag result numbers.old numbers.new depth
+        (output_size channel.now items.now) }
 {
     numbers.node(depth)?;
     count_place(numbers, depth + 1, channel)?;
@@ -308,9 +304,8 @@ pub fn count_tagged_input(
     channel: &Place,
     targets: &[Target],
 ) -> Result<(), CheckFault>
-    ensures { (tag : ℕ) → TakesRoom result numbers.old numbers.new depth
-        (size_of (VariantInput (place_of channel.now)
-        (or_variant tag [] (targets_of targets.now) Skip no_variants))) }
+    ensures { TakesRoomAnyTag result numbers.old numbers.new depth
+        (tagged_input_size channel.now targets.now) }
 {
     numbers.node(depth)?;
     count_place(numbers, depth + 1, channel)?;

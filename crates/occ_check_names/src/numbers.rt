@@ -9,6 +9,7 @@ ghost use Rattle.occ_check_meaning.specs.Scope.{keep};
 ghost use Rattle.occ_check_names.specs.View.{Answers, Counts, Makes, TakesRoom, numbers_of};
 
 use crate::fault::CheckFault;
+use occ_held::letters::Letters;
 use occ_term::{Cell, Channel, MOST_CELLS, Name, Primitive, Protocol};
 use sqlite_items::Items;
 use std::alloc::{AllocError, Global};
@@ -64,7 +65,7 @@ impl Numbers {
         &mut self,
         alloc: Global,
         primitive: Primitive,
-        name: &[u8],
+        name: &Letters,
         sizes: &[u32],
     ) -> Result<u32, CheckFault>
         ensures counts { Counts result self.new
@@ -72,7 +73,7 @@ impl Numbers {
         ensures first { IfOk result (λ first. first ≡ length self.old.cells.items) }
     {
         let first = first_of_more(self.cells.len(), components(sizes), MOST_CELLS)?;
-        let name = Name::new(alloc, name)?;
+        let name = Name::of(alloc, name.copy()?)?;
         let mut names = Vec::new(alloc);
         component_names(alloc, &mut names, &name, sizes)?;
         for name in names {
@@ -90,7 +91,7 @@ impl Numbers {
         &mut self,
         alloc: Global,
         protocol: &Protocol,
-        name: &[u8],
+        name: &Letters,
         sizes: &[u32],
     ) -> Result<u32, CheckFault>
         ensures counts { Counts result self.new
@@ -98,7 +99,7 @@ impl Numbers {
         ensures first { IfOk result (λ first. first ≡ length self.old.channels.items) }
     {
         let first = first_of_more(self.channels.len(), components(sizes), MOST_CHANNELS)?;
-        let name = Name::new(alloc, name)?;
+        let name = Name::of(alloc, name.copy()?)?;
         let mut names = Vec::new(alloc);
         component_names(alloc, &mut names, &name, sizes)?;
         for name in names {

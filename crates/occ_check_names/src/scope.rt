@@ -4,13 +4,14 @@
 //! scope there. A procedure sees what stands before it in its block, and what is outside of that.
 
 ghost use Rattle.std.specs.Prelude.{ℕ, ◌≡◌, ◌≤◌, ◌+◌, ◌++◌, ◌∷◌, [], IfErr, IfOk, IfSome, IfNone, IsFalse, drop, length, option_map, reverse};
-ghost use Rattle.occ_check_meaning.specs.Unfolding.{found, Procedures};
+ghost use Rattle.occ_check_meaning.specs.Unfolding.{found};
 ghost use Rattle.occ_check_names.specs.declared.fault.CheckFault.TheVariants.{Memory};
-ghost use Rattle.occ_check_names.specs.View.{binding_of, pairs_before, AreWithin, IsBound, IsFewer, IsFound, IsLooked, IsPart, IsSeen, IsWithin, Lacks, known_of, names_in, scope_in, scope_of};
+ghost use Rattle.occ_check_names.specs.View.{binding_of, AreWithin, IsBound, IsFewer, IsFound, IsLooked, IsPart, IsSeen, IsWithin, Lacks, known_of, names_in, scope_in, scope_of, IsBlockWith};
 
 use crate::fault::CheckFault;
 use crate::known::Known;
 use indexmap::IndexMap;
+use occ_held::letters::Letters;
 use occ_tree_grammar::tree::line::Formals;
 use occ_tree_grammar::tree::process::Process;
 use std::alloc::Global;
@@ -55,7 +56,7 @@ pub struct Position {
 /// Names that are declared one after the other, none twice.
 pub struct Block<'t> {
     /// The names, in order.
-    pub names: IndexMap<Vec<u8>, Binding<'t>>,
+    pub names: IndexMap<Letters, Binding<'t>>,
     /// What is in scope outside of it.
     pub outer: Position,
 }
@@ -97,7 +98,7 @@ pub enum Looked<'a, 't> {
 
 impl<'a, 't> Scope<'a, 't> {
     /// What a name stands for.
-    pub fn find(self, name: &[u8]) -> Option<Found<'a, 't>>
+    pub fn find(self, name: &Letters) -> Option<Found<'a, 't>>
         ensures found { IsFound (reverse self.entry.blocks.now)
             (found (scope_of self.entry) name.now) result }
         ensures within { IfSome result (IsWithin (length self.entry.blocks.now)) }
@@ -113,7 +114,7 @@ impl<'a, 't> Scope<'a, 't> {
     }
 
     /// Looks at the innermost block.
-    fn step(self, name: &[u8]) -> Looked<'a, 't>
+    fn step(self, name: &Letters) -> Looked<'a, 't>
         ensures found { IsLooked (found (scope_of self.entry) name.now)
             (reverse self.entry.blocks.now) name.now result }
         ensures fewer { IsFewer (length self.entry.blocks.now) result }
@@ -139,7 +140,7 @@ impl<'a, 't> Scope<'a, 't> {
     }
 
     /// What a name stands for that is no procedure's.
-    pub fn known(self, name: &[u8]) -> Option<&'a Known>
+    pub fn known(self, name: &Letters) -> Option<&'a Known>
         ensures { option_map (λ k. known_of k.now) result ≡ names_in self.entry name.now }
     {
         match self.find(name) {
@@ -200,33 +201,27 @@ impl<'t> Block<'t> {
 
     /// Whether it has the name.
     #[tactic(auto, using(crate::proofs::Scopes::absent))]
-    pub fn has(&self, name: &[u8]) -> bool
+    pub fn has(&self, name: &Letters) -> bool
         ensures { IsFalse result → Lacks name.now self.now.names.entries }
     {
         self.names.get_index_of(name).is_some()
     }
 
     /// The block with one name more.
-    pub fn with(
-        self,
-        alloc: Global,
-        name: &[u8],
-        binding: Binding<'t>,
-    ) -> Result<Block<'t>, CheckFault>
+    pub fn with(self, name: &Letters, binding: Binding<'t>) -> Result<Block<'t>, CheckFault>
         requires { Lacks name.now self.names.entries }
-        ensures names { IfOk result (λ f. (sc : Procedures) → pairs_before f.names.entries sc
-            ≡ (name.now, binding_of binding.entry) ∷ pairs_before self.entry.names.entries sc) }
+        ensures names { IfOk result (IsBlockWith self.entry name.now binding.entry) }
         ensures outer { IfOk result (λ f. f.outer ≡ self.entry.outer) }
         ensures memory { IfErr result (λ e. e ≡ Memory) }
     {
         let mut block = self;
-        let name = Vec::from_slice(alloc, name)?;
+        let name = name.copy()?;
         block.names.insert(name, binding)?;
         Ok(block)
     }
 
     /// What a name stands for among the first so many names, and how many stand before it.
-    fn seen(&self, seen: usize, name: &[u8]) -> Option<(&Binding<'t>, usize)>
+    fn seen(&self, seen: usize, name: &Letters) -> Option<(&Binding<'t>, usize)>
         ensures { IsSeen seen self.now.names.entries name.now result }
     {
         match self.names.get_index_of(name) {

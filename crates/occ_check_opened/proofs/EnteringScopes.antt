@@ -171,14 +171,14 @@ heavier (Err e) w a b more h = tt
 
 pub names_form : (d : Decl) (line : ℕ) (es : _) (sort : _) (xs : _) (sizes : _) (of : Sort) → d ≡ declTrees.Names line es sort xs → sizes ≡ es.items → of ≡ sort.value → (sc : Scope Calling) (depth : ℕ) (n : Numbers)
     → declared (decl_of d) sc depth n
-    ≡ within_names sc (D.names_declared (names_of sc) line depth (trees.expressions (map trees.expression_of sizes)) (lines.sort_of of) (xs.first.items ∷ map (λ v. v.items) xs.others.items) n)
+    ≡ within_names sc (D.names_declared (names_of sc) line depth (trees.expressions (map trees.expression_of sizes)) (lines.sort_of of) (xs.first ∷ xs.others.items) n)
 unfolding decl_of declared
 names_form d line es sort xs sizes of is same of_sort sc depth n =
     ap (λ e. declared (decl_of e) sc depth n) is
     ∙ ap (λ (l : List Expr). within_names sc
-    (D.names_declared (names_of sc) line depth (trees.expressions (map trees.expression_of l)) (lines.sort_of sort.value) (xs.first.items ∷ map (λ v. v.items) xs.others.items) n)) (sym same)
+    (D.names_declared (names_of sc) line depth (trees.expressions (map trees.expression_of l)) (lines.sort_of sort.value) (xs.first ∷ xs.others.items) n)) (sym same)
     ∙ ap (λ (s : Sort). within_names sc
-    (D.names_declared (names_of sc) line depth (trees.expressions (map trees.expression_of sizes)) (lines.sort_of s) (xs.first.items ∷ map (λ v. v.items) xs.others.items) n)) (sym of_sort)
+    (D.names_declared (names_of sc) line depth (trees.expressions (map trees.expression_of sizes)) (lines.sort_of s) (xs.first ∷ xs.others.items) n)) (sym of_sort)
 
 pub item_form : (d : Decl) (it : Item) → d ≡ declTrees.Item it → (sc : Scope Calling) (depth : ℕ) (n : Numbers) → declared (decl_of d) sc depth n ≡ item_declared (item_of it) sc depth n
 unfolding decl_of declared
@@ -188,12 +188,11 @@ pub item_within : (d : Decl) (it : Item) → d ≡ declTrees.Item it → decl_si
 unfolding decl_of decl_size
 item_within d it is = ap (λ e. decl_size (decl_of e)) is
 
-pub value_form : (it : Item) (line : ℕ) (type : _) (x : _) (e : _) (name : Name) (value : Expr) → it ≡ itemTrees.Value line type x e → name ≡ x.items → value ≡ e.value → (sc : Scope Calling) (depth : ℕ) (n : Numbers)
+pub value_form : (it : Item) (line : ℕ) (type : _) (name : Name) (e : _) (value : Expr) → it ≡ itemTrees.Value line type name e → value ≡ e.value → (sc : Scope Calling) (depth : ℕ) (n : Numbers)
     → item_declared (item_of it) sc depth n ≡ within_names sc (D.value_declared (names_of sc) line depth (option_map lines.value_type_of type) name (trees.expression_of value) n)
 unfolding item_of item_declared
-value_form it line type x e name value is same of_value sc depth n =
+value_form it line type name e value is of_value sc depth n =
     ap (λ i. item_declared (item_of i) sc depth n) is
-    ∙ ap (λ (y : Name). within_names sc (D.value_declared (names_of sc) line depth (option_map lines.value_type_of type) y (trees.expression_of e.value) n)) (sym same)
     ∙ ap (λ (v : Expr). within_names sc (D.value_declared (names_of sc) line depth (option_map lines.value_type_of type) name (trees.expression_of v) n)) (sym of_value)
 
 pub protocol_form : (it : Item) (p : _) → it ≡ itemTrees.Protocol p → (sc : Scope Calling) (depth : ℕ) (n : Numbers)
@@ -202,14 +201,14 @@ unfolding item_of item_declared
 protocol_form it p is sc depth n = ap (λ i. item_declared (item_of i) sc depth n) is
 
 pub proc_form : (it : Item) (line : ℕ) (x : _) (fs : _) (body : _) (end_line : ℕ) → it ≡ itemTrees.Proc line x fs body end_line → (sc inside : Procedures)
-    → inside ≡ (x.items, proc (procedure line (lines.formals_of fs) (process_of body))) ∷ sc → (depth : ℕ) (n : Numbers)
+    → inside ≡ (x, proc (procedure line (lines.formals_of fs) (process_of body))) ∷ sc → (depth : ℕ) (n : Numbers)
     → item_declared (item_of it) (meant sc) depth n ≡ Some (entered (meant inside) [] n)
 unfolding item_of item_declared meant
 proc_form it line x fs body end_line is sc inside e depth n =
     ap (λ i. item_declared (item_of i) (meant sc) depth n) is ∙ ap (λ (s : Procedures). Some (entered (meant s) [] n)) (sym e)
 
 pub proc_within : (it : Item) (line : ℕ) (x : _) (fs : _) (body : _) (end_line : ℕ) → it ≡ itemTrees.Proc line x fs body end_line → (sc inside : Procedures)
-    → inside ≡ (x.items, proc (procedure line (lines.formals_of fs) (process_of body))) ∷ sc → weight inside ≤ item_size (item_of it) + weight sc
+    → inside ≡ (x, proc (procedure line (lines.formals_of fs) (process_of body))) ∷ sc → weight inside ≤ item_size (item_of it) + weight sc
 unfolding item_of item_size weight
 proc_within it line x fs body end_line is sc inside e =
     let a : item_size (item_of it) ≡ node_size (process_of body) + 2 = ap (λ i. item_size (item_of i)) is in

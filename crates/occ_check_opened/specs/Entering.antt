@@ -1,6 +1,6 @@
 -- What comes into scope at a call.
 -- Manual: scope; procedures.
-use Rattle.std.specs.Prelude.{List, None, Option, Some, reverse, ℕ}
+use Rattle.std.specs.Prelude.{List, None, Option, Result, Some, reverse, ℕ}
 use Rattle.occ_tree_grammar.specs.Lines.Views as lines
 use Rattle.occ_tree_grammar.specs.Lines.Trees.{Actuals, Formals}
 use Rattle.occ_tree_grammar.specs.Many.{◌>>=◌}
@@ -13,13 +13,16 @@ use Rattle.occ_check_meaning.specs.Scope as S
 use Rattle.occ_check_meaning.specs.Unfolding as U
 use Rattle.occ_check_meaning.specs.Numbers.{Numbers}
 use Rattle.occ_check_meaning.specs.Unfolding.{Procedures, procedure}
-use Rattle.occ_check_names.specs.View.{names_in, numbers_of, scope_in}
+use Rattle.occ_check_names.specs.View.{Gives, names_in, numbers_of, scope_in, scope_of}
 use Rattle.occ_check_names.specs.declared.context.Context.{Context}
+use Rattle.occ_check_names.specs.declared.fault.CheckFault.{CheckFault}
 use Rattle.occ_check_names.specs.declared.numbers.Numbers.{Numbers as CodeNumbers}
 use Rattle.occ_check_names.specs.declared.scope.Block.{Block}
 use Rattle.occ_check_names.specs.declared.scope.Position.{Position}
 use Rattle.occ_check_names.specs.declared.scope.Procedure.{Procedure}
 use Rattle.occ_check_names.specs.declared.scope.Scope.{Scope}
+use Rattle.occ_check_typing.specs.Declaration.{Opens}
+use Rattle.occ_check_typing.specs.declared.declaration.Opened.{Opened}
 
 abbrev pub procedure_of : Procedure → U.Procedure
 procedure_of p = procedure p.line (lines.formals_of p.formals.now) (process_of p.body.now)
@@ -45,3 +48,11 @@ formals_bound outer declared fs ns line depth es n = C.formals_of outer declared
 abbrev pub formals_given : Scope → Procedure → Context → ℕ → Option (OneOrMore Expr) → CodeNumbers → Option D.Opened
 formals_given outer p c depth es n =
     formals_bound (names_in outer) p.line (lines.formals_of p.formals.now) (names_in c.scope) c.line depth (lines.actuals_of es) (numbers_of n)
+
+-- the PROC that a name stands for in a scope, and the position of what it sees
+abbrev pub FindsProcedure : Result (Procedure × Position) CheckFault → Scope → S.Name → Type 0
+FindsProcedure result s f = Gives (procedure_in s.blocks.now) result (procedure_found (scope_of s) f)
+
+-- what is opened is what the formals of a PROC stand for that is declared in the outer scope
+abbrev pub Binds : Result Opened CheckFault → (old new : CodeNumbers) → (outer : Scope) → Procedure → Context → ℕ → Option (OneOrMore Expr) → Type 0
+Binds result old new outer p c depth es = Opens result new (formals_given outer p c depth es old)

@@ -1,6 +1,6 @@
 pub mod OpenBlocks
 pub mod Weights
-pub mod Progress
 pub mod Entering
+pub mod Progress
 pub mod OneLine
 pub mod Opened

@@ -1,13 +1,20 @@
 -- What is left of a construct whose first steps are done, and what its parts are put into.
 -- Manual: nothing; this is (own).
-use Rattle.std.specs.Prelude.{IfOk, Option, Some, [], Result, Ok, Err, ℕ, ℤ, pos, ⊤, ◌≤◌, ◌≤ℤ◌, ◌+ℤ◌, ◌≡◌}
+use Rattle.std.specs.Prelude.{IfOk, List, Option, Some, [], Result, Ok, Err, ℕ, ℤ, pos, ⊤, ◌<◌, ◌≤◌, ◌≤ℤ◌, ◌+ℤ◌, ◌≡◌}
 use Rattle.occ_tree_grammar.specs.Lines.Trees as L
 use Rattle.occ_tree_grammar.specs.Lines.Views.{replicator_of as replicator_tree}
 use Rattle.occ_tree_grammar.specs.Many.{◌>>=◌}
 use Rattle.occ_tree_grammar.specs.Processes.Views.{process_of}
+use Rattle.occ_tree_grammar.specs.declared.tree.process.Arm.{Arm}
+use Rattle.occ_tree_grammar.specs.declared.tree.process.Choice.{Choice}
 use Rattle.occ_tree_grammar.specs.declared.tree.process.Process.{Process}
+use Rattle.occ_tree_grammar.specs.declared.tree.process.Selection.{Selection}
+use Rattle.occ_tree_grammar.specs.declared.tree.process.Variant.{Variant}
 use Rattle.occ_tree_grammar.specs.Processes.Trees.{Node, process}
 use Rattle.occ_term.specs.Terms as T
+use Rattle.occ_term.specs.declared.expression.Declaration.{Declaration}
+use Rattle.occ_term.specs.declared.primitive.Primitive.{Primitive}
+use Rattle.occ_term.specs.declared.protocol.Protocol.{Protocol}
 use Rattle.occ_term.specs.View.{declarations_of, expression_of, place_of, replicator_of, term_of}
 use Rattle.occ_check_meaning.specs.Actions as A
 use Rattle.occ_check_meaning.specs.Numbers as N
@@ -53,6 +60,26 @@ body_unfolded p = unfolded (process_of p)
 -- what the copy for a value of the index unfolds to
 abbrev pub copy_for : L.Replicator → Node process → Scope Calling → ℕ → ℤ → Unfolds T.Term
 copy_for r p sc depth i = unfolded p (within (index_of r i) sc) depth
+
+-- parts in a list, as the code keeps them
+
+abbrev pub seq_parts : List Process → Under T.Terms
+seq_parts ps = all_in_turn (process_nodes ps)
+
+abbrev pub par_parts : List Process → Under T.Branches
+par_parts ps = all_beside (process_nodes ps)
+
+abbrev pub if_choices : List Choice → Under T.Choices
+if_choices cs = all_choices (choice_nodes cs)
+
+abbrev pub alt_arms : List Arm → Under T.Arms
+alt_arms xs = all_arms (arm_nodes xs)
+
+abbrev pub case_options : List Selection → Primitive → Under T.Options
+case_options os type = all_options (option_nodes os) type A.none_chosen
+
+abbrev pub case_variants : List Variant → Protocol → Under T.Variants
+case_variants vs p = all_variants (variant_nodes vs) p []
 
 -- ---- statements
 
@@ -117,15 +144,26 @@ IsReady o = (o.depth ≤ 200) × IsCounted o.left
 abbrev pub Begins : Result Opened CheckFault → Unfolder → Unfolder → Position → ℕ → Under T.Term → Type 0
 Begins result old new at depth part = OpensAt statement_left result old new at depth part
 
--- and no larger than this
+-- what is opened weighs no more than this, or less
+abbrev pub Within : {X : Type 0} → (Unfolder → X → ℕ) → Result X CheckFault → Unfolder → ℕ → Type 0
+Within weight result after most = IfOk result (λ o. weight after o ≤ most)
+
+abbrev pub Below : {X : Type 0} → (Unfolder → X → ℕ) → Result X CheckFault → Unfolder → ℕ → Type 0
+Below weight result after limit = IfOk result (λ o. weight after o < limit)
+
+-- what is left of a statement weighs no more than this
 abbrev pub LeavesWithin : Result Opened CheckFault → Unfolder → ℕ → Type 0
-LeavesWithin result after most = IfOk result (λ o. left_weight after o ≤ most)
+LeavesWithin result after most = Within left_weight result after most
 
 -- ---- a process
 
+-- what is left of a statement, behind what is set for declarations
+abbrev pub left_headed : List Declaration → Unfolder → Opened → Option (T.Term × N.Numbers)
+left_headed heads u o = put (headed (declarations_of heads)) (statement_left u o)
+
 abbrev pub step_left : Unfolder → Step → Option (T.Term × N.Numbers)
 step_left u (steps.Call p at depth) = unfolded (process_of p.now) (meant_at u at) depth (counted u)
-step_left u (steps.Behind heads o) = put (headed (declarations_of heads)) (statement_left u o)
+step_left u (steps.Behind heads o) = left_headed heads u o
 
 abbrev pub step_weight : Unfolder → Step → ℕ
 step_weight u (steps.Call p at depth) = body_weight u at p.now

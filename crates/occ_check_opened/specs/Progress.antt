@@ -1,8 +1,12 @@
 -- What the code of processes answers.
 -- Manual: nothing; this is (own).
-use Rattle.std.specs.Prelude.{List, Option, Some, Result, Ok, Err, ℕ, ◌+◌, ◌≡◌}
+use Rattle.std.specs.Prelude.{List, OnOk, Option, Some, Result, Ok, Err, ℕ, ◌+◌, ◌≡◌, ◌≤◌}
+use Rattle.occ_tree_grammar.specs.Lines.Views.{actuals_of, replicator_of as replicator_tree}
 use Rattle.occ_tree_grammar.specs.Processes.Views.{process_of}
 use Rattle.occ_tree_grammar.specs.Many.{◌>>=◌}
+use Rattle.occ_tree_grammar.specs.declared.tree.expr.Expr.{Expr}
+use Rattle.occ_tree_grammar.specs.declared.tree.line.OneOrMore.{OneOrMore}
+use Rattle.occ_tree_grammar.specs.declared.tree.line.Replicator.{Replicator as ReplicatorTree}
 use Rattle.occ_tree_grammar.specs.declared.tree.process.Process.{Process}
 use Rattle.occ_tree_grammar.specs.Processes.Trees.{Kind, Node, Nodes}
 use Rattle.occ_tree_grammar.specs.declared.tree.process.Decl.{Decl}
@@ -12,19 +16,21 @@ use Rattle.occ_term.specs.View.{declarations_of, replicator_of}
 use Rattle.occ_term.specs.declared.expression.Replicator.{Replicator}
 use Rattle.occ_check_meaning.specs.Numbers as N
 use Rattle.occ_check_meaning.specs.Scope as S
-use Rattle.occ_check_meaning.specs.Declarations.{Indexed}
+use Rattle.occ_check_meaning.specs.Declarations.{Indexed, indexed}
 use Rattle.occ_check_meaning.specs.Performing.{Calling, Declaring, Entered, Under, entered}
 use Rattle.occ_check_meaning.specs.Recursion.{unfolded}
 use Rattle.occ_check_meaning.specs.Unfolding.{Procedures}
-use Rattle.occ_check_meaning.specs.Meant.{meant}
+use Rattle.occ_check_meaning.specs.Meant.{meaning_of, meant}
 use Rattle.occ_check_meaning.specs.Actions.{headed, opening}
-use Rattle.occ_check_names.specs.declared.numbers.Numbers.{Numbers}
+use Rattle.occ_check_names.specs.Reading.{OfLine}
 use Rattle.occ_check_names.specs.View.{numbers_of, Refuses, Unfolds}
 use Rattle.occ_check_names.specs.declared.fault.CheckFault.{CheckFault}
 use Rattle.occ_check_names.specs.declared.scope.Position.{Position}
+use Rattle.occ_check_names.specs.declared.scope.Procedure.{Procedure}
+use Rattle.occ_check_opened.specs.Entering.{procedure_of}
 use Rattle.occ_check_opened.specs.declared.unfolder.Call.{Call}
 use Rattle.occ_check_opened.specs.declared.unfolder.Unfolder.{Unfolder}
-use Rattle.occ_check_opened.specs.OpenBlocks.{seen_at, seen_inside}
+use Rattle.occ_check_opened.specs.OpenBlocks.{Keeps, seen_at, seen_inside}
 use Rattle.occ_check_opened.specs.Weights.{node_size, nodes_size, decls_size, weight, decl_nodes}
 
 -- what is in scope at a position of the open blocks
@@ -45,6 +51,18 @@ names_there u at = S.names_of (meant_at u at)
 -- what is answered is what a part of the tree unfolds to at a position, behind so many nodes
 abbrev pub Reads : {X Y : Type 0} → (X → Y) → Result X CheckFault → Unfolder → Unfolder → Position → ℕ → Under Y → Type 0
 Reads view result old new at depth part = Unfolds view result new.numbers (part (meant_at old at) depth (counted old))
+
+-- .. what something in a line unfolds to under the names there
+abbrev pub ReadsLine : {X Y : Type 0} → (X → Y) → Result X CheckFault → Unfolder → Unfolder → Position → (line depth : ℕ) → OfLine Y → Type 0
+ReadsLine view result old new at line depth part = Unfolds view result new.numbers (part (names_there old at) line depth (counted old))
+
+-- all that was open is open still and as it was, whatever is open inside of it
+abbrev pub KeepsOpen : {X : Type 0} → Result X CheckFault → Unfolder → Unfolder → Type 0
+KeepsOpen result old new = OnOk result (Keeps old.blocks new.blocks)
+
+-- .. and nothing more is
+abbrev pub OpensNothing : {X : Type 0} → Result X CheckFault → Unfolder → Unfolder → Type 0
+OpensNothing result old new = OnOk result (new.blocks ≡ old.blocks)
 
 -- all that is in scope at the end
 abbrev pub innermost_at : Unfolder → Procedures
@@ -67,12 +85,20 @@ abbrev pub EntersAt : Result (List Declaration × Position) CheckFault → Unfol
 EntersAt (Ok d) after given = given ≡ Some (entered (meant_at after d.1) (declarations_of d.0) (counted after))
 EntersAt (Err e) after given = Refuses e given
 
+-- the same of declarations that are read inside of a position
+abbrev pub DeclaresAt : Result (List Declaration × Position) CheckFault → Unfolder → Unfolder → Position → ℕ → Declaring → Type 0
+DeclaresAt result old new at depth part = EntersAt result new (part (meant_at old at) depth (counted old))
+
 -- how large what is in scope at a position is, and all that is in scope at the end
 abbrev pub weight_at : Unfolder → Position → ℕ
 weight_at u at = weight (scope_at u at)
 
 abbrev pub innermost_weight : Unfolder → ℕ
 innermost_weight u = weight (innermost_at u)
+
+-- what is in scope at the end has grown by no more than this
+abbrev pub GrowsWithin : {X : Type 0} → Result X CheckFault → Unfolder → Unfolder → ℕ → Type 0
+GrowsWithin result old new more = OnOk result (innermost_weight new ≤ more + innermost_weight old)
 
 -- how large parts of the tree are with what is in scope there
 abbrev pub node_weight : {k : Kind} → Unfolder → Position → Node k → ℕ
@@ -84,8 +110,24 @@ nodes_weight u at ns = nodes_size ns + weight_at u at
 abbrev pub body_weight : Unfolder → Position → Process → ℕ
 body_weight u at p = node_weight u at (process_of p)
 
-abbrev pub declared_weight : Unfolder → Position → List Decl → Process → ℕ
-declared_weight u at ds p = (decls_size (decl_nodes ds) + node_size (process_of p)) + weight_at u at
+-- one part as a list
+abbrev pub single_weight : {k : Kind} → Unfolder → Position → Node k → ℕ
+single_weight u at n = (node_size n + 1) + weight_at u at
+
+-- declarations, and a process behind them
+abbrev pub decls_weight : Unfolder → Position → List Decl → ℕ
+decls_weight u at ds = decls_size (decl_nodes ds) + weight_at u at
+
+abbrev pub weight_behind : Unfolder → Position → List Decl → Process → ℕ
+weight_behind u at ds p = (decls_size (decl_nodes ds) + node_size (process_of p)) + weight_at u at
+
+-- how deep what stands behind what is set for declarations is
+abbrev pub opening_behind : List Declaration → ℕ → Unfolder → Option (ℕ × N.Numbers)
+opening_behind heads depth u = opening (declarations_of heads) depth (counted u)
+
+-- what a call of a PROC means, under the names at a position, where the PROC's declaration stands at the outer one
+abbrev pub call_meant : Unfolder → (outer at : Position) → Procedure → (line depth : ℕ) → Option (OneOrMore Expr) → Option (T.Term × N.Numbers)
+call_meant u outer at p line depth es = meaning_of (procedure_of p) (meant_at u outer) (names_there u at) line depth (actuals_of es) (counted u)
 
 -- the body that is called, behind what is set for its formals
 abbrev pub called_body : List Declaration → Process → Unfolder → Position → ℕ → Option (T.Term × N.Numbers)
@@ -98,8 +140,14 @@ abbrev pub Calls : ℕ → Result Call CheckFault → Unfolder → Option (T.Ter
 Calls depth (Ok c) after given = given ≡ called_body c.heads c.body.now after c.inside depth
 Calls depth (Err e) after given = Refuses e given
 
+abbrev pub CallsAt : Result Call CheckFault → Unfolder → Unfolder → Position → ℕ → Under T.Term → Type 0
+CallsAt result old new at depth part = Calls depth result new (part (meant_at old at) depth (counted old))
+
 -- a replicator with its index, under the names of which something is read
 abbrev pub Indexes : Result (Replicator × Position) CheckFault → Unfolder → S.Scope Calling → Option Indexed → Type 0
 Indexes (Ok r) after sc given =
     (i : Indexed) × (given ≡ Some i) × (i.replicator ≡ replicator_of r.0) × (meant_at after r.1 ≡ S.within i.names sc) × (i.numbers ≡ counted after)
 Indexes (Err e) after sc given = Refuses e given
+
+abbrev pub IndexesAt : Result (Replicator × Position) CheckFault → Unfolder → Unfolder → Position → (line depth : ℕ) → ReplicatorTree → Type 0
+IndexesAt result old new at line depth r = Indexes result new (meant_at old at) (indexed (names_there old at) line depth (replicator_tree r) (counted old))

@@ -7,6 +7,7 @@ ghost use Rattle.occ_check_opened.specs.OpenBlocks.{Deepens, HasBlock, Keeps, Ke
 
 use occ_check_names::fault::CheckFault;
 use occ_check_names::scope::{Binding, Block, Position, Scope};
+use occ_held::letters::Letters;
 use std::alloc::Global;
 
 /// The blocks, the innermost last.
@@ -76,7 +77,7 @@ impl<'t> Blocks<'t> {
     pub fn declare(
         &mut self,
         alloc: Global,
-        name: &[u8],
+        name: &Letters,
         binding: Binding<'t>,
     ) -> Result<(), CheckFault>
         requires { HasBlock self.old }
@@ -95,11 +96,11 @@ impl<'t> Blocks<'t> {
         };
         if block.has(name) {
             self.blocks.push(block)?;
-            let block = Block::new(alloc, outer).with(alloc, name, binding)?;
+            let block = Block::new(alloc, outer).with(name, binding)?;
             self.blocks.push(block)?;
             return Ok(());
         }
-        let block = block.with(alloc, name, binding)?;
+        let block = block.with(name, binding)?;
         self.blocks.push(block)?;
         Ok(())
     }

@@ -2,7 +2,6 @@
 
 ghost use Rattle.std.specs.Prelude.{◌≡◌, ◌+◌, ◌<◌, ◌≤◌, IfErr, IfOk, OnOk};
 ghost use Rattle.occ_tree_grammar.specs.Processes.Views.{decl_of, item_of};
-ghost use Rattle.occ_tree_grammar.specs.Lines.Views.{actuals_of, replicator_of};
 ghost use Rattle.occ_tree_grammar.specs.Lines.Heads.{call};
 ghost use Rattle.occ_term.specs.View.{declaration_of, declarations_of, term_of};
 ghost use Rattle.occ_check_meaning.specs.Actions.{as_term, headed, opening};
@@ -10,14 +9,14 @@ ghost use Rattle.occ_check_meaning.specs.Declarations.{indexed};
 ghost use Rattle.occ_check_meaning.specs.Performing.{acted};
 ghost use Rattle.occ_check_meaning.specs.Scope.{within};
 ghost use Rattle.occ_check_meaning.specs.Recursion.{all_declared, declared, item_declared};
-ghost use Rattle.occ_check_meaning.specs.Meant.{meaning_of};
-ghost use Rattle.occ_check_opened.specs.Entering.{formals_given, procedure_found, procedure_in, procedure_of};
-ghost use Rattle.occ_check_typing.specs.Declaration.{Opens, pairs_of};
+ghost use Rattle.occ_check_opened.specs.Entering.{Binds, FindsProcedure};
+ghost use Rattle.occ_check_typing.specs.Declaration.{pairs_of};
 ghost use Rattle.occ_check_opened.specs.Weights.{decl_nodes, decl_size, decls_size, item_size, weight};
-ghost use Rattle.occ_check_names.specs.View.{Gives, Unfolds, scope_of};
-ghost use Rattle.occ_check_opened.specs.Progress.{Calls, Declares, Indexes, body_weight, counted, innermost_at, innermost_weight, meant_at, names_there, weight_at};
+ghost use Rattle.occ_check_names.specs.View.{Unfolds, scope_of, itself};
+ghost use Rattle.occ_check_opened.specs.Progress.{Calls, Declares, body_weight, innermost_at, innermost_weight, weight_at, CallsAt, GrowsWithin, IndexesAt, KeepsOpen, OpensNothing, call_meant, opening_behind};
 ghost use Rattle.occ_check_names.specs.declared.fault.CheckFault.TheVariants.{Memory};
 ghost use Rattle.occ_check_opened.specs.OpenBlocks.{Deepens, HasBlock, Keeps, KeepsOuter, seen_at, seen_inside};
+ghost use Rattle.occ_check_opened.specs.OneLine.{call_action};
 
 use crate::blocks::Blocks;
 use crate::unfolder::{Call, Unfolder};
@@ -31,6 +30,7 @@ use occ_check_typing::declaration::{
     Named, Opened, names_declared, protocol_declared, value_declared,
 };
 use occ_check_typing::replicator::{Indexed, index_replicator};
+use occ_held::letters::Letters;
 use occ_term::{Declaration, Replicator, Term};
 use occ_tree_grammar::tree::expr::Expr;
 use occ_tree_grammar::tree::line::{OneOrMore, Replicator as ReplicatorTree};
@@ -90,7 +90,7 @@ impl<'t> Blocks<'t> {
         let mut left = names;
         'names: while let Some(named) = left.pop() {
             let Named { name, known } = named;
-            self.declare(alloc, name.as_slice(), Binding::Known(known))?;
+            self.declare(alloc, &name, Binding::Known(known))?;
         }
         Ok(())
     }
@@ -128,8 +128,8 @@ impl<'t> Unfolder<'t> {
             (all_declared (decl_nodes declarations.now)) }
         ensures kept { OnOk result (KeepsOuter self.old.blocks self.new.blocks) }
         ensures more { OnOk result (Deepens self.old.blocks self.new.blocks) }
-        ensures weight { OnOk result (innermost_weight self.new
-            ≤ decls_size (decl_nodes declarations.now) + innermost_weight self.old) }
+        ensures weight { GrowsWithin result self.old self.new
+            (decls_size (decl_nodes declarations.now)) }
     {
         let mut heads = Items::new(alloc);
         for declaration in declarations {
@@ -151,8 +151,8 @@ impl<'t> Unfolder<'t> {
             (declared (decl_of declaration.now)) }
         ensures kept { OnOk result (KeepsOuter self.old.blocks self.new.blocks) }
         ensures more { OnOk result (Deepens self.old.blocks self.new.blocks) }
-        ensures weight { OnOk result (innermost_weight self.new
-            ≤ decl_size (decl_of declaration.now) + innermost_weight self.old) }
+        ensures weight { GrowsWithin result self.old self.new
+            (decl_size (decl_of declaration.now)) }
     {
         match declaration {
             Decl::Names(line, sizes, sort, names) => {
@@ -186,8 +186,7 @@ impl<'t> Unfolder<'t> {
             (item_declared (item_of item.now)) }
         ensures kept { OnOk result (KeepsOuter self.old.blocks self.new.blocks) }
         ensures more { OnOk result (Deepens self.old.blocks self.new.blocks) }
-        ensures weight { OnOk result (innermost_weight self.new
-            ≤ item_size (item_of item.now) + innermost_weight self.old) }
+        ensures weight { GrowsWithin result self.old self.new (item_size (item_of item.now)) }
     {
         match item {
             Item::Value(line, value_type, name, e) => {
@@ -250,9 +249,9 @@ impl<'t> Unfolder<'t> {
 
     /// Counts the SEQ that declarations head where there are some, and answers how deep what stands behind them is.
     pub fn opened(&mut self, depth: u32, heads: &[Declaration]) -> Result<u32, CheckFault>
-        ensures opening { Unfolds (λ deep. deep) result self.new.numbers
-            (opening (declarations_of heads.now) depth (counted self.old)) }
-        ensures kept { OnOk result (self.new.blocks ≡ self.old.blocks) }
+        ensures opening { Unfolds itself result self.new.numbers
+            (opening_behind heads.now depth self.old) }
+        ensures kept { OpensNothing result self.old self.new }
         ensures small { IfOk result (λ deep. depth ≤ 200 → deep ≤ 200) }
     {
         if heads.is_empty() {
@@ -271,14 +270,13 @@ impl<'t> Unfolder<'t> {
         at: Position,
         depth: u32,
         line: u32,
-        name: &[u8],
+        name: &Letters,
         actuals: &Option<OneOrMore<Expr>>,
     ) -> Result<Call<'t>, CheckFault>
         requires { depth ≤ 200 }
-        ensures call { Calls depth result self.new
-            (acted line (call name.now (actuals_of actuals.now)) (meant_at self.old at) depth
-            (counted self.old)) }
-        ensures kept { OnOk result (Keeps self.old.blocks self.new.blocks) }
+        ensures call { CallsAt result self.old self.new at depth
+            (acted line (call_action name.now actuals.now)) }
+        ensures kept { KeepsOpen result self.old self.new }
         ensures weight { IfOk result (λ c. body_weight self.new c.inside c.body.now
             < weight_at self.old at) }
     {
@@ -306,9 +304,8 @@ impl<'t> Unfolder<'t> {
     ) -> Result<Call<'t>, CheckFault>
         requires { depth ≤ 200 }
         ensures call { Calls depth result self.new
-            (meaning_of (procedure_of procedure.entry) (meant_at self.old outer)
-            (names_there self.old at) line depth (actuals_of actuals.now) (counted self.old)) }
-        ensures kept { OnOk result (Keeps self.old.blocks self.new.blocks) }
+            (call_meant self.old outer at procedure.entry line depth actuals.now) }
+        ensures kept { KeepsOpen result self.old self.new }
         ensures body { IfOk result (λ c. c.body.now ≡ procedure.entry.body.now) }
         ensures weight { IfOk result (λ c. weight_at self.new c.inside ≡ weight_at self.old outer) }
     {
@@ -345,10 +342,8 @@ impl<'t> Unfolder<'t> {
         line: u32,
         replicator: &ReplicatorTree,
     ) -> Result<(Replicator, Position), CheckFault>
-        ensures indexed { Indexes result self.new (meant_at self.old at)
-            (indexed (names_there self.old at) line depth (replicator_of replicator.now)
-            (counted self.old)) }
-        ensures kept { OnOk result (Keeps self.old.blocks self.new.blocks) }
+        ensures indexed { IndexesAt result self.old self.new at line depth replicator.now }
+        ensures kept { KeepsOpen result self.old self.new }
         ensures weight { IfOk result (λ r. weight_at self.new r.1 ≡ weight_at self.old at) }
         ensures within { IfOk result (λ _. depth < 200) }
     {
@@ -377,10 +372,9 @@ impl<'t> Unfolder<'t> {
 /// `Unknown` for a name that stands for nothing, `WrongKind` for one of another kind, and `Memory`.
 fn procedure_of<'t>(
     context: Context<'_, 't>,
-    name: &[u8],
+    name: &Letters,
 ) -> Result<(Procedure<'t>, Position), CheckFault>
-    ensures { Gives (procedure_in context.entry.scope.blocks.now) result
-        (procedure_found (scope_of context.entry.scope) name.now) }
+    ensures { FindsProcedure result context.entry.scope name.now }
 {
     match context.scope.find(name) {
         Some(Found::Procedure(procedure, outer)) => Ok((procedure, outer)),
@@ -402,8 +396,8 @@ fn formals_bound(
     procedure: Procedure<'_>,
     actuals: &Option<OneOrMore<Expr>>,
 ) -> Result<Opened, CheckFault>
-    ensures { Opens result numbers.new
-        (formals_given outer.entry procedure.entry context.entry depth actuals.now numbers.old) }
+    ensures { Binds result numbers.old numbers.new outer.entry procedure.entry context.entry depth
+        actuals.now }
 {
     let declared = Context {
         alloc: context.alloc,

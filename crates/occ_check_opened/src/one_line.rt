@@ -1,26 +1,20 @@
 //! What stands in one line, with the nodes that it heads, and what is entered before it.
 
-ghost use Rattle.std.specs.Prelude.{◌≡◌, ◌<◌, ◌≤◌, ◌+◌, IfOk, OnOk, map, reverse};
+ghost use Rattle.std.specs.Prelude.{◌≡◌, ◌<◌, ◌≤◌, ◌+◌, IfOk, reverse};
 ghost use Rattle.occ_tree_grammar.specs.Processes.Views.{held_decls};
 ghost use Rattle.occ_tree_grammar.specs.declared.tree.process.Arm.TheBlock.{hidden-the_row-Decl-0};
-ghost use Rattle.occ_tree_grammar.specs.Expressions.Trees.{expression_of as tree_of};
-ghost use Rattle.occ_tree_grammar.specs.Lines.Views as lines;
 ghost use Rattle.occ_tree_grammar.specs.Lines.Heads as heads;
-ghost use Rattle.occ_term.specs.Sizes.{size_of};
 ghost use Rattle.occ_term.specs.Terms as terms;
-ghost use Rattle.occ_term.specs.View.{expression_of, items_of, place_of, term_of};
-ghost use Rattle.occ_check_meaning.specs.Performing.{acted};
-ghost use Rattle.occ_check_meaning.specs.Actions as meant;
+ghost use Rattle.occ_term.specs.View.{expression_of};
 ghost use Rattle.occ_check_meaning.specs.Recursion.{all_declared};
 ghost use Rattle.occ_check_meaning.specs.Scope.{names_of};
 ghost use Rattle.occ_check_meaning.specs.Meant.{meant as with_meanings};
-ghost use Rattle.occ_check_acting.specs.Action.{listed_of};
-ghost use Rattle.occ_check_opened.specs.OneLine.{assigning, heading, outputting, receiving, tested, assignment_of, expressions_of, output_of, variables_of};
-ghost use Rattle.occ_check_names.specs.View.{TakesRoom, Unfolds, names_in, numbers_of, scope_in};
-ghost use Rattle.occ_check_names.specs.Reading.{read_in};
-ghost use Rattle.occ_check_opened.specs.Weights.{decl_nodes, decls_size};
-ghost use Rattle.occ_check_opened.specs.Progress.{EntersAt, Reads, counted, meant_at, names_there, weight_at};
-ghost use Rattle.occ_check_opened.specs.OpenBlocks.{Keeps};
+ghost use Rattle.occ_check_opened.specs.OneLine.{tested, assignment_of, output_of, Heads, HeadsTerm, PerformsAt, UnfoldsIn, a_condition, assignment, an_input, an_output, input_action, received_size};
+ghost use Rattle.occ_check_names.specs.View.{TakesRoom, names_in, scope_in};
+ghost use Rattle.occ_check_names.specs.Reading.{ReadsIn};
+ghost use Rattle.occ_check_opened.specs.Weights.{decl_nodes};
+ghost use Rattle.occ_check_opened.specs.Progress.{counted, weight_at, DeclaresAt, KeepsOpen, OpensNothing, ReadsLine, decls_weight};
+ghost use Rattle.occ_check_names.specs.Measuring.{output_size};
 
 use crate::blocks::Blocks;
 use crate::unfolder::Unfolder;
@@ -50,12 +44,11 @@ impl<'t> Unfolder<'t> {
         depth: u32,
         declarations: &'t [Decl],
     ) -> Result<(Items<Declaration>, Position), CheckFault>
-        ensures entered { EntersAt result self.new
-            (all_declared (decl_nodes declarations.now) (meant_at self.old at) depth
-            (counted self.old)) }
-        ensures kept { OnOk result (Keeps self.old.blocks self.new.blocks) }
+        ensures entered { DeclaresAt result self.old self.new at depth
+            (all_declared (decl_nodes declarations.now)) }
+        ensures kept { KeepsOpen result self.old self.new }
         ensures weight { IfOk result (λ d. weight_at self.new d.1
-            ≤ decls_size (decl_nodes declarations.now) + weight_at self.old at) }
+            ≤ decls_weight self.old at declarations.now) }
     {
         self.blocks.open(alloc, at)?;
         let heads = self.declared(alloc, depth, declarations)?;
@@ -72,9 +65,9 @@ impl<'t> Unfolder<'t> {
         line: u32,
         e: &Expr,
     ) -> Result<TermExpr, CheckFault>
-        ensures tested { Unfolds expression_of result self.new.numbers
-            (tested (names_there self.old at) line depth (tree_of e.now) (counted self.old)) }
-        ensures kept { OnOk result (self.new.blocks ≡ self.old.blocks) }
+        ensures tested { ReadsLine expression_of result self.old self.new at line depth
+            (a_condition e.now) }
+        ensures kept { OpensNothing result self.old self.new }
         ensures within { IfOk result (λ _. depth < 200) }
     {
         let scope = names_at(&self.blocks, at);
@@ -83,9 +76,8 @@ impl<'t> Unfolder<'t> {
 
     /// SKIP.
     pub fn skipped(&mut self, depth: u32) -> Result<Term, CheckFault>
-        ensures term { Unfolds term_of result self.new.numbers
-            (meant.taken depth (counted self.old) terms.Skip) }
-        ensures kept { OnOk result (self.new.blocks ≡ self.old.blocks) }
+        ensures term { HeadsTerm result self.old self.new depth terms.Skip }
+        ensures kept { OpensNothing result self.old self.new }
     {
         self.numbers.node(depth)?;
         Ok(Term::Skip)
@@ -93,9 +85,8 @@ impl<'t> Unfolder<'t> {
 
     /// STOP.
     pub fn stopped(&mut self, depth: u32) -> Result<Term, CheckFault>
-        ensures term { Unfolds term_of result self.new.numbers
-            (meant.taken depth (counted self.old) terms.Stop) }
-        ensures kept { OnOk result (self.new.blocks ≡ self.old.blocks) }
+        ensures term { HeadsTerm result self.old self.new depth terms.Stop }
+        ensures kept { OpensNothing result self.old self.new }
     {
         self.numbers.node(depth)?;
         Ok(Term::Stop)
@@ -111,9 +102,9 @@ impl<'t> Unfolder<'t> {
         variables: &OneOrMore<Var>,
         values: &OneOrMore<Expr>,
     ) -> Result<Term, CheckFault>
-        ensures term { Reads term_of result self.old self.new at depth
-            (acted line (assignment_of variables.now values.now)) }
-        ensures kept { OnOk result (self.new.blocks ≡ self.old.blocks) }
+        ensures term { PerformsAt result self.old self.new at line depth
+            (assignment_of variables.now values.now) }
+        ensures kept { OpensNothing result self.old self.new }
     {
         let scope = names_at(&self.blocks, at);
         assigning(
@@ -134,9 +125,8 @@ impl<'t> Unfolder<'t> {
         line: u32,
         input: &Input,
     ) -> Result<Term, CheckFault>
-        ensures term { Reads term_of result self.old self.new at depth
-            (acted line (heads.input (lines.input_of input.now))) }
-        ensures kept { OnOk result (self.new.blocks ≡ self.old.blocks) }
+        ensures term { PerformsAt result self.old self.new at line depth (input_action input.now) }
+        ensures kept { OpensNothing result self.old self.new }
     {
         let scope = names_at(&self.blocks, at);
         receiving(
@@ -157,9 +147,9 @@ impl<'t> Unfolder<'t> {
         channel: &Var,
         outs: &OneOrMore<Out>,
     ) -> Result<Term, CheckFault>
-        ensures term { Reads term_of result self.old self.new at depth
-            (acted line (output_of channel.now outs.now)) }
-        ensures kept { OnOk result (self.new.blocks ≡ self.old.blocks) }
+        ensures term { PerformsAt result self.old self.new at line depth
+            (output_of channel.now outs.now) }
+        ensures kept { OpensNothing result self.old self.new }
     {
         let scope = names_at(&self.blocks, at);
         outputting(
@@ -187,8 +177,8 @@ fn condition(
     depth: u32,
     e: &Expr,
 ) -> Result<TermExpr, CheckFault>
-    ensures tested { Unfolds expression_of result numbers.new
-        (read_in context.entry tested depth (tree_of e.now) (numbers_of numbers.old)) }
+    ensures tested { ReadsIn expression_of result context.entry numbers.old numbers.new depth
+        (a_condition e.now) }
     ensures within { IfOk result (λ _. depth < 200) }
 {
     let e = typed_as(context, Primitive::Bool, e)?;
@@ -201,8 +191,7 @@ pub fn counted_expression(
     depth: u32,
     e: TermExpr,
 ) -> Result<TermExpr, CheckFault>
-    ensures counted { Unfolds expression_of result numbers.new
-        (heading (expression_of e) depth (numbers_of numbers.old)) }
+    ensures counted { Heads result numbers.old numbers.new depth e }
     ensures within { IfOk result (λ _. depth < 200) }
 {
     numbers.node(depth)?;
@@ -218,8 +207,8 @@ fn assigning(
     variables: &OneOrMore<Var>,
     values: &OneOrMore<Expr>,
 ) -> Result<Term, CheckFault>
-    ensures { Unfolds term_of result numbers.new (read_in context.entry assigning depth
-        (variables_of variables.now) (expressions_of values.now) (numbers_of numbers.old)) }
+    ensures { UnfoldsIn result context.entry numbers.old numbers.new depth
+        (assignment variables.now values.now) }
 {
     let (targets, items) = assigned(context, variables, values)?;
     count_assignment(numbers, depth, targets.as_slice(), items.as_slice())?;
@@ -234,9 +223,8 @@ fn outputting(
     channel: &Var,
     outs: &OneOrMore<Out>,
 ) -> Result<Term, CheckFault>
-    ensures { Unfolds term_of result numbers.new (read_in context.entry outputting depth
-        (lines.var_of channel.now) (lines.out_of outs.now.first)
-        (map lines.out_of outs.now.others.items) (numbers_of numbers.old)) }
+    ensures { UnfoldsIn result context.entry numbers.old numbers.new depth
+        (an_output channel.now outs.now) }
 {
     let (channel, tag, items) = output(context, channel, outs)?;
     counted_output(numbers, depth, &channel, tag, items.as_slice())?;
@@ -252,7 +240,7 @@ fn counted_output(
     items: &[Item],
 ) -> Result<(), CheckFault>
     ensures { TakesRoom result numbers.old numbers.new depth
-        (size_of (terms.Output (place_of channel.now) tag (items_of items.now))) }
+        (output_size channel.now items.now tag) }
 {
     let _sent = tag;
     count_output(numbers, depth, channel, items)
@@ -265,8 +253,7 @@ fn receiving(
     depth: u32,
     input: &Input,
 ) -> Result<Term, CheckFault>
-    ensures { Unfolds term_of result numbers.new (read_in context.entry receiving depth
-        (lines.input_of input.now) (numbers_of numbers.old)) }
+    ensures { UnfoldsIn result context.entry numbers.old numbers.new depth (an_input input.now) }
 {
     let (channel, listed) = received(context, input)?;
     let listed = Held::new(listed);
@@ -283,7 +270,7 @@ fn count_received(
     listed: &Listed,
 ) -> Result<(), CheckFault>
     ensures { TakesRoom result numbers.old numbers.new depth
-        (size_of (meant.as_input (place_of channel.now, listed_of listed.now))) }
+        (received_size channel.now listed.now) }
 {
     match listed {
         Listed::Plain(targets) => count_input(numbers, depth, channel, targets.as_slice()),

@@ -3,10 +3,9 @@
 ghost use Rattle.std.specs.Prelude.{◌≡◌, IfErr, IfOk, IsTrue};
 ghost use Rattle.occ_term.specs.Terms as terms;
 ghost use Rattle.occ_term.specs.Terms.{no_arms, no_choices};
-ghost use Rattle.occ_term.specs.View.{arm_of, arms_of, choice_of, choices_of, declarations_of, term_of};
-ghost use Rattle.occ_check_meaning.specs.Actions.{headed};
+ghost use Rattle.occ_term.specs.View.{arm_of, arms_of, choice_of, choices_of, term_of};
 ghost use Rattle.occ_check_names.specs.declared.fault.CheckFault.TheVariants.{Memory};
-ghost use Rattle.occ_check_opened.specs.Opened.{IsReady, IsStepReady, around, each_arms, each_choices, left_weight, put, statement_left, step_left, step_weight};
+ghost use Rattle.occ_check_opened.specs.Opened.{IsReady, IsStepReady, around, each_arms, each_choices, left_weight, step_left, step_weight, left_headed};
 ghost use Rattle.occ_check_opened.specs.declared.unfolder.Unfolder.{Unfolder};
 
 use crate::entering::headed;
@@ -161,8 +160,7 @@ impl Over {
 impl<'t> Opened<'t> {
     /// It, behind what is set for declarations.
     pub fn behind(self, heads: Items<Declaration>) -> Step<'t>
-        ensures left { (u : Unfolder) → step_left u result
-            ≡ put (headed (declarations_of heads)) (statement_left u self.entry) }
+        ensures left { (u : Unfolder) → step_left u result ≡ left_headed heads u self.entry }
         ensures weight { (u : Unfolder) → step_weight u result ≡ left_weight u self.entry }
         ensures ready { IsReady self.entry → IsStepReady result }
     {

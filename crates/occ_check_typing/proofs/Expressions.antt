@@ -23,14 +23,13 @@ use Rattle.occ_check_typing.proofs.Refusals.{none_then, refused_with, then_nothi
 
 -- ---- the trees of the code, seen
 
-pub variable_seen : (name : Vec ℕ Global) (es : Vec Expr Global) → trees.operand_of (operandTrees.Variable name es) ≡ trees.variable name.items (trees.expressions (map trees.expression_of es.items))
-variable_seen name es = ap (trees.variable name.items) (expressions_made es)
+pub variable_seen : (name : List ℕ) (es : Vec Expr Global) → trees.operand_of (operandTrees.Variable name es) ≡ trees.variable name (trees.expressions (map trees.expression_of es.items))
+variable_seen name es = ap (trees.variable name) (expressions_made es)
 
-pub variable_given : (a : OperandTree) (name : Vec ℕ Global) (es : Vec Expr Global) (x : List ℕ) (ys : List Expr) → a ≡ operandTrees.Variable name es → x ≡ name.items → ys ≡ es.items
-    → trees.variable x (trees.expressions (map trees.expression_of ys)) ≡ trees.operand_of a
-variable_given a name es x ys is h g =
-    ap (λ z. trees.variable z (trees.expressions (map trees.expression_of ys))) h ∙ ap (λ zs. trees.variable name.items (trees.expressions (map trees.expression_of zs))) g
-    ∙ sym (ap trees.operand_of is ∙ variable_seen name es)
+pub variable_given : (a : OperandTree) (name : List ℕ) (es : Vec Expr Global) (ys : List Expr) → a ≡ operandTrees.Variable name es → ys ≡ es.items
+    → trees.variable name (trees.expressions (map trees.expression_of ys)) ≡ trees.operand_of a
+variable_given a name es ys is g =
+    ap (λ zs. trees.variable name (trees.expressions (map trees.expression_of zs))) g ∙ sym (ap trees.operand_of is ∙ variable_seen name es)
 
 pub chain_seen : (l : Logic) (a b : OperandTree) (others : Vec OperandTree Global)
     → trees.expression_of (exprs.Chain l a b others) ≡ trees.chain l (trees.operand_of a) (trees.operand_of b) (trees.operands (map trees.operand_of others.items))

@@ -166,7 +166,7 @@ counted_last sizes i count past counted =
 -- ---- protocols
 
 module _ (ns : Names) (p : ProtocolTree) where
-  module _ (line : ℕ) (name : Vec ℕ Global) (parts : Box (OneOrMore PartTree) Global) (all : OneOrMore PartTree) (is : p ≡ protocolTrees.Parts line name parts) (seen : all ≡ parts.value) where
+  module _ (line : ℕ) (name : List ℕ) (parts : Box (OneOrMore PartTree) Global) (all : OneOrMore PartTree) (is : p ≡ protocolTrees.Parts line name parts) (seen : all ≡ parts.value) where
     sequential : protocol_of ns (processes.protocol_of p) ≡ (each_of (part_of ns line) (lines.part_of all.first ∷ map lines.part_of all.others.items) >>= λ ts. Some (Sequential ts))
     sequential =
         ap (λ q. protocol_of ns (processes.protocol_of q)) is
@@ -178,7 +178,7 @@ module _ (ns : Names) (p : ProtocolTree) where
     pub sequential_none : (e : CheckFault) → Refuses e (each_of (part_of ns line) (lines.part_of all.first ∷ map lines.part_of all.others.items)) → Refuses e (protocol_of ns (processes.protocol_of p))
     sequential_none e = refused_with e _ _ (λ h. sequential ∙ none_then _ h)
 
-  module _ (line : ℕ) (name : Vec ℕ Global) (case_line : ℕ) (tags : Vec TagTree Global) (end_line : ℕ) (all : List TagTree) (is : p ≡ protocolTrees.Tags line name case_line tags end_line) (seen : all ≡ tags.items) where
+  module _ (line : ℕ) (name : List ℕ) (case_line : ℕ) (tags : Vec TagTree Global) (end_line : ℕ) (all : List TagTree) (is : p ≡ protocolTrees.Tags line name case_line tags end_line) (seen : all ≡ tags.items) where
     tagged : protocol_of ns (processes.protocol_of p) ≡ (once (tag_names (map processes.tag_of all)) >>= λ names. each_of (tag_of ns) (map processes.tag_of all) >>= λ ts. Some (Variant ts))
     tagged =
         ap (λ q. protocol_of ns (processes.protocol_of q)) is
@@ -195,8 +195,8 @@ module _ (ns : Names) (p : ProtocolTree) where
 
 -- ---- the names of tags
 
-pub names_taken : (ts : List TagTree) (i : ℕ) → length ts ≤ i → map (λ t. t.name.items) (take i ts) ≡ tag_names (map processes.tag_of ts)
+pub names_taken : (ts : List TagTree) (i : ℕ) → length ts ≤ i → map (λ t. t.name) (take i ts) ≡ tag_names (map processes.tag_of ts)
 names_taken [] zero past = refl
 names_taken [] (suc i) past = refl
 names_taken (t ∷ ts) zero past = absurd (omega arith)
-names_taken (t ∷ ts) (suc i) past = ap (λ xs. t.name.items ∷ xs) (names_taken ts i (omega arith))
+names_taken (t ∷ ts) (suc i) past = ap (λ xs. t.name ∷ xs) (names_taken ts i (omega arith))

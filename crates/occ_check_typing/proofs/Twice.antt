@@ -1,13 +1,12 @@
 -- Names are once where none stands among those before it.
-use Rattle.std.proofs.Common.{◌≡◌, ◌∙◌, sym, ap, refl, ℕ, suc, ◌+◌, ◌<◌, ◌≤◌, List, [], ◌∷◌, ◌++◌, map, length, drop, get_or, Bool, true, false, cond, arith}
-use Rattle.std.specs.Prelude.{bytes_eq, not, ◌&&◌, ◌||◌, Vec}
+use Rattle.std.proofs.Common.{◌≡◌, ◌∙◌, sym, ap, refl, ℕ, suc, ◌+◌, ◌<◌, ◌≤◌, List, [], ◌∷◌, ◌++◌, length, drop, get_or, Bool, true, false, cond, arith}
+use Rattle.std.specs.Prelude.{bytes_eq, not, ◌&&◌, ◌||◌}
 use Rattle.std.specs.List.{list_any}
 use Rattle.std.proofs.Math.Seq.{drop-cons}
 use Rattle.std.proofs.lemmas.Bool.Decides.{same_from_decides, Decides-like}
 use Rattle.std.proofs.lemmas.Slice.Eq.{bytes_eq-Decides}
 use Rattle.std.proofs.lemmas.List.Folds.{list_any-append, list_any_more, list_any_none}
 use Rattle.std.proofs.Math.ListN.{drop_of_length-le}
-use mathlib.Core.List.{map-append}
 use Rattle.occ_check_meaning.specs.Scope.{Name, are_once, is_among}
 use Rattle.occ_check_typing.specs.Declaration.{none_among}
 
@@ -58,9 +57,9 @@ any_first : {X : Type 0} (p : X → Bool) (x : X) (xs : List X) → list_any p (
 any_first p x xs =
     list_any-append p (x ∷ []) xs ∙ ap (λ b. b || list_any p xs) (list_any_more p (x ∷ []) 0 x (omega arith) ∙ ap (λ b. b || p x) (none_any p))
 
-pub any_among : {A : Type 0} (x : Name) (ks : List (Vec ℕ A)) → list_any (λ y. bytes_eq x y.items) ks ≡ is_among x (map (λ v. v.items) ks)
-any_among {A} x [] = none_any (λ (y : Vec ℕ A). bytes_eq x y.items)
-any_among x (k ∷ ks) = any_first (λ y. bytes_eq x y.items) k ks ∙ by (bytes_eq x k.items) (list_any (λ y. bytes_eq x y.items) ks) _ (any_among x ks)
+pub any_among : (x : Name) (ks : List Name) → list_any (bytes_eq x) ks ≡ is_among x ks
+any_among x [] = none_any (bytes_eq x)
+any_among x (k ∷ ks) = any_first (bytes_eq x) k ks ∙ by (bytes_eq x k) (list_any (bytes_eq x) ks) _ (any_among x ks)
   where
     by : (b more less : Bool) → more ≡ less → (b || more) ≡ cond b true less
     by true more less e = refl
@@ -95,25 +94,21 @@ none_among_nothing : (names : List Name) → none_among [] names ≡ true
 none_among_nothing [] = refl
 none_among_nothing (x ∷ xs) = none_among_nothing xs
 
-pub begins : {A : Type 0} (names : List Name) (keys : List (Vec ℕ A)) → length keys ≡ 0 → apart_from (map (λ v. v.items) keys) names ≡ are_once names
+pub begins : (names keys : List Name) → length keys ≡ 0 → apart_from keys names ≡ are_once names
 begins names [] e = ap (λ b. b && are_once names) (none_among_nothing names)
 begins names (k ∷ keys) e = absurd (omega arith)
 
 pub ends : (names : List Name) (i : ℕ) (seen : List Name) → length names ≤ i → apart_from seen (drop i names) ≡ are_once names → are_once names ≡ true
 ends names i seen h e = sym e ∙ ap (apart_from seen) (drop_of_length-le names h)
 
-pub keys_more : {A : Type 0} (ks now : List (Vec ℕ A)) (k : Vec ℕ A) (x : Name) → k.items ≡ x → is_among x (map (λ v. v.items) ks) ≡ false
-    → now ≡ cond (list_any (λ y. bytes_eq k.items y.items) ks) ks (ks ++ k ∷ []) → map (λ v. v.items) now ≡ map (λ v. v.items) ks ++ x ∷ []
+pub keys_more : (ks now : List Name) (k x : Name) → k ≡ x → is_among x ks ≡ false → now ≡ cond (list_any (bytes_eq k) ks) ks (ks ++ k ∷ []) → now ≡ ks ++ x ∷ []
 keys_more ks now k x same lacks is =
-    let none : list_any (λ y. bytes_eq k.items y.items) ks ≡ false = any_among k.items ks ∙ ap (λ y. is_among y (map (λ v. v.items) ks)) same ∙ lacks in
-    ap (map (λ v. v.items)) (is ∙ ap (λ b. cond b ks (ks ++ k ∷ [])) none)
-    ∙ map-append (λ v. v.items) ks (k ∷ []) ∙ ap (λ y. map (λ v. v.items) ks ++ y ∷ []) same
+    let none : list_any (bytes_eq k) ks ≡ false = any_among k ks ∙ ap (λ y. is_among y ks) same ∙ lacks in
+    is ∙ ap (λ b. cond b ks (ks ++ k ∷ [])) none ∙ ap (λ y. ks ++ y ∷ []) same
 
 -- what an insert tells of a key, and so of the name that it is a copy of
-pub told_among : {A : Type 0} (ks : List (Vec ℕ A)) (k : Vec ℕ A) (x : Name) (added : Bool) → k.items ≡ x → added ≡ not (list_any (λ y. bytes_eq k.items y.items) ks)
-    → is_among x (map (λ v. v.items) ks) ≡ not added
-told_among ks k x added same e =
-    ap (λ y. is_among y (map (λ v. v.items) ks)) (sym same) ∙ sym (any_among k.items ks) ∙ twice_not (list_any (λ y. bytes_eq k.items y.items) ks) ∙ ap not (sym e)
+pub told_among : (ks : List Name) (k x : Name) (added : Bool) → k ≡ x → added ≡ not (list_any (bytes_eq k) ks) → is_among x ks ≡ not added
+told_among ks k x added same e = ap (λ y. is_among y ks) (sym same) ∙ sym (any_among k ks) ∙ twice_not (list_any (bytes_eq k) ks) ∙ ap not (sym e)
   where
     twice_not : (b : Bool) → b ≡ not (not b)
     twice_not true = refl

@@ -1,12 +1,17 @@
 -- What declarations and formals of the code leave, as the definitions have it.
 -- Manual: nothing; this is (own).
-use Rattle.std.specs.Prelude.{List, Option, Some, Result, Ok, Err, map, ◌∷◌, ◌≡◌, [], Bool, true, not, ◌&&◌}
-use Rattle.occ_term.specs.View.{declarations_of, replicator_of}
+use Rattle.std.specs.Prelude.{List, Option, Some, Result, Ok, Err, map, ◌∷◌, ◌≡◌, [], Bool, true, not, ◌&&◌, ℕ}
+use Rattle.occ_term.specs.View.{declarations_of, expression_of, item_of, replicator_of}
+use Rattle.occ_term.specs.declared.expression.Item.{Item}
+use Rattle.occ_term.specs.declared.expression.TermExpr.{TermExpr}
+use Rattle.occ_term.specs.declared.primitive.Primitive.{Primitive}
+use Rattle.occ_check_meaning.specs.Constants.{constant}
 use Rattle.occ_check_meaning.specs.Scope.{Name, Known, Pairs, is_among}
 use Rattle.occ_check_meaning.specs.Declarations as D
 use Rattle.occ_check_meaning.specs.Numbers as N
-use Rattle.occ_check_names.specs.View.{Refuses, known_of, numbers_of}
+use Rattle.occ_check_names.specs.View.{Refuses, carried_of, known_of, numbers_of}
 use Rattle.occ_check_names.specs.declared.fault.CheckFault.{CheckFault}
+use Rattle.occ_check_names.specs.declared.known.Carried.{Carried}
 use Rattle.occ_check_names.specs.declared.known.Known.{Known as KnownCode}
 use Rattle.occ_check_names.specs.declared.numbers.Numbers.{Numbers}
 use Rattle.occ_check_typing.specs.declared.declaration.Named.{Named}
@@ -35,6 +40,27 @@ Opens (Err e) after given = Refuses e given
 -- .. from the numbers before
 abbrev pub OpensFrom : Result Opened CheckFault → (old new : Numbers) → (N.Numbers → Option D.Opened) → Type 0
 OpensFrom result old new part = Opens result new (part (numbers_of old))
+
+-- ---- what single names and lists of them are declared as, of what the code read
+
+abbrev pub variables_declared : (depth : ℕ) → Primitive → List ℕ → List Name → N.Numbers → Option D.Opened
+variables_declared depth type sizes names = D.each_declared (D.variable_declared depth type sizes) names
+
+abbrev pub one_channel_declared : Carried → List ℕ → Name → N.Numbers → Option D.Opened
+one_channel_declared carried sizes x = D.channel_declared (carried_of carried) sizes x
+
+abbrev pub channels_declared : Carried → List ℕ → List Name → N.Numbers → Option D.Opened
+channels_declared carried sizes names = D.each_declared (D.channel_declared (carried_of carried) sizes) names
+
+-- a single value that is named: a constant, or what a cell of its own keeps
+abbrev pub single_named : Name → (depth : ℕ) → Primitive → TermExpr → N.Numbers → Option D.Opened
+single_named x depth type e = D.value_named x depth type (expression_of e) (constant (expression_of e))
+
+-- what cells of its own keep
+abbrev pub kept_in_cells : Name → (depth : ℕ) → Primitive → List ℕ → Item → N.Numbers → Option D.Opened
+kept_in_cells x depth type sizes value = D.local_of x depth type sizes (item_of value)
+
+-- ---- replicators
 
 abbrev pub indexed_of : Indexed → Numbers → D.Indexed
 indexed_of x n = record { replicator = replicator_of x.replicator; names = pair_of x.name ∷ []; numbers = numbers_of n }

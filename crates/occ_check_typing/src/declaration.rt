@@ -1,17 +1,15 @@
 //! Declarations: what their names stand for, and the Clears and Locals that are set for them.
 
-ghost use Rattle.std.specs.Prelude.{[], ◌++◌, ◌∷◌, ◌≡◌, IfOk, OnOk, Some, option_map};
-ghost use Rattle.occ_tree_grammar.specs.Lines.Views as lines;
+ghost use Rattle.std.specs.Prelude.{[], ◌++◌, ◌∷◌, ◌≡◌, IfOk, OnOk, Some};
 ghost use Rattle.occ_tree_grammar.specs.Processes.Views as processes;
-ghost use Rattle.occ_term.specs.View.{expression_of, item_of};
-ghost use Rattle.occ_check_meaning.specs.Constants.{constant};
 ghost use Rattle.occ_check_meaning.specs.Declarations as meant;
+ghost use Rattle.occ_check_meaning.specs.Declarations.{variable_declared};
 ghost use Rattle.occ_check_meaning.specs.Scope as scopes;
 ghost use Rattle.occ_check_meaning.specs.Types as types;
-ghost use Rattle.occ_check_names.specs.View.{Allows, Gives, Makes, carried_of, known_of, names_in, stretch_of, typed_of};
-ghost use Rattle.occ_check_names.specs.Reading.{all_of};
-ghost use Rattle.occ_check_typing.specs.Declaration.{NamesOnly, Opens, OpensFrom, pair_of};
-ghost use Rattle.occ_check_typing.specs.Typing.{given_type_in, names_declared_in, value_declared_in};
+ghost use Rattle.occ_check_names.specs.View.{Allows, Gives, Makes, known_of, stretch_of, typed_of};
+ghost use Rattle.occ_check_names.specs.Reading.{names_listed};
+ghost use Rattle.occ_check_typing.specs.Declaration.{NamesOnly, Opens, OpensFrom, pair_of, channels_declared, variables_declared, kept_in_cells, one_channel_declared, single_named};
+ghost use Rattle.occ_check_typing.specs.Typing.{given_type_in, declared_in, named_in, protocol_declared_in};
 
 use crate::expression::typed;
 use crate::types::{carried_by, open_sizes_of, protocol_of, sizes_of};
@@ -26,6 +24,7 @@ use occ_check_names::operators::{is_same_type, primitive_of};
 use occ_check_names::scope::Scope;
 use occ_check_names::typed::Typed;
 use occ_held::Held;
+use occ_held::letters::Letters;
 use occ_term::{Array, Declaration, Item, Primitive, Sizes, TermExpr};
 use occ_tree_grammar::tree::expr::Expr;
 use occ_tree_grammar::tree::line::{OneOrMore, Sort, ValueType};
@@ -37,7 +36,7 @@ use std::alloc::{AllocError, Global};
 #[derive(Drop)]
 pub struct Named {
     /// The name.
-    pub name: Items<u8>,
+    pub name: Letters,
     /// What it stands for.
     pub known: Known,
 }
@@ -53,10 +52,10 @@ pub struct Opened {
 
 impl Named {
     /// A copy of the name, with what it stands for.
-    pub fn new(alloc: Global, name: &[u8], known: Known) -> Result<Named, AllocError>
+    pub fn new(name: &Letters, known: Known) -> Result<Named, AllocError>
         ensures { Makes pair_of result (name.now, known_of known) }
     {
-        let name = Items::from_slice(alloc, name)?;
+        let name = name.copy()?;
         Ok(Named { name, known })
     }
 }
@@ -74,19 +73,19 @@ impl Opened {
     }
 
     /// One name, for which nothing is set.
-    fn one(alloc: Global, name: &[u8], known: Known) -> Result<Opened, AllocError>
+    fn one(alloc: Global, name: &Letters, known: Known) -> Result<Opened, AllocError>
         ensures names { IfOk result (NamesOnly name.now known) }
         ensures heads { IfOk result (λ x. x.heads ≡ []) }
     {
         let mut opened = Opened::new(alloc);
-        opened.names.push(Named::new(alloc, name, known)?)?;
+        opened.names.push(Named::new(name, known)?)?;
         Ok(opened)
     }
 
     /// One name, and what is set for it.
     fn one_with(
         alloc: Global,
-        name: &[u8],
+        name: &Letters,
         known: Known,
         head: Declaration,
     ) -> Result<Opened, AllocError>
@@ -102,7 +101,7 @@ impl Opened {
     /// One name behind what is set for it.
     pub fn one_behind(
         alloc: Global,
-        name: &[u8],
+        name: &Letters,
         known: Known,
         heads: Items<Declaration>,
     ) -> Result<Opened, AllocError>
@@ -142,13 +141,13 @@ pub fn stretch_from(alloc: Global, first: u32, sizes: &Sizes) -> Result<Stretch,
 // ---- names
 
 /// The names of a declaration, in order.
-fn names_of(alloc: Global, names: &OneOrMore<Vec<u8>>) -> Result<Items<Items<u8>>, AllocError>
-    ensures { IfOk result (λ xs. xs ≡ all_of (λ v. v.items) names.now) }
+fn names_of(alloc: Global, names: &OneOrMore<Letters>) -> Result<Items<Letters>, AllocError>
+    ensures { IfOk result (λ xs. xs ≡ names_listed names.now) }
 {
     let mut all = Items::new(alloc);
-    all.push(Items::from_slice(alloc, &names.first)?)?;
+    all.push(names.first.copy()?)?;
     for name in &names.others {
-        all.push(Items::from_slice(alloc, name)?)?;
+        all.push(name.copy()?)?;
     }
     Ok(all)
 }
@@ -158,14 +157,14 @@ fn names_of(alloc: Global, names: &OneOrMore<Vec<u8>>) -> Result<Items<Items<u8>
 /// # Errors
 ///
 /// `Twice` for the first name that stands before, and `Memory`.
-pub fn once(alloc: Global, line: u32, names: &[Items<u8>]) -> Result<(), CheckFault>
+pub fn once(alloc: Global, line: u32, names: &[Letters]) -> Result<(), CheckFault>
     ensures { Allows scopes.once result names.now }
 {
-    let mut seen: IndexSet<Vec<u8>> = IndexSet::new(alloc);
+    let mut seen: IndexSet<Letters> = IndexSet::new(alloc);
     for name in names {
-        let added = seen.insert(Vec::from_slice(alloc, name.as_slice())?)?;
+        let added = seen.insert(name.copy()?)?;
         if !added {
-            return Err(twice(alloc, line, name.as_slice()));
+            return Err(twice(alloc, line, name));
         }
     }
     Ok(())
@@ -185,10 +184,10 @@ pub fn names_declared(
     depth: u32,
     sizes: &[Expr],
     sort: &Sort,
-    names: &OneOrMore<Vec<u8>>,
+    names: &OneOrMore<Letters>,
 ) -> Result<Opened, CheckFault>
     ensures { Opens result numbers.new
-        (names_declared_in context.entry depth sizes.now sort.now names.now numbers.old) }
+        (declared_in context.entry depth sizes.now sort.now names.now numbers.old) }
 {
     match sort {
         Sort::Data(primitive) => {
@@ -225,14 +224,13 @@ fn variables_declared(
     depth: u32,
     primitive: Primitive,
     sizes: &Sizes,
-    names: &[Items<u8>],
+    names: &[Letters],
 ) -> Result<Opened, CheckFault>
     ensures { OpensFrom result numbers.old numbers.new
-        (meant.each_declared (meant.variable_declared depth primitive sizes.now) names.now) }
+        (variables_declared depth primitive sizes.now names.now) }
 {
     let mut opened = Opened::new(alloc);
     for name in names {
-        let name = name.as_slice();
         let one = variable_declared(numbers, alloc, line, depth, primitive, sizes, name)?;
         opened.append(one)?;
     }
@@ -244,14 +242,14 @@ fn channels_declared(
     alloc: Global,
     carried: &Carried,
     sizes: &Sizes,
-    names: &[Items<u8>],
+    names: &[Letters],
 ) -> Result<Opened, CheckFault>
-    ensures { OpensFrom result numbers.old numbers.new (meant.each_declared
-        (meant.channel_declared (carried_of carried.now) sizes.now) names.now) }
+    ensures { OpensFrom result numbers.old numbers.new
+        (channels_declared carried.now sizes.now names.now) }
 {
     let mut opened = Opened::new(alloc);
     for name in names {
-        let one = channel_declared(numbers, alloc, carried, sizes, name.as_slice())?;
+        let one = channel_declared(numbers, alloc, carried, sizes, name)?;
         opened.append(one)?;
     }
     Ok(opened)
@@ -264,10 +262,10 @@ fn variable_declared(
     depth: u32,
     primitive: Primitive,
     sizes: &Sizes,
-    name: &[u8],
+    name: &Letters,
 ) -> Result<Opened, CheckFault>
     ensures { OpensFrom result numbers.old numbers.new
-        (meant.variable_declared depth primitive sizes.now name.now) }
+        (variable_declared depth primitive sizes.now name.now) }
 {
     let first = numbers.more_cells(alloc, primitive, name, sizes.as_slice())?;
     numbers.node(depth)?;
@@ -282,10 +280,10 @@ fn channel_declared(
     alloc: Global,
     carried: &Carried,
     sizes: &Sizes,
-    name: &[u8],
+    name: &Letters,
 ) -> Result<Opened, CheckFault>
     ensures { OpensFrom result numbers.old numbers.new
-        (meant.channel_declared (carried_of carried.now) sizes.now name.now) }
+        (one_channel_declared carried.now sizes.now name.now) }
 {
     let first = numbers.more_channels(alloc, &carried.protocol, name, sizes.as_slice())?;
     let stretch = stretch_from(alloc, first, sizes)?;
@@ -305,7 +303,7 @@ pub fn name_value(
     alloc: Global,
     line: u32,
     depth: u32,
-    name: &[u8],
+    name: &Letters,
     value: Typed,
 ) -> Result<Opened, CheckFault>
     ensures { OpensFrom result numbers.old numbers.new
@@ -328,12 +326,11 @@ fn name_single(
     alloc: Global,
     line: u32,
     depth: u32,
-    name: &[u8],
+    name: &Letters,
     primitive: Primitive,
     e: TermExpr,
 ) -> Result<Opened, CheckFault>
-    ensures { OpensFrom result numbers.old numbers.new (meant.value_named
-        name.now depth primitive (expression_of e) (constant (expression_of e))) }
+    ensures { OpensFrom result numbers.old numbers.new (single_named name.now depth primitive e) }
 {
     match constant_of(&e) {
         Some(value) => Ok(Opened::one(alloc, name, Known::Value(primitive, value))?),
@@ -358,13 +355,13 @@ fn local_of(
     alloc: Global,
     line: u32,
     depth: u32,
-    name: &[u8],
+    name: &Letters,
     primitive: Primitive,
     sizes: Sizes,
     value: Item,
 ) -> Result<Opened, CheckFault>
     ensures { OpensFrom result numbers.old numbers.new
-        (meant.local_of name.now depth primitive sizes (item_of value)) }
+        (kept_in_cells name.now depth primitive sizes value) }
 {
     let first = numbers.more_cells(alloc, primitive, name, sizes.as_slice())?;
     let naming = Held::new(Declaration::Naming(line, first, value));
@@ -384,11 +381,11 @@ pub fn value_declared(
     context: Context<'_, '_>,
     depth: u32,
     value_type: &Option<ValueType>,
-    name: &[u8],
+    name: &Letters,
     e: &Expr,
 ) -> Result<Opened, CheckFault>
     ensures { Opens result numbers.new
-        (value_declared_in context.entry depth value_type.now name.now e.now numbers.old) }
+        (named_in context.entry depth value_type.now name.now e.now numbers.old) }
 {
     let value = typed(context, e)?;
     let value = of_value_type(context, value_type, value)?;
@@ -400,8 +397,7 @@ fn of_value_type(
     value_type: &Option<ValueType>,
     value: Typed,
 ) -> Result<Typed, CheckFault>
-    ensures { Gives typed_of result
-        (given_type_in context.entry (option_map lines.value_type_of value_type.now) value) }
+    ensures { Gives typed_of result (given_type_in context.entry value_type.now value) }
 {
     match value_type {
         None => Ok(value),
@@ -414,8 +410,7 @@ fn of_given_type(
     wanted: &ValueType,
     value: Typed,
 ) -> Result<Typed, CheckFault>
-    ensures { Gives typed_of result
-        (given_type_in context.entry (Some (lines.value_type_of wanted.now)) value) }
+    ensures { Gives typed_of result (given_type_in context.entry (Some wanted.now) value) }
 {
     let value = Held::new(value);
     let sizes = open_sizes_of(context, &wanted.sizes)?;
@@ -474,7 +469,7 @@ pub fn protocol_declared(
     protocol: &ProtocolTree,
 ) -> Result<Opened, CheckFault>
     ensures { OpensFrom result numbers.old numbers.new
-        (meant.protocol_declared (names_in scope.entry) (processes.protocol_of protocol.now)) }
+        (protocol_declared_in scope.entry protocol.now) }
 {
     let carried = protocol_of(alloc, scope, protocol)?;
     let number = numbers.more_protocols(protocol_line(protocol))?;
@@ -492,7 +487,7 @@ fn protocol_line(protocol: &ProtocolTree) -> u32 {
     }
 }
 
-fn protocol_name(protocol: &ProtocolTree) -> &[u8]
+fn protocol_name(protocol: &ProtocolTree) -> &Letters
     ensures { result.now ≡ types.protocol_name (processes.protocol_of protocol.now) }
 {
     match protocol {

@@ -1,7 +1,6 @@
 //! Expressions under a scope: their types, and what they unfold to.
 
-ghost use Rattle.std.specs.Prelude.{◌∷◌, [], IfOk, IsTrue, None, map, pos};
-ghost use Rattle.occ_tree_grammar.specs.Expressions.Trees as trees;
+ghost use Rattle.std.specs.Prelude.{◌∷◌, [], IfOk, IsTrue, map, pos};
 ghost use Rattle.occ_tree_grammar.specs.Expressions.Trees.{alone, one, operand_of, expression_of as tree_of};
 ghost use Rattle.occ_term.specs.Messages.{is_of};
 ghost use Rattle.occ_term.specs.Terms.{Conversion};
@@ -11,7 +10,7 @@ ghost use Rattle.occ_check_meaning.specs.Expressions as meant;
 ghost use Rattle.occ_check_meaning.specs.Scope.{keep};
 ghost use Rattle.occ_check_names.specs.View.{Answers, Gives, Makes, known_of, names_in, one_value, subscripts_of, typed_of};
 ghost use Rattle.occ_check_names.specs.Reading.{name_under, read_in};
-ghost use Rattle.occ_check_typing.specs.Typing.{chain_in, constant_in, operand_in, size_in, subscripts_in, typed_as_in, typed_in};
+ghost use Rattle.occ_check_typing.specs.Typing.{chain_in, constant_in, operand_in, size_in, subscripts_in, typed_as_in, typed_in, literal_size};
 
 pub use crate::reading::under;
 use crate::reading::{read, size_of_known};
@@ -25,6 +24,7 @@ use occ_check_names::operators::{
 };
 use occ_check_names::scope::Found;
 use occ_check_names::typed::Typed;
+use occ_held::letters::Letters;
 use occ_held::parts::{Listed, Nested};
 use occ_term::operator::is_of;
 use occ_term::{Monadic, Operator, Primitive, TermExpr};
@@ -178,7 +178,7 @@ fn typed_operand(context: Context<'_, '_>, a: &Operand) -> Result<Typed, CheckFa
 #[tactic(auto, unfolding(occ_check_meaning::specs::Expressions::typed_operand))]
 fn typed_variable(
     context: Context<'_, '_>,
-    name: &[u8],
+    name: &Letters,
     subscripts: &[Expr],
 ) -> Result<Typed, CheckFault>
     ensures { Gives typed_of result
@@ -232,7 +232,7 @@ fn size_of_operand(context: Context<'_, '_>, a: &Operand) -> Result<u64, CheckFa
 #[tactic(auto, unfolding(occ_check_meaning::specs::Expressions::size_of_operand))]
 fn size_of_variable(
     context: Context<'_, '_>,
-    name: &[u8],
+    name: &Letters,
     subscripts: &[Expr],
 ) -> Result<u64, CheckFault>
     ensures { Answers result (size_in context.entry (name_under name.now subscripts.now)) }
@@ -318,7 +318,7 @@ fn within_type(line: u32, primitive: Primitive, value: i64) -> Result<i64, Check
 ///
 /// `Unknown` where it stands for nothing, `WrongKind` where it is a procedure's, and `Memory`.
 #[tactic(auto, using(crate::proofs::Refusals::refused))]
-pub fn known_name<'a>(context: Context<'a, '_>, name: &[u8]) -> Result<&'a Known, CheckFault>
+pub fn known_name<'a>(context: Context<'a, '_>, name: &Letters) -> Result<&'a Known, CheckFault>
     ensures { Gives (λ k. known_of k.now) result (names_in context.entry.scope name.now) }
 {
     match context.scope.known(name) {
@@ -328,7 +328,7 @@ pub fn known_name<'a>(context: Context<'a, '_>, name: &[u8]) -> Result<&'a Known
 }
 
 /// The fault of a name that stands for no value.
-fn no_value(context: Context<'_, '_>, name: &[u8]) -> CheckFault {
+fn no_value(context: Context<'_, '_>, name: &Letters) -> CheckFault {
     match context.scope.find(name) {
         Some(Found::Procedure(_, _)) => CheckFault::WrongKind { line: context.line },
         _ => unknown(context.alloc, context.line, name),
@@ -446,12 +446,11 @@ fn size_typed(line: u32, size: u64) -> Result<Typed, CheckFault>
 /// The SIZE of a literal without a type, which must be a string.
 #[tactic(auto, unfolding(occ_check_meaning::specs::Expressions::size_of_operand))]
 fn size_of_literal(line: u32, literal: &Literal) -> Result<u64, CheckFault>
-    ensures { Answers result
-        (meant.size_of_operand (λ x. None) line (trees.literal (trees.lit_of literal.now) None)) }
+    ensures { Answers result (literal_size line literal.now) }
 {
     match literal {
         Literal::Number(_) => Err(CheckFault::WrongType { line }),
         Literal::Byte(_) => Err(CheckFault::WrongType { line }),
-        Literal::Text(bytes) => Ok(u64::from(string_size(line, bytes)?)),
+        Literal::Text(bytes) => Ok(u64::from(string_size(line, bytes.as_slice())?)),
     }
 }

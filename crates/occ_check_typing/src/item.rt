@@ -4,16 +4,14 @@ ghost use Rattle.std.specs.Prelude.{◌≡◌, ◌∷◌, [], IfOk, map, nat_lt}
 ghost use Rattle.occ_tree_grammar.specs.Lines.Trees.{from};
 ghost use Rattle.occ_tree_grammar.specs.Expressions.Trees.{alone, operand_of, expression_of as tree_of};
 ghost use Rattle.occ_tree_grammar.specs.Lines.Views.{out_of};
-ghost use Rattle.occ_term.specs.declared.primitive.Primitive.TheVariants.{Int};
-ghost use Rattle.occ_term.specs.declared.protocol.PartType.TheVariants.{One as OneOf, Many as ManyOf, Counted as CountedOf};
-ghost use Rattle.occ_term.specs.View.{expression_of, item_of, items_of, place_of};
+ghost use Rattle.occ_term.specs.declared.protocol.PartType.TheVariants.{One as OneOf, Many as ManyOf};
+ghost use Rattle.occ_term.specs.View.{item_of, items_of, place_of};
 ghost use Rattle.occ_term.specs.Messages.{parts_after};
-ghost use Rattle.occ_check_meaning.specs.Expressions.{single};
 ghost use Rattle.occ_check_meaning.specs.Items as meant;
 ghost use Rattle.occ_check_meaning.specs.Scope.{keep};
 ghost use Rattle.occ_check_names.specs.View.{Answers, Gives, Lends, channels_known, known_of, typed_of, variable_known, variable_part};
 ghost use Rattle.occ_check_names.specs.Reading.{all_of, name_under, read_in};
-ghost use Rattle.occ_check_typing.specs.Typing.{channel_in, sent_in, sent_items_in, variable_in};
+ghost use Rattle.occ_check_typing.specs.Typing.{channel_in, sent_in, sent_items_in, variable_in, counted_of};
 
 use crate::expression::{known_name, typed, typed_subscripts};
 use crate::reading::under;
@@ -25,6 +23,7 @@ use occ_check_names::operators::is_same_type;
 use occ_check_names::scope::Scope;
 use occ_check_names::typed::{Part, Typed};
 use occ_held::Held;
+use occ_held::letters::Letters;
 use occ_term::{Item, PartType, Place, Primitive, Protocol, Tag, TermExpr, copy_parts};
 use occ_tree_grammar::tree::expr::{Expr, Operand};
 use occ_tree_grammar::tree::line::{OneOrMore, Out, Var};
@@ -185,8 +184,7 @@ fn counted_array(
     number: TermExpr,
     value: Typed,
 ) -> Result<Item, CheckFault>
-    ensures { Gives item_of result (meant.counted_item
-        line (CountedOf Int of) (single Int (expression_of number)) (typed_of value)) }
+    ensures { Gives item_of result (counted_of line of number value) }
 {
     match value {
         Typed::Single(_, _) => Err(CheckFault::Protocol { line }),
@@ -278,11 +276,11 @@ fn sent_list(
 /// # Errors
 ///
 /// `Protocol` where the protocol has no tags, `Tag` where it has not this one, or has it behind 2 to the 32 others.
-pub fn tag_in(line: u32, protocol: &Protocol, name: &[u8]) -> Result<u32, CheckFault>
+pub fn tag_in(line: u32, protocol: &Protocol, name: &Letters) -> Result<u32, CheckFault>
     ensures { Answers result (meant.tag_in protocol.now name.now) }
 {
     match protocol {
-        Protocol::Variant(tags) => match tag_number(tags.as_slice(), name) {
+        Protocol::Variant(tags) => match tag_number(tags.as_slice(), name.as_slice()) {
             Some(number) => word_of(line, number),
             None => Err(CheckFault::Tag { line }),
         },
@@ -368,7 +366,7 @@ fn only_part(alloc: Global, part: PartType) -> Result<Items<PartType>, AllocErro
 }
 
 /// The name of a tag, which an output on a channel with tags begins with.
-fn as_name(line: u32, out: &Out) -> Result<&[u8], CheckFault>
+fn as_name(line: u32, out: &Out) -> Result<&Letters, CheckFault>
     ensures { Lends result (meant.as_name (out_of out.now)) }
 {
     match out {
@@ -378,7 +376,7 @@ fn as_name(line: u32, out: &Out) -> Result<&[u8], CheckFault>
 }
 
 /// A name that is an expression of its own.
-fn name_alone(line: u32, e: &Expr) -> Result<&[u8], CheckFault>
+fn name_alone(line: u32, e: &Expr) -> Result<&Letters, CheckFault>
     ensures { Lends result (meant.as_name (from (tree_of e.now))) }
 {
     match e {
@@ -392,7 +390,7 @@ fn name_alone(line: u32, e: &Expr) -> Result<&[u8], CheckFault>
     }
 }
 
-fn name_of_operand(line: u32, a: &Operand) -> Result<&[u8], CheckFault>
+fn name_of_operand(line: u32, a: &Operand) -> Result<&Letters, CheckFault>
     ensures { Lends result (meant.as_name (from (alone (operand_of a.now)))) }
 {
     match a {
@@ -404,7 +402,11 @@ fn name_of_operand(line: u32, a: &Operand) -> Result<&[u8], CheckFault>
 }
 
 /// A name without subscripts.
-fn name_without<'a>(line: u32, name: &'a [u8], subscripts: &[Expr]) -> Result<&'a [u8], CheckFault>
+fn name_without<'a>(
+    line: u32,
+    name: &'a Letters,
+    subscripts: &[Expr],
+) -> Result<&'a Letters, CheckFault>
     ensures { Lends result
         (meant.as_name (from (alone (name_under name.now subscripts.now)))) }
 {

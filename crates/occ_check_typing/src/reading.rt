@@ -2,12 +2,11 @@
 
 ghost use Rattle.std.specs.Prelude.{◌≡◌, ◌∷◌, [], IfOk, map, pos};
 ghost use Rattle.occ_term.specs.ArraySizes.{AreFew};
-ghost use Rattle.occ_term.specs.Terms.{no_subscripts, then_subscript};
 ghost use Rattle.occ_term.specs.View.{expression_of, subscripts};
-ghost use Rattle.occ_term.specs.declared.primitive.Primitive.TheVariants.{Int};
 ghost use Rattle.occ_check_meaning.specs.Expressions as meant;
-ghost use Rattle.occ_check_meaning.specs.Scope.{a_string, a_value, kept, some_cells};
+ghost use Rattle.occ_check_meaning.specs.Scope.{a_string, a_value};
 ghost use Rattle.occ_check_names.specs.View.{Answers, Gives, Lends, Makes, known_of, part_of, stretch_of, subscripts_of, typed_of};
+ghost use Rattle.occ_check_typing.specs.Typing.{joined_under, letter_of, stretch_size};
 
 use occ_check_names::constant::is_within_size;
 use occ_check_names::fault::CheckFault;
@@ -100,8 +99,7 @@ fn joined(
     stretch: &Stretch,
     under_these: Listed<TermExpr>,
 ) -> Result<Listed<TermExpr>, AllocError>
-    ensures { Makes subscripts_of result
-        (meant.joined ((stretch_of stretch.now).subscripts) (subscripts_of under_these)) }
+    ensures { Makes subscripts_of result (joined_under stretch.now under_these) }
 {
     let mut all = evaluated_subscripts(alloc, stretch.subscripts.as_slice())?;
     all.append(under_these)?;
@@ -153,8 +151,7 @@ fn read_string(
 
 /// A component of a string.
 fn letter(alloc: Global, line: u32, text: &Text, subscript: TermExpr) -> Result<Typed, CheckFault>
-    ensures { Gives typed_of result (meant.read line
-        (a_string (map pos text.now)) (then_subscript (expression_of subscript) no_subscripts)) }
+    ensures { Gives typed_of result (letter_of line text.now subscript) }
 {
     if !is_within_size(&subscript, u64::from(text.len())) {
         return Err(CheckFault::Subscript { line });
@@ -236,8 +233,7 @@ fn size_of_stretch(
     stretch: &Stretch,
     under_these: &[TermExpr],
 ) -> Result<u64, CheckFault>
-    ensures { Answers result (meant.size_of_known
-        (some_cells kept Int (stretch_of stretch.now)) (subscripts_of under_these.now)) }
+    ensures { Answers result (stretch_size stretch.now under_these.now) }
 {
     stretch.left.few();
     let left = left_by(line, under_these, stretch.left.as_slice())?;

@@ -50,7 +50,7 @@ pub fn index_replicator(
     count_replicator(numbers, depth, &over)?;
     let stretch = stretch_from(context.alloc, index, &Sizes::none(context.alloc))?;
     let known = Known::Cells(Access::Kept, Primitive::Int, stretch);
-    let name = Named::new(context.alloc, &replicator.name, known)?;
+    let name = Named::new(&replicator.name, known)?;
     Ok(Indexed {
         replicator: over,
         name,

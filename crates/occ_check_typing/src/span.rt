@@ -1,14 +1,13 @@
 //! Cells one after another, and those of an array that constant subscripts name.
 
-ghost use Rattle.std.specs.Prelude.{◌≡◌, ◌<◌, ◌+◌, ◌*◌, ◌^◌, IfSome, map};
+ghost use Rattle.std.specs.Prelude.{◌≡◌, ◌<◌, ◌+◌, ◌*◌, ◌^◌, IfSome};
 ghost use Rattle.occ_term.specs.ArraySizes.{AreFew};
 ghost use Rattle.occ_term.specs.Messages.{product};
 ghost use Rattle.occ_term.specs.Terms.{Constant, Expression};
-ghost use Rattle.occ_term.specs.Uses.{constant_subscript, part_named};
-ghost use Rattle.occ_term.specs.Values as values;
-ghost use Rattle.occ_term.specs.View.{expression_of, subscripts};
+ghost use Rattle.occ_term.specs.Uses.{constant_subscript};
+ghost use Rattle.occ_term.specs.View.{expression_of};
 ghost use Rattle.occ_check_names.specs.View.{evaluated_of};
-ghost use Rattle.occ_check_typing.specs.Spans.{span_of};
+ghost use Rattle.occ_check_typing.specs.Spans.{span_of, all_cells, cells_under};
 
 use occ_check_names::constant::constant_of;
 use occ_check_names::known::Evaluated;
@@ -71,7 +70,7 @@ fn index_within(value: i64, size: u32) -> Option<u32>
 
 /// The cells of the whole array.
 pub fn whole_of(first: u32, sizes: &Sizes) -> Span
-    ensures span { span_of result ≡ values.span first (product sizes.now) }
+    ensures span { span_of result ≡ all_cells first sizes.now }
     ensures few { result.first + result.count < 2 ^ 33 }
 {
     sizes.few();
@@ -83,8 +82,7 @@ pub fn whole_of(first: u32, sizes: &Sizes) -> Span
 /// The cells of the array that constant subscripts name. A subscript that is no constant counts the whole array.
 pub fn part_of<S: Subscript>(first: u32, sizes: &Sizes, under: &[S]) -> Span
     ensures span { span_of result
-        ≡ part_named (subscripts (map S.expression under.now)) first sizes.now
-        (values.span first (product sizes.now)) }
+        ≡ cells_under S.expression under.now first sizes.now (all_cells first sizes.now) }
     ensures few { result.first + result.count < 2 ^ 33 }
 {
     let whole = whole_of(first, sizes);
@@ -98,7 +96,7 @@ fn part_named<S: Subscript>(under: &[S], first: u64, sizes: &[u32], whole: Span)
     requires last { first + product sizes.now < 2 ^ 33 }
     requires whole { whole.first + whole.count < 2 ^ 33 }
     ensures span { span_of result
-        ≡ part_named (subscripts (map S.expression under.now)) first sizes.now (span_of whole) }
+        ≡ cells_under S.expression under.now first sizes.now (span_of whole) }
     ensures few { result.first + result.count < 2 ^ 33 }
 {
     let Some((subscript, rest)) = under.split_first() else {

@@ -1,8 +1,6 @@
 //! Sizes, parts of messages, and protocols.
 
 ghost use Rattle.std.specs.Prelude.{◌≡◌, IfOk, IsTrue, Some, map, min, option_map, true};
-ghost use Rattle.occ_tree_grammar.specs.Expressions.Trees as trees;
-ghost use Rattle.occ_tree_grammar.specs.Lines.Trees.{given};
 ghost use Rattle.occ_tree_grammar.specs.Lines.Views as lines;
 ghost use Rattle.occ_tree_grammar.specs.Processes.Views as processes;
 ghost use Rattle.occ_term.specs.Messages.{is_of, simple_part};
@@ -14,7 +12,7 @@ ghost use Rattle.occ_check_meaning.specs.Types as meant;
 ghost use Rattle.occ_check_names.specs.View.{Allows, Answers, Gives, carried_of, known_of, names_in};
 ghost use Rattle.occ_check_names.specs.Reading.{all_of, read_in, trees_of};
 ghost use Rattle.occ_check_typing.specs.Positive.{ArePositive};
-ghost use Rattle.occ_check_typing.specs.Typing.{carried_in, each_part_in, names_of_tags, open_sizes_in, protocol_in, sizes_in};
+ghost use Rattle.occ_check_typing.specs.Typing.{carried_in, each_part_in, names_of_tags, open_sizes_in, protocol_in, sizes_in, given_size_in};
 
 use crate::declaration::once as names_once;
 use crate::expression::{constant_as, known_name};
@@ -24,6 +22,7 @@ use occ_check_names::known::{Carried, Known};
 use occ_check_names::numbers::components;
 use occ_check_names::operators::{is_number, primitive_of};
 use occ_check_names::scope::Scope;
+use occ_held::letters::Letters;
 use occ_term::{MOST_CELLS, PartType, PartTypes, Primitive, Protocol, Tag, TagTypes};
 use occ_tree_grammar::tree::expr::Expr;
 use occ_tree_grammar::tree::line::{Carried as CarriedTree, OneOrMore, Part, Size};
@@ -63,8 +62,7 @@ fn each_size(context: Context<'_, '_>, sizes: &[Expr]) -> Result<Items<u32>, Che
 
 /// A size that is given.
 fn given_size(context: Context<'_, '_>, size: &Expr) -> Result<u32, CheckFault>
-    ensures { Gives (λ n. Some n) result
-        (read_in context.entry meant.open_size (given (trees.expression_of size.now))) }
+    ensures { Gives (λ n. Some n) result (given_size_in context.entry size.now) }
 {
     let value = constant_as(context, Primitive::Int, size)?;
     a_size(context.line, value)
@@ -367,7 +365,7 @@ fn tag_of(alloc: Global, scope: Scope<'_, '_>, tag: &TagTree) -> Result<Tag, Che
         },
         &tag.parts,
     )?;
-    let name = Items::from_slice(alloc, &tag.name)?;
+    let name = tag.name.copy()?;
     Ok(Tag { name, parts })
 }
 
@@ -403,12 +401,12 @@ fn tags_once(alloc: Global, tags: &[TagTree]) -> Result<(), CheckFault>
 }
 
 /// The names of tags, in order.
-fn names_of_tags(alloc: Global, tags: &[TagTree]) -> Result<Items<Items<u8>>, AllocError>
+fn names_of_tags(alloc: Global, tags: &[TagTree]) -> Result<Items<Letters>, AllocError>
     ensures { IfOk result (λ ns. ns ≡ names_of_tags tags.now) }
 {
     let mut names = Items::new(alloc);
     for tag in tags {
-        names.push(Items::from_slice(alloc, &tag.name)?)?;
+        names.push(tag.name.copy()?)?;
     }
     Ok(names)
 }

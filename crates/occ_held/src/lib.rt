@@ -4,6 +4,7 @@
 //! for each of the enum's variants. A value that is held is let go by one call at each place.
 #![tactic(auto)]
 
+pub mod letters;
 pub mod parts;
 
 ghost use Rattle.std.specs.Prelude.{◌≡◌};

@@ -1,6 +1,6 @@
 -- What is known of where processes stand in the source.
 -- Manual: nothing; this is (own).
-use Rattle.std.specs.Prelude.{Bool, IsTrue, List, None, Option, Some, [], bytes_eq, false, if◌then◌else◌, length, map, nat_eq, slice_get, true, ℕ, ◌&&◌, ◌+◌, ◌-◌, ◌∷◌, ◌≡◌, ◌⊎◌}
+use Rattle.std.specs.Prelude.{Bool, IsTrue, List, None, Option, Some, [], bytes_eq, false, if◌then◌else◌, length, map, nat_eq, slice_get, true, ℕ, Vec, ◌&&◌, ◌+◌, ◌++◌, ◌-◌, ◌∷◌, ◌≡◌, ◌⊎◌}
 use Rattle.std.specs.List.{All, list_any}
 use Rattle.occ_machine.specs.Compiled.{Program}
 use Rattle.occ_machine.specs.Machine.{Body}
@@ -65,6 +65,15 @@ pub record IsStopIn (code : List (Instr ℕ)) (lines : List LogicalLine) (s : St
   pub next : next_place s.kind instruction s.place ≡ Some s.next
   pub line : IsLineOf lines s.kind s.line
 
+-- The code has each of these stops, and the text their lines.
+abbrev pub HasStops : List (Instr ℕ) → List LogicalLine → List Stop → Type 0
+HasStops code lines stops = All (IsStopIn code lines) stops
+
+-- Where a code has this instruction at this place, it has the stops that are there now, if it has those that were there.
+abbrev pub KeepsStops : {A : Type 0} → Instr ℕ → (place : ℕ) → List LogicalLine → (old new : Vec Stop A) → Type 0
+KeepsStops i place lines old new =
+    (code : List (Instr ℕ)) → slice_get code place ≡ Some i → HasStops code lines old.items → HasStops code lines new.items
+
 -- whether a line of these words begins a PROC of this name
 abbrev pub begins_proc : List ℕ → List Word → Bool
 begins_proc proc (key words.Proc ∷ name own ∷ others) = bytes_eq own proc
@@ -100,9 +109,13 @@ stop_places p (i ∷ others) = if is_stop i then p ∷ stop_places (p + 1) other
 abbrev pub place_of : Stop → ℕ
 place_of s = s.place
 
+-- There is one more, at this place, where a process stops at the instruction.
+abbrev pub AddsStop : {A : Type 0} → Instr ℕ → (place : ℕ) → (old new : Vec Stop A) → Type 0
+AddsStop i place old new = map place_of new.items ≡ map place_of old.items ++ (if is_stop i then place ∷ [] else [])
+
 -- Each is a stop of the code, and they are none of its stops or all of them.
 abbrev pub AreStopsOf : List (Instr ℕ) → List LogicalLine → List Stop → Type 0
-AreStopsOf code lines stops = All (IsStopIn code lines) stops × ((stops ≡ []) ⊎ (map place_of stops ≡ stop_places 0 code))
+AreStopsOf code lines stops = HasStops code lines stops × ((stops ≡ []) ⊎ (map place_of stops ≡ stop_places 0 code))
 
 abbrev pub AreStopsIn : List Body → List LogicalLine → ℕ → List Stop → Type 0
 AreStopsIn bodies lines n stops = (b : Body) → slice_get bodies n ≡ Some b → AreStopsOf b.code lines stops

@@ -1,8 +1,7 @@
 //! The stops of a body's code, held against those that the tree has.
-ghost use Rattle.std.specs.Prelude.{◌≡◌, ◌++◌, ◌∷◌, [], ℕ, IfOk, IfSome, IsTrue, List, OnOk, Some, if◌then◌else◌, map, slice_get};
-ghost use Rattle.std.specs.List.{All};
+ghost use Rattle.std.specs.Prelude.{◌≡◌, IfOk, IfSome, IsTrue, OnOk, Some, map};
 ghost use Rattle.occ_text.specs.Words.{logical_lines};
-ghost use Rattle.occ_places.specs.Places.{IsLineOf, IsStopIn, is_stop, next_place, place_of, stop_places};
+ghost use Rattle.occ_places.specs.Places.{AddsStop, HasStops, IsLineOf, KeepsStops, next_place, place_of, stop_places};
 
 use crate::stop::{Stop, is_stop, next_place};
 use crate::text_lines::has_line;
@@ -44,12 +43,9 @@ fn add_stop(
     lines: &[Line],
 ) -> Result<bool, AllocError>
     ensures stops { OnOk result
-        ((code : List (Instr ℕ)) → slice_get code place ≡ Some instruction.now
-        → All (IsStopIn code (logical_lines lines.now)) stops.old.items
-        → All (IsStopIn code (logical_lines lines.now)) stops.new.items) }
+        (KeepsStops instruction.now place (logical_lines lines.now) stops.old stops.new) }
     ensures places { IfOk result
-        (λ agrees. IsTrue agrees → map place_of stops.new.items
-        ≡ map place_of stops.old.items ++ (if is_stop instruction.now then place ∷ [] else [])) }
+        (λ agrees. IsTrue agrees → AddsStop instruction.now place stops.old stops.new) }
 {
     if !is_stop(instruction) {
         return Ok(true);
@@ -74,8 +70,7 @@ pub(crate) fn stops_in(
     lines: &[Line],
 ) -> Result<Option<Vec<Stop>>, AllocError>
     ensures stops { IfOk result
-        (λ found. IfSome found
-        (λ stops. All (IsStopIn code.now (logical_lines lines.now)) stops.items)) }
+        (λ found. IfSome found (λ v. HasStops code.now (logical_lines lines.now) v.items)) }
     ensures places { IfOk result
         (λ found. IfSome found (λ stops. map place_of stops.items ≡ stop_places 0 code.now)) }
 {

@@ -65,8 +65,11 @@ fn main_of<'t>(walk: &mut Walk<'t>, items: &'t [Item]) -> Result<Option<Start<'t
         if let Item::Proc(_, name, _, process, _) = item {
             main = Some(Start {
                 process,
-                around: Around { scope, name },
-                name,
+                around: Around {
+                    scope,
+                    name: name.as_slice(),
+                },
+                name: name.as_slice(),
             });
         }
         scope = walk.declared(item, scope)?;

@@ -202,7 +202,11 @@ impl<'t> Walk<'t> {
     /// The scope behind an item.
     pub fn declared(&mut self, item: &'t Item, scope: usize) -> Result<usize, AllocError> {
         match item {
-            Item::Proc(_, name, _, body, _) => self.declared_procedure(name, body, scope),
+            Item::Proc(_, name, _, body, _) => self.declared_procedure(
+                name.as_slice(),
+                body,
+                scope,
+            ),
             Item::Value(_, _, _, _) => Ok(scope),
             Item::Protocol(_) => Ok(scope),
         }
@@ -325,7 +329,7 @@ impl<'t> Walk<'t> {
             Action::Assign(_, _) => Ok(()),
             Action::Input(input) => self.input(line, input, around),
             Action::Output(_, _) => self.mark(line, Kind::Output, Branches::None, around),
-            Action::Call(name, _) => self.call(name, around),
+            Action::Call(name, _) => self.call(name.as_slice(), around),
         }
     }
 

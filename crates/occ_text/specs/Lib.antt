@@ -3,3 +3,4 @@ pub mod Lines
 pub mod Reading
 pub mod Spelling
 pub mod Words
+pub mod Sources

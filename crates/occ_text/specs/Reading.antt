@@ -1,7 +1,7 @@
 -- Reading from left to right, as functions on lists that private clauses cite. Each answers what stands at the front,
 -- and what follows it; the laws in proofs/ join them to the relations of Spelling and Lines.
 -- Manual: nothing; this is (own).
-use Rattle.std.specs.Prelude.{◌≡◌, ℕ, zero, suc, ◌+◌, ◌-◌, ◌*◌, ◌/◌, ◌%◌, Bool, ◌&&◌, ◌==◌, nat_le, nat_lt, bytes_eq, if◌then◌else◌, List, [], ◌∷◌, ◌++◌, length, map, drop, Option, Some, None, Result, Ok, Err, option_map, pos}
+use Rattle.std.specs.Prelude.{◌≡◌, ℕ, zero, suc, ◌+◌, ◌-◌, ◌*◌, ◌/◌, ◌%◌, Bool, ◌&&◌, ◌==◌, nat_le, nat_lt, bytes_eq, if◌then◌else◌, List, Vec, [], ◌∷◌, ◌++◌, length, map, drop, Option, Some, None, Result, Ok, Err, option_map, pos}
 use Rattle.std.specs.Char.{is_ascii_alphabetic, is_ascii_digit, is_ascii_hexdigit}
 use Rattle.std.specs.Int.{w32, cast_signed}
 use Rattle.std.specs.List.{enumerate_from, prefix_len, take_while}
@@ -16,7 +16,7 @@ use Rattle.occ_text.specs.declared.token.Key.{Key}
 use Rattle.occ_text.specs.declared.token.Line.{Line}
 use Rattle.occ_text.specs.declared.token.Sym.{Sym}
 use Rattle.occ_text.specs.declared.token.Sym.TheVariants as s
-use Rattle.occ_text.specs.Words.{Word, key, name, lit, mark, number, byte, text, LogicalLine, logical_line, logical_line_of}
+use Rattle.occ_text.specs.Words.{Word, key, name, lit, mark, number, byte, text, LogicalLine, logical_line, logical_line_of, logical_lines}
 use Rattle.occ_text.specs.Spelling.{is_name_part, is_plain, digit_of, value, escape_of}
 use Rattle.occ_text.specs.Lines.{Physical, begins_comment, goes_on, indent}
 
@@ -223,3 +223,11 @@ logical_lines_from pending (p ∷ more) = words_from 0 p.1 >>= λ ws. joined_wit
 
 unfoldable pub lines_at : List ℕ → Option (List LogicalLine)
 lines_at bytes = if nat_le (length bytes) 1048576 then logical_lines_from None (enumerate_from 1 (lines bytes)) else None
+
+-- a line that is finished was put behind the others
+abbrev pub AddsFinished : {A B : Type 0} → Vec Line A → Option Line → Vec Line B → Type 0
+AddsFinished old pending new = logical_lines new.items ≡ logical_lines old.items ++ finished (pending_line pending)
+
+-- the logical lines of a text, whether it is too long or not
+abbrev pub all_lines : List ℕ → Option (List LogicalLine)
+all_lines bytes = logical_lines_from None (enumerate_from 1 (lines bytes))

@@ -27,10 +27,10 @@ pub data LogicalLine : Type 0 where
 -- the word that a token stands for
 abbrev pub word : Token → Word
 word (tokens.Key k) = key k
-word (tokens.Name v) = name v.items
+word (tokens.Name v) = name v
 word (tokens.Number n) = lit (number n)
 word (tokens.Byte b) = lit (byte b)
-word (tokens.Str v) = lit (text v.items)
+word (tokens.Str v) = lit (text v)
 word (tokens.Sym s) = mark s
 
 abbrev pub words : List Token → List Word

@@ -9,6 +9,7 @@ ghost use Rattle.occ_text.specs.Reading.{byte_at, char_at, chars_from, code_at, 
 use crate::class::digit;
 use crate::fault::TextFault;
 use crate::token::Token;
+use occ_held::letters::Letters;
 use std::alloc::Global;
 
 /// The byte that an escape of one byte stands for.
@@ -116,5 +117,6 @@ pub fn string(alloc: Global, line: u32, bytes: &[u8]) -> Result<(Token, &[u8]), 
     ensures line { IfErr result (Names line) }
 {
     let (text, rest) = characters(alloc, line, bytes)?;
+    let text = Letters::from_vec(alloc, text)?;
     Ok((Token::Str(text), rest))
 }

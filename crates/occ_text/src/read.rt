@@ -1,13 +1,13 @@
 //! The logical lines of a text.
 
-ghost use Rattle.std.specs.Prelude.{◌≡◌, ◌<◌, ◌≤◌, ◌==◌, ℕ, IfErr, IfOk, OnOk, List, ◌∷◌, ◌++◌, length, position};
-ghost use Rattle.std.specs.List.{enumerate_from};
+ghost use Rattle.std.specs.Prelude.{◌≡◌, ◌<◌, ◌≤◌, ◌==◌, ℕ, IfErr, IfOk, OnOk, ◌∷◌, length, position};
 ghost use Rattle.std.specs.Str.Lines.{lines, strip_carriage_return};
 ghost use Rattle.occ_text.specs.declared.fault.TextFault.TheVariants.{Memory};
 ghost use Rattle.occ_text.specs.Faults.{BeginsUpTo, Names, NamesLineOf};
-ghost use Rattle.occ_text.specs.Words.{LogicalLine, logical_lines, word, words};
-ghost use Rattle.occ_text.specs.Lines.{LinesOf, UnlessMemory, leads_on, goes_on};
-ghost use Rattle.occ_text.specs.Reading.{Gives, finished, joined_with, lines_at, logical_lines_from, unfinished, pending_line};
+ghost use Rattle.occ_text.specs.Words.{logical_lines, word, words};
+ghost use Rattle.occ_text.specs.Lines.{LinesOf, leads_on, goes_on};
+ghost use Rattle.occ_text.specs.Sources.{HasOnlyLinesOf};
+ghost use Rattle.occ_text.specs.Reading.{Gives, finished, joined_with, lines_at, unfinished, pending_line, AddsFinished, all_lines};
 
 use crate::class::{Class, run_len};
 use crate::fault::TextFault;
@@ -144,8 +144,7 @@ fn join(
 
 /// Moves the line to the others, unless it goes on.
 fn settle(lines: &mut Vec<Line>, pending: Option<Line>) -> Result<Option<Line>, TextFault>
-    ensures finished { OnOk result (logical_lines lines.new.items
-        ≡ logical_lines lines.old.items ++ finished (pending_line pending)) }
+    ensures finished { OnOk result (AddsFinished lines.old pending lines.new) }
     ensures unfinished { IfOk result (λ p. pending_line p ≡ unfinished (pending_line pending)) }
     ensures memory { IfErr result (λ e. e ≡ Memory) }
     ensures first { (n : ℕ) → BeginsUpTo n pending → IfOk result (BeginsUpTo n) }
@@ -177,8 +176,7 @@ fn fault_line(pending: &Option<Line>, number: u32) -> u32
 /// The logical lines of a text that is not too long.
 fn lines_of(alloc: Global, text: &[u8]) -> Result<Vec<Line>, TextFault>
     requires { length text.now ≤ MOST_BYTES }
-    ensures value { Gives (λ v. logical_lines v.items) result
-        (logical_lines_from None (enumerate_from 1 (lines text.now))) }
+    ensures value { Gives (λ v. logical_lines v.items) result (all_lines text.now) }
     ensures line { IfErr result (NamesLineOf text.now) }
 {
     let mut finished = Vec::new(alloc);
@@ -220,8 +218,7 @@ fn source_of(alloc: Global, text: &[u8]) -> Result<Source, TextFault>
 /// A [`TextFault`] other than [`TextFault::Memory`] where the text has no logical lines.
 pub fn read_lines(alloc: Global, text: &[u8]) -> Result<Source, TextFault>
     ensures found { IfOk result (λ s. LinesOf text.now (logical_lines s.lines.items)) }
-    ensures only { (rs : List LogicalLine) → LinesOf text.now rs
-        → UnlessMemory result (λ s. logical_lines s.lines.items ≡ rs) }
+    ensures only { HasOnlyLinesOf text.now result }
     ensures line { IfErr result (NamesLineOf text.now) }
 {
     source_of(alloc, text)

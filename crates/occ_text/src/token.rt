@@ -1,5 +1,7 @@
 //! Words and lines.
 
+use occ_held::letters::Letters;
+
 /// A reserved word. The word is spelled in capitals; each variant has its letters.
 #[derive(Clone, Copy, Debug, PartialEq)]
 pub enum Key {
@@ -129,13 +131,13 @@ pub enum Token {
     /// A reserved word.
     Key(Key),
     /// A name: the bytes of its letters, digits and dots.
-    Name(Vec<u8>),
+    Name(Letters),
     /// A number, as the 32-bit value that it stands for.
     Number(i32),
     /// A byte literal: the byte that it stands for.
     Byte(u8),
     /// A string literal: the bytes that it stands for, its escapes resolved.
-    Str(Vec<u8>),
+    Str(Letters),
     /// A symbol.
     Sym(Sym),
 }

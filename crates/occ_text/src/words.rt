@@ -14,6 +14,7 @@ use crate::literal::{byte_literal, string};
 use crate::number::{decimal, pattern};
 use crate::symbol::symbol;
 use crate::token::Token;
+use occ_held::letters::Letters;
 use std::alloc::Global;
 
 /// A name or a reserved word.
@@ -25,7 +26,7 @@ fn name_or_key(alloc: Global, bytes: &[u8]) -> Result<(Token, &[u8]), TextFault>
     let (letters, rest) = split_run(Class::NamePart, bytes);
     match keyword(letters) {
         Some(key) => Ok((Token::Key(key), rest)),
-        None => Ok((Token::Name(Vec::from_slice(alloc, letters)?), rest)),
+        None => Ok((Token::Name(Letters::new(alloc, letters)?), rest)),
     }
 }
 

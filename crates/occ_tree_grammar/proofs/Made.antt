@@ -185,13 +185,13 @@ pub arm_alt_for : (ds : Vec DeclTree Global) (l : ℕ) (pri : Bool) (r : Box Rep
 unfolding arm_of
 arm_alt_for ds l pri r m = with_decls {k = arm} ds l (nested_alternation pri (Some (replicator_of r.value))) (single_body (arm_of m.value))
 
-pub variant_tagged : (ds : Vec DeclTree Global) (l : ℕ) (v : Vec ℕ Global) (ts : Vec Target Global) (p : ProcessTree) → variant_of (variants.Tagged ds l v ts p) ≡ node {k = variant} (declared ds) l (tag v.items (map target_of ts.items)) (single_body (process_of p))
+pub variant_tagged : (ds : Vec DeclTree Global) (l : ℕ) (v : List ℕ) (ts : Vec Target Global) (p : ProcessTree) → variant_of (variants.Tagged ds l v ts p) ≡ node {k = variant} (declared ds) l (tag v (map target_of ts.items)) (single_body (process_of p))
 unfolding variant_of
-variant_tagged ds l v ts p = with_decls {k = variant} ds l (tag v.items (map target_of ts.items)) (single_body (process_of p))
+variant_tagged ds l v ts p = with_decls {k = variant} ds l (tag v (map target_of ts.items)) (single_body (process_of p))
 
 -- ---- declarations
 
-pub decl_names : (l : ℕ) (es : Vec Expr Global) (t : Box Sort Global) (vs : OneOrMore (Vec ℕ Global)) → decl_of (declTrees.Names l es t vs) ≡ declares l (expressions (map expression_of es.items)) (sort_of t.value) vs.first.items (map (λ v. v.items) vs.others.items)
+pub decl_names : (l : ℕ) (es : Vec Expr Global) (t : Box Sort Global) (vs : OneOrMore (List ℕ)) → decl_of (declTrees.Names l es t vs) ≡ declares l (expressions (map expression_of es.items)) (sort_of t.value) vs.first vs.others.items
 unfolding decl_of
 decl_names l es t vs = refl
 
@@ -199,7 +199,7 @@ pub decl_item : (i : ItemTree) → decl_of (declTrees.Item i) ≡ item (item_of 
 unfolding decl_of item_of
 decl_item i = refl
 
-pub item_value : (l : ℕ) (t : Option ValueType) (v : Vec ℕ Global) (e : Box Expr Global) → item_of (itemTrees.Value l t v e) ≡ value_item l (option_map value_type_of t) v.items (expression_of e.value)
+pub item_value : (l : ℕ) (t : Option ValueType) (v : List ℕ) (e : Box Expr Global) → item_of (itemTrees.Value l t v e) ≡ value_item l (option_map value_type_of t) v (expression_of e.value)
 unfolding item_of
 item_value l t v e = refl
 
@@ -207,6 +207,6 @@ pub item_protocol : (p : ProtocolTree) → item_of (itemTrees.Protocol p) ≡ pr
 unfolding item_of
 item_protocol p = refl
 
-pub item_proc : (l : ℕ) (v : Vec ℕ Global) (fs : Option (Box Formals Global)) (p : ProcessTree) (end_line : ℕ) → item_of (itemTrees.Proc l v fs p end_line) ≡ proc_item l v.items (formals_of fs) (process_of p) end_line
+pub item_proc : (l : ℕ) (v : List ℕ) (fs : Option (Box Formals Global)) (p : ProcessTree) (end_line : ℕ) → item_of (itemTrees.Proc l v fs p end_line) ≡ proc_item l v (formals_of fs) (process_of p) end_line
 unfolding item_of process_of
 item_proc l v fs p end_line = refl

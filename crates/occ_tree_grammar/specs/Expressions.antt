@@ -3,3 +3,4 @@ pub mod Trees
 pub mod Shown
 pub mod Reading
 pub mod Follow
+pub mod Chains

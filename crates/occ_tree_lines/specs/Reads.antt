@@ -1,6 +1,6 @@
 -- What functions answer that read words up to the end of their line: the head that the line is.
 -- Manual: nothing; this is (own).
-use Rattle.std.specs.Prelude.{List, Option, Result}
+use Rattle.std.specs.Prelude.{List, Option, Result, Some, option_map}
 use Rattle.occ_text.specs.declared.token.Token.{Token}
 use Rattle.occ_text.specs.Words.{Word, words}
 use Rattle.occ_tree_grammar.specs.declared.fault.ParseFault.{ParseFault}
@@ -9,7 +9,12 @@ use Rattle.occ_tree_grammar.specs.declared.lines.head.ChoiceHead.{ChoiceHead as 
 use Rattle.occ_tree_grammar.specs.declared.lines.head.OptionHead.{OptionHead as OptionHeadTree}
 use Rattle.occ_tree_grammar.specs.declared.lines.head.ArmHead.{ArmHead as ArmHeadTree}
 use Rattle.occ_tree_grammar.specs.declared.lines.head.DeclHead.{DeclHead as DeclHeadTree}
+use Rattle.occ_tree_grammar.specs.declared.lines.head.Received.{Received}
+use Rattle.occ_tree_grammar.specs.declared.tree.expr.Expr.{Expr}
 use Rattle.occ_tree_grammar.specs.Expressions.Reading.{Gives}
+use Rattle.occ_tree_grammar.specs.Expressions.Trees.{expression_of}
+use Rattle.occ_tree_grammar.specs.Lines.Views.{received_of}
+use Rattle.occ_tree_grammar.specs.Lines.HeadReading.{received_arm as arm_received}
 use Rattle.occ_tree_grammar.specs.Lines.Heads.{ProcessHead, ChoiceHead, OptionHead, ArmHead, DeclHead}
 use Rattle.occ_tree_grammar.specs.Lines.HeadViews.{process_head_of, choice_head_of, option_head_of, arm_head_of, decl_head_of}
 
@@ -28,3 +33,7 @@ ReadsArmHead result read tokens = Gives arm_head_of result (read (words tokens))
 
 abbrev pub ReadsDeclHead : Result DeclHeadTree ParseFault → (List Word → Option DeclHead) → List Token → Type 0
 ReadsDeclHead result read tokens = Gives decl_head_of result (read (words tokens))
+
+-- what stands behind the Boolean of an arm, as its line
+abbrev pub arm_behind : Option Expr → Received → Option ArmHead
+arm_behind condition received = Some (arm_received (option_map expression_of condition) (received_of received))

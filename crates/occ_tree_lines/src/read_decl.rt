@@ -11,6 +11,7 @@ ghost use Rattle.occ_tree_grammar.specs.Lines.HeadReading.{names_at, sort_at, na
 ghost use Rattle.occ_tree_grammar.specs.Limits.{brackets};
 ghost use Rattle.occ_tree_lines.specs.Reads.{ReadsDeclHead};
 
+use occ_held::letters::Letters;
 use occ_text::{Key, Sym, Token};
 use occ_tree_grammar::ParseFault;
 use occ_tree_grammar::lines::head::{DeclHead, TagHead};
@@ -30,7 +31,7 @@ fn only_names(
     line: u32,
     sizes: Vec<Expr>,
     sort: Sort,
-    all: OneOrMore<Vec<u8>>,
+    all: OneOrMore<Letters>,
     rest: &[Token],
 ) -> Result<DeclHead, ParseFault>
     ensures { ReadsDeclHead result (ended (names_head sizes sort all)) rest.now }
@@ -46,7 +47,7 @@ fn only_value(
     alloc: Global,
     line: u32,
     of: Option<ValueType>,
-    name: Vec<u8>,
+    name: Letters,
     value: Expr,
     rest: &[Token],
 ) -> Result<DeclHead, ParseFault>
@@ -62,7 +63,7 @@ fn only_value(
 fn only_parts(
     alloc: Global,
     line: u32,
-    name: Vec<u8>,
+    name: Letters,
     all: OneOrMore<Part>,
     rest: &[Token],
 ) -> Result<DeclHead, ParseFault>
@@ -85,8 +86,8 @@ fn declared_names(
     ensures { ReadsDeclHead result
         (names_at brackets (listed_expressions sizes) (sort_of sort)) tokens.now }
 {
-    let (first, rest) = name(alloc, line, tokens)?;
-    let (others, rest) = further::<Vec<u8>>(alloc, Separator::Comma, line, rest)?;
+    let (first, rest) = name(line, tokens)?;
+    let (others, rest) = further::<Letters>(alloc, Separator::Comma, line, rest)?;
     let rest = colon(line, rest)?;
     only_names(alloc, line, sizes, sort, OneOrMore { first, others }, rest)
 }
@@ -121,7 +122,7 @@ fn named_value(
     ensures { ReadsDeclHead result
         (named_value_at brackets (option_map value_type_of of)) tokens.now }
 {
-    let (name, rest) = name(alloc, line, tokens)?;
+    let (name, rest) = name(line, tokens)?;
     let rest = is(line, rest)?;
     let (value, rest) = expression(alloc, line, rest)?;
     let rest = colon(line, rest)?;
@@ -146,12 +147,12 @@ fn behind_protocol(alloc: Global, line: u32, tokens: &[Token]) -> Result<DeclHea
     ensures { ReadsDeclHead result (protocol_at brackets) tokens.now }
 {
     match tokens {
-        [Token::Name(name)] => Ok(DeclHead::Tags(Vec::from_slice(alloc, name)?)),
+        [Token::Name(name)] => Ok(DeclHead::Tags(name.copy()?)),
         [Token::Name(name), Token::Key(Key::Is), rest @ ..] => {
             let (first, rest) = part(alloc, line, rest)?;
             let (others, rest) = further::<Part>(alloc, Separator::Semicolon, line, rest)?;
             let rest = colon(line, rest)?;
-            let name = Vec::from_slice(alloc, name)?;
+            let name = name.copy()?;
             only_parts(alloc, line, name, OneOrMore { first, others }, rest)
         }
         _ => Err(ParseFault::Unexpected { line }),
@@ -165,7 +166,7 @@ fn behind_proc(alloc: Global, line: u32, tokens: &[Token]) -> Result<DeclHead, P
     match tokens {
         [Token::Name(name), Token::Sym(Sym::OpenParen), rest @ ..] => {
             let (formals, rest) = formals(alloc, line, rest)?;
-            let name = Vec::from_slice(alloc, name)?;
+            let name = name.copy()?;
             match rest {
                 [] => Ok(DeclHead::Proc(name, formals)),
                 _ => Err(ParseFault::Unexpected { line }),
@@ -203,7 +204,7 @@ pub fn tag_head(alloc: Global, line: u32, tokens: &[Token]) -> Result<TagHead, P
     match tokens {
         [Token::Name(tag), rest @ ..] => {
             let (parts, rest) = further::<Part>(alloc, Separator::Semicolon, line, rest)?;
-            let tag = Vec::from_slice(alloc, tag)?;
+            let tag = tag.copy()?;
             match rest {
                 [] => Ok(TagHead { tag, parts }),
                 _ => Err(ParseFault::Unexpected { line }),

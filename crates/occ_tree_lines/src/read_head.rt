@@ -9,10 +9,11 @@ ghost use Rattle.occ_tree_grammar.specs.Expressions.Reading.{Gives};
 ghost use Rattle.occ_tree_grammar.specs.Lines.Views.{var_of, received_of};
 ghost use Rattle.occ_tree_grammar.specs.Lines.Heads.{act, chosen, guarded, on_skip};
 ghost use Rattle.occ_tree_grammar.specs.Lines.HeadViews.{action_of, process_head_of, arm_head_of, variant_head_of, values_head};
-ghost use Rattle.occ_tree_grammar.specs.Lines.HeadReading.{received_head as head_received, received_arm as arm_received, assignment_at, after_var, var_first, after_open, name_first, process_head_at, choice_head_at, option_head_at, reception_at, boolean_at, after_and, channel_first, after_condition, by_priority, guard_at, arm_head_at, variant_head_at};
+ghost use Rattle.occ_tree_grammar.specs.Lines.HeadReading.{received_head as head_received, assignment_at, after_var, var_first, after_open, name_first, process_head_at, choice_head_at, option_head_at, reception_at, boolean_at, after_and, channel_first, after_condition, by_priority, guard_at, arm_head_at, variant_head_at};
 ghost use Rattle.occ_tree_grammar.specs.Limits.{brackets};
-ghost use Rattle.occ_tree_lines.specs.Reads.{ReadsProcessHead, ReadsChoiceHead, ReadsOptionHead, ReadsArmHead};
+ghost use Rattle.occ_tree_lines.specs.Reads.{ReadsProcessHead, ReadsChoiceHead, ReadsOptionHead, ReadsArmHead, arm_behind};
 
+use occ_held::letters::Letters;
 use occ_text::{Key, Sym, Token};
 use occ_tree_grammar::ParseFault;
 use occ_tree_grammar::lines::head::{
@@ -109,7 +110,7 @@ fn behind_var(
 fn var_in_front(
     alloc: Global,
     line: u32,
-    name: &[u8],
+    name: &Letters,
     tokens: &[Token],
 ) -> Result<ProcessHead, ParseFault>
     ensures { ReadsProcessHead result (var_first brackets name.now) tokens.now }
@@ -131,7 +132,7 @@ fn open(tokens: &[Token]) -> Option<&[Token]>
 fn behind_name(
     alloc: Global,
     line: u32,
-    name: &[u8],
+    name: &Letters,
     tokens: &[Token],
 ) -> Result<ProcessHead, ParseFault>
     ensures { ReadsProcessHead result (name_first brackets name.now) tokens.now }
@@ -140,7 +141,7 @@ fn behind_name(
         return var_in_front(alloc, line, name, tokens);
     };
     let (actuals, rest) = actuals(alloc, line, rest)?;
-    let name = Vec::from_slice(alloc, name)?;
+    let name = name.copy()?;
     only_action(alloc, line, Action::Call(name, actuals), rest)
 }
 
@@ -264,8 +265,7 @@ fn received_arm(
     condition: Option<Expr>,
     received: Received,
 ) -> Result<ArmHead, ParseFault>
-    ensures { Gives arm_head_of result (Some
-        (arm_received (option_map expression_of condition) (received_of received))) }
+    ensures { Gives arm_head_of result (arm_behind condition received) }
 {
     match received {
         Received::Input(input) => {
@@ -406,7 +406,7 @@ pub fn variant_head(alloc: Global, line: u32, tokens: &[Token]) -> Result<Varian
     match tokens {
         [Token::Name(tag), rest @ ..] => {
             let (targets, rest) = further::<Target>(alloc, Separator::Semicolon, line, rest)?;
-            let tag = Vec::from_slice(alloc, tag)?;
+            let tag = tag.copy()?;
             match rest {
                 [] => Ok(VariantHead { tag, targets }),
                 _ => Err(ParseFault::Unexpected { line }),

@@ -13,6 +13,7 @@ use crate::expressions::read::{expr, indices};
 use crate::expressions::symbol::close;
 use crate::list::further;
 use crate::word::for_count;
+use occ_held::letters::Letters;
 use occ_text::{Key, Sym, Token};
 use occ_tree_grammar::ParseFault;
 use occ_tree_grammar::limits::MOST_LEVELS;
@@ -37,13 +38,13 @@ pub fn expression(
 pub fn var_behind<'a>(
     alloc: Global,
     line: u32,
-    name: &[u8],
+    name: &Letters,
     tokens: &'a [Token],
 ) -> Result<(Var, &'a [Token]), ParseFault>
     ensures { ReadsWords var_of result (var_named brackets name.now) tokens.now }
 {
     let (subscripts, rest) = indices(alloc, MOST_LEVELS, line, tokens)?;
-    let name = Vec::from_slice(alloc, name)?;
+    let name = name.copy()?;
     Ok((Var { name, subscripts }, rest))
 }
 
@@ -114,7 +115,7 @@ pub fn behind_question(
         [Token::Key(Key::Case)] => Ok(Received::Variants(channel)),
         [Token::Key(Key::Case), Token::Name(tag), rest @ ..] => {
             let (into, rest) = further::<Target>(alloc, Separator::Semicolon, line, rest)?;
-            let tag = Vec::from_slice(alloc, tag)?;
+            let tag = tag.copy()?;
             match rest {
                 [] => Ok(Received::Input(Input::Tagged(channel, tag, into))),
                 _ => Err(ParseFault::Unexpected { line }),
@@ -155,7 +156,7 @@ pub fn replicator(
             let (base, rest) = expression(alloc, line, rest)?;
             let rest = for_count(line, rest)?;
             let (count, rest) = expression(alloc, line, rest)?;
-            let name = Vec::from_slice(alloc, name)?;
+            let name = name.copy()?;
             only_replicator(alloc, line, Replicator { name, base, count }, rest)
         }
         _ => Err(ParseFault::Unexpected { line }),

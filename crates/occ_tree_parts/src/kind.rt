@@ -73,9 +73,7 @@ pub fn carried(
     ensures { ReadsWords carried_of result (carried_at brackets) tokens.now }
 {
     match tokens {
-        [Token::Name(name), rest @ ..] => {
-            Ok((Carried::Named(Vec::from_slice(alloc, name)?), rest))
-        }
+        [Token::Name(name), rest @ ..] => { Ok((Carried::Named(name.copy()?), rest)) }
         _ => {
             let (part, rest) = part(alloc, line, tokens)?;
             Ok((Carried::Part(part), rest))
@@ -170,12 +168,12 @@ pub fn formal(alloc: Global, line: u32, tokens: &[Token]) -> Result<(Formal, &[T
 {
     match tokens {
         [Token::Name(name), rest @ ..] => {
-            let name = Vec::from_slice(alloc, name)?;
+            let name = name.copy()?;
             Ok((Formal { spec: None, name }, rest))
         }
         _ => {
             let (spec, rest) = spec(alloc, line, tokens)?;
-            let (name, rest) = name(alloc, line, rest)?;
+            let (name, rest) = name(line, rest)?;
             Ok((
                 Formal {
                     spec: Some(spec),
@@ -200,7 +198,7 @@ pub fn formals(
         [Token::Sym(Sym::CloseParen), rest @ ..] => Ok((None, rest)),
         _ => {
             let (spec, rest) = spec(alloc, line, tokens)?;
-            let (name, rest) = name(alloc, line, rest)?;
+            let (name, rest) = name(line, rest)?;
             let (others, rest) = further::<Formal>(alloc, Separator::Comma, line, rest)?;
             let rest = close(line, rest)?;
             let formals = Box::new(alloc, Formals { spec, name, others })?;

@@ -14,6 +14,7 @@ ghost use Rattle.occ_tree_grammar.specs.Limits.{brackets};
 use crate::item::{expression, out, target, var};
 use crate::kind::{formal, part};
 use crate::word::{name, separated};
+use occ_held::letters::Letters;
 use occ_text::Token;
 use occ_tree_grammar::ParseFault;
 use occ_tree_grammar::lines::separator::Separator;
@@ -60,15 +61,15 @@ pub fn further<T: Listed>(
 }
 
 /// A name.
-impl Listed for Vec<u8> {
+impl Listed for Letters {
     ghost Form = { List ℕ };
 
-    ghost form = { λ v. v.items };
+    ghost form = { λ v. v };
 
     ghost reads = { name_at };
 
-    fn read(alloc: Global, line: u32, tokens: &[Token]) -> Result<(Vec<u8>, &[Token]), ParseFault> {
-        name(alloc, line, tokens)
+    fn read(_: Global, line: u32, tokens: &[Token]) -> Result<(Letters, &[Token]), ParseFault> {
+        name(line, tokens)
     }
 }
 

@@ -5,10 +5,10 @@ ghost use Rattle.occ_text.specs.Words.{words};
 ghost use Rattle.occ_tree_grammar.specs.Fronts.{ReadsWords, StepsOver, words_found};
 ghost use Rattle.occ_tree_grammar.specs.Lines.Reading.{after_separator, name_at, after_assign, after_question, after_for, after_is, after_colon};
 
+use occ_held::letters::Letters;
 use occ_text::{Key, Sym, Token};
 use occ_tree_grammar::ParseFault;
 use occ_tree_grammar::lines::separator::Separator;
-use std::alloc::Global;
 
 /// The words after the separator, where it stands.
 pub fn separated(by: Separator, tokens: &[Token]) -> Option<&[Token]>
@@ -22,11 +22,11 @@ pub fn separated(by: Separator, tokens: &[Token]) -> Option<&[Token]>
 }
 
 /// A name.
-pub fn name(alloc: Global, line: u32, tokens: &[Token]) -> Result<(Vec<u8>, &[Token]), ParseFault>
-    ensures { ReadsWords (λ v. v.items) result name_at tokens.now }
+pub fn name(line: u32, tokens: &[Token]) -> Result<(Letters, &[Token]), ParseFault>
+    ensures { ReadsWords (λ v. v) result name_at tokens.now }
 {
     match tokens {
-        [Token::Name(name), rest @ ..] => Ok((Vec::from_slice(alloc, name)?, rest)),
+        [Token::Name(name), rest @ ..] => Ok((name.copy()?, rest)),
         _ => Err(ParseFault::Unexpected { line }),
     }
 }

@@ -1,16 +1,21 @@
 -- What is left of a process and of a declaration once their first lines are read.
 -- Manual: the syntax summary. The limits of levels and brackets: (own).
-use Rattle.std.specs.Prelude.{ℕ, zero, suc, ◌+◌, List, Some, None}
+use Rattle.std.specs.Prelude.{ℕ, zero, suc, ◌+◌, List, Option, Some, None, Vec}
+use Rattle.std.specs.declared.alloc.Global.{Global}
+use Rattle.std.specs.declared.boxed.Box.{Box}
 use Rattle.occ_text.specs.Words.{LogicalLine}
 use Rattle.occ_tree_grammar.specs.Limits.{brackets}
 use Rattle.occ_tree_grammar.specs.Many.{◌>>=◌, Reader, as_many}
+use Rattle.occ_tree_grammar.specs.declared.tree.line.Formals.{Formals as FormalsTree}
+use Rattle.occ_tree_grammar.specs.declared.tree.process.Decl.{Decl as DeclTree}
+use Rattle.occ_tree_grammar.specs.declared.tree.process.Process.{Process as ProcessTree}
 use Rattle.occ_tree_grammar.specs.Expressions.Trees.{expression_of}
 use Rattle.occ_tree_grammar.specs.Lines.Trees.{Formals}
 use Rattle.occ_tree_grammar.specs.Lines.Views.{var_of, replicator_of, formals_of}
 use Rattle.occ_tree_grammar.specs.Lines.Heads.{ProcessHead, act, input_variants, sequence, parallel, alternation, conditional, selection, loop, DeclHead, names, value, parts, tags, procedure}
 use Rattle.occ_tree_grammar.specs.Lines.HeadViews.{action_of}
-use Rattle.occ_tree_grammar.specs.Processes.Trees.{process, of_parts, Node, node, single_body, bodies, nodes, decls, Decl, declares, item, value_item, protocol_item, proc_item}
-use Rattle.occ_tree_grammar.specs.Processes.Views.{decl_of}
+use Rattle.occ_tree_grammar.specs.Processes.Trees.{Head, option, process, variant, of_parts, Node, node, single_body, bodies, nodes, decls, Decl, declares, item, value_item, protocol_item, proc_item}
+use Rattle.occ_tree_grammar.specs.Processes.Views.{decl_of, listed_decls, process_of}
 use Rattle.occ_tree_grammar.specs.Processes.Reading.{at_decl, end_at, tags_at, decl_with, node_at}
 use Rattle.occ_tree_processes.specs.declared.processes.opened.Opened.{Opened}
 use Rattle.occ_tree_processes.specs.declared.processes.opened.Opened.TheVariants as openings
@@ -74,7 +79,7 @@ pub data DeclLeft : Type 0 where
 
 abbrev pub decl_left_of : OpenedDecl → DeclLeft
 decl_left_of (declarations.Whole d) = whole (decl_of d)
-decl_left_of (declarations.Proc l v fs) = body_of l v.items (formals_of fs)
+decl_left_of (declarations.Proc l v fs) = body_of l v (formals_of fs)
 
 abbrev pub left_behind : ℕ → ℕ → ℕ → DeclHead → Reader LogicalLine DeclLeft
 left_behind n level l (names es t v vs) lines = Some (whole (declares l es t v vs), lines)
@@ -95,3 +100,14 @@ abbrev pub procedure_with : ℕ → ℕ → List ℕ → Formals → Node proces
 procedure_with level l v fs body lines = do
   last ← end_at level lines
   Some (item (proc_item l v fs body last.0), last.1)
+
+-- what is left of a procedure behind its body, by what was read
+abbrev pub procedure_behind : ℕ → ℕ → List ℕ → Option (Box FormalsTree Global) → ProcessTree → Reader LogicalLine Decl
+procedure_behind level l v fs body = procedure_with level l v (formals_of fs) (process_of body)
+
+-- the option, and the variant, with this line and this process under it
+abbrev pub option_over : {A : Type 0} → Vec DeclTree A → ℕ → Head option → ProcessTree → Node option
+option_over ds l head body = node {k = option} (listed_decls ds) l head (single_body (process_of body))
+
+abbrev pub variant_over : {A : Type 0} → Vec DeclTree A → ℕ → Head variant → ProcessTree → Node variant
+variant_over ds l head body = node {k = variant} (listed_decls ds) l head (single_body (process_of body))

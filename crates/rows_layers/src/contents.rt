@@ -1,5 +1,6 @@
 //! Messages, frames and protocols: copies, and what is the same.
 use crate::compared::{check_bytes, check_count, check_text};
+use occ_held::letters::Letters;
 use occ_term::{
     Channel, Frame, FrameCells, Message, Name, Part, PartType, PartTypes, Parts, Primitive,
     Protocol, Tag, TagTypes, Text,
@@ -174,7 +175,7 @@ fn part_types(alloc: Global) -> Result<Items<PartType>, AllocError> {
 }
 
 fn tag(alloc: Global) -> Result<Tag, AllocError> {
-    let name = Items::from_slice(alloc, b"data")?;
+    let name = Letters::new(alloc, b"data")?;
     let parts = part_types(alloc)?;
     Ok(Tag { name, parts })
 }

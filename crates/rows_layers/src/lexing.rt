@@ -134,7 +134,7 @@ fn show_word(alloc: Global, word: &Token) -> Result<String, AllocError> {
         Token::Key(key) => format!(in alloc; " .{key:?}"),
         Token::Name(letters) => {
             let mut shown = format!(in alloc; " ")?;
-            for letter in letters {
+            for letter in letters.as_slice() {
                 shown.push(char::from(*letter))?;
             }
             Ok(shown)
@@ -142,7 +142,7 @@ fn show_word(alloc: Global, word: &Token) -> Result<String, AllocError> {
         Token::Number(number) => format!(in alloc; " {number}"),
         Token::Byte(byte) => format!(in alloc; " '{byte}"),
         Token::Str(bytes) => {
-            let shown = show_bytes(alloc, bytes)?;
+            let shown = show_bytes(alloc, bytes.as_slice())?;
             format!(in alloc; " \"{shown}")
         }
         Token::Sym(symbol) => format!(in alloc; " {symbol:?}"),

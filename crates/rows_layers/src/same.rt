@@ -3,7 +3,7 @@ ghost use Rattle.std.specs.Prelude.{◌<◌};
 
 use crate::unfolded::letter;
 use occ_code::compile_for;
-use occ_machine::{Arm, Code, Task, Wait};
+use occ_machine::{Arm, Code, Indices, Task, Wait};
 use occ_term::{Errors, Frame, FrameCells};
 use occ_usage::check_usage;
 use sqlite_items::Items;
@@ -52,13 +52,11 @@ fn code_is_the_same_by_content(rt: HostRuntime) {
 
 /// A process that took so many turns and chooses an arm, with this index.
 fn choosing(alloc: Global, turns: u64, index: i64) -> Result<Task, AllocError> {
-    let mut indices = Items::new(alloc);
-    indices.push(index)?;
     let mut arms = Items::new(alloc);
     arms.push(Arm {
         number: 4,
         chan: Some(3),
-        indices,
+        indices: Indices::one(index),
     })?;
     let cells = FrameCells::new(alloc, &[5, 6])?;
     Ok(Task {

@@ -50,7 +50,7 @@ expressions (e ∷ rest) = more_expressions e (expressions rest)
 abbrev pub lit_of : Literal → Lit
 lit_of (literals.Number n) = number n
 lit_of (literals.Byte b) = byte b
-lit_of (literals.Text v) = text v.items
+lit_of (literals.Text v) = text v
 
 abbrev mutual
   pub expression_of : Expr → Expression
@@ -63,7 +63,7 @@ abbrev mutual
   expression_of (exprs.Chain' l a b shape others) = chain l (operand_of a) (operand_of b) (held_operands others)
 
   pub operand_of : OperandTree → Operand
-  operand_of (operandTrees.Variable' v shape subscripts) = variable v.items (held_expressions subscripts)
+  operand_of (operandTrees.Variable' v shape subscripts) = variable v (held_expressions subscripts)
   operand_of (operandTrees.Literal l t) = literal (lit_of l) t
   operand_of (operandTrees.Truth b) = truth b
   operand_of (operandTrees.Parens' p e) = parens (expression_of e)

@@ -1,6 +1,6 @@
 -- The heads that the code reads, without where they lie in memory.
 -- Manual: nothing; this is (own).
-use Rattle.std.specs.Prelude.{ℕ, Option, Vec, map, option_map}
+use Rattle.std.specs.Prelude.{ℕ, List, Option, Vec, map, option_map}
 use Rattle.occ_tree_grammar.specs.declared.tree.line.Action.{Action as ActionTree}
 use Rattle.occ_tree_grammar.specs.declared.tree.line.Action.TheVariants as actions
 use Rattle.occ_tree_grammar.specs.declared.tree.line.Guard.{Guard as GuardTree}
@@ -32,7 +32,7 @@ action_of actions.Stop = stop
 action_of (actions.Assign vs es) = assign (var_of vs.first) (map var_of vs.others.items) (expression_of es.first) (map expression_of es.others.items)
 action_of (actions.Input i) = input (input_of i)
 action_of (actions.Output v os) = output (var_of v) (out_of os.first) (map out_of os.others.items)
-action_of (actions.Call v es) = call v.items (actuals_of es)
+action_of (actions.Call v es) = call v (actuals_of es)
 
 abbrev pub process_head_of : ProcessHeadTree → ProcessHead
 process_head_of (processes.Action a) = act (action_of a.value)
@@ -66,26 +66,26 @@ arm_head_of (arms.Variants g) = guarded_variants (option_map expression_of g.val
 arm_head_of (arms.Alt pri r) = nested_alternation pri (optional_replicator_of r)
 
 abbrev pub variant_head_of : VariantHeadTree → VariantHead
-variant_head_of h = tag h.tag.items (map target_of h.targets.items)
+variant_head_of h = tag h.tag (map target_of h.targets.items)
 
 -- names, by the sizes and by what they are declared as
-abbrev pub names_head : {A B : Type 0} → Vec Expr A → SortTree → OneOrMore (Vec ℕ B) → DeclHead
-names_head es t vs = names (listed_expressions es) (sort_of t) vs.first.items (map (λ v. v.items) vs.others.items)
+abbrev pub names_head : {A : Type 0} → Vec Expr A → SortTree → OneOrMore (List ℕ) → DeclHead
+names_head es t vs = names (listed_expressions es) (sort_of t) vs.first vs.others.items
 
 -- a named value, with its type where that is given
-abbrev pub value_head : {A : Type 0} → Option ValueTypeTree → Vec ℕ A → Expr → DeclHead
-value_head t v e = value (option_map value_type_of t) v.items (expression_of e)
+abbrev pub value_head : Option ValueTypeTree → List ℕ → Expr → DeclHead
+value_head t v e = value (option_map value_type_of t) v (expression_of e)
 
 -- a protocol of these parts
-abbrev pub parts_head : {A : Type 0} → Vec ℕ A → OneOrMore PartTree → DeclHead
-parts_head v ps = parts v.items (part_of ps.first) (map part_of ps.others.items)
+abbrev pub parts_head : List ℕ → OneOrMore PartTree → DeclHead
+parts_head v ps = parts v (part_of ps.first) (map part_of ps.others.items)
 
 abbrev pub decl_head_of : DeclHeadTree → DeclHead
 decl_head_of (declarations.Names es t vs) = names_head es t.value vs
 decl_head_of (declarations.Value t v e) = value_head t v e.value
 decl_head_of (declarations.Parts v ps) = parts_head v ps.value
-decl_head_of (declarations.Tags v) = tags v.items
-decl_head_of (declarations.Proc v fs) = procedure v.items (formals_of fs)
+decl_head_of (declarations.Tags v) = tags v
+decl_head_of (declarations.Proc v fs) = procedure v (formals_of fs)
 
 abbrev pub tag_head_of : TagHeadTree → TagHead
-tag_head_of h = tag_parts h.tag.items (map part_of h.parts.items)
+tag_head_of h = tag_parts h.tag (map part_of h.parts.items)

@@ -32,7 +32,7 @@ use Rattle.occ_tree_grammar.specs.Expressions.Trees.{expression_of, expressions}
 use Rattle.occ_tree_grammar.specs.Lines.Trees.{Var, var, Target, into, into_counted, Out, from, from_counted, Input, items, tagged, Received, in_line, by_variant, Replicator, each, Part, single, counted, Carried, carries, follows, Sort, of_data, of_channel, Size, open_size, given, ValueType, value_type, Spec, by_value, by_reference, by_channel, Formal, formal, Formals, no_formals, formals, Actuals, no_actuals, actuals}
 
 abbrev pub var_of : VarTree → Var
-var_of v = var v.name.items (expressions (map expression_of v.subscripts.items))
+var_of v = var v.name (expressions (map expression_of v.subscripts.items))
 
 abbrev pub target_of : TargetTree → Target
 target_of (targets.Whole v) = into (var_of v)
@@ -44,10 +44,10 @@ out_of (outs.Counted e f) = from_counted (expression_of e) (expression_of f)
 
 abbrev pub input_of : InputTree → Input
 input_of (inputs.Items v ts) = items (var_of v) (target_of ts.first) (map target_of ts.others.items)
-input_of (inputs.Tagged v t ts) = tagged (var_of v) t.items (map target_of ts.items)
+input_of (inputs.Tagged v t ts) = tagged (var_of v) t (map target_of ts.items)
 
 abbrev pub replicator_of : ReplicatorTree → Replicator
-replicator_of r = each r.name.items (expression_of r.base) (expression_of r.count)
+replicator_of r = each r.name (expression_of r.base) (expression_of r.count)
 
 abbrev pub optional_replicator_of : Option (Box ReplicatorTree Global) → Option Replicator
 optional_replicator_of r = option_map (λ b. replicator_of b.value) r
@@ -58,7 +58,7 @@ part_of (parts.Counted p q) = counted p q
 
 abbrev pub carried_of : CarriedTree → Carried
 carried_of (carrieds.Part p) = carries (part_of p)
-carried_of (carrieds.Named v) = follows v.items
+carried_of (carrieds.Named v) = follows v
 
 abbrev pub sort_of : SortTree → Sort
 sort_of (sorts.Data p) = of_data p
@@ -77,10 +77,10 @@ spec_of (specs.Variable t) = by_reference (value_type_of t)
 spec_of (specs.Channel ds c) = by_channel (map size_of ds.items) (carried_of c)
 
 abbrev pub formal_of : FormalTree → Formal
-formal_of f = formal (option_map spec_of f.spec) f.name.items
+formal_of f = formal (option_map spec_of f.spec) f.name
 
 abbrev pub some_formals_of : FormalsTree → Formals
-some_formals_of f = formals (spec_of f.spec) f.name.items (map formal_of f.others.items)
+some_formals_of f = formals (spec_of f.spec) f.name (map formal_of f.others.items)
 
 abbrev pub formals_of : Option (Box FormalsTree Global) → Formals
 formals_of None = no_formals

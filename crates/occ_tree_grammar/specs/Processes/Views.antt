@@ -28,11 +28,11 @@ use Rattle.occ_tree_grammar.specs.Lines.HeadViews.{action_of, guard_of}
 use Rattle.occ_tree_grammar.specs.Processes.Trees.{process, choice, option, arm, variant, Tag, tag_line, Protocol, of_parts, of_tags, Node, node, no_body, single_body, bodies, Nodes, no_node, more_nodes, Decls, decls, no_decl, more_decls, Decl, declares, item, Item, value_item, protocol_item, proc_item}
 
 abbrev pub tag_of : TagTree → Tag
-tag_of t = tag_line t.line t.name.items (map part_of t.parts.items)
+tag_of t = tag_line t.line t.name (map part_of t.parts.items)
 
 abbrev pub protocol_of : ProtocolTree → Protocol
-protocol_of (protocols.Parts l v ps) = of_parts l v.items (part_of ps.value.first) (map part_of ps.value.others.items)
-protocol_of (protocols.Tags l v case_line ts end_line) = of_tags l v.items case_line (map tag_of ts.items) end_line
+protocol_of (protocols.Parts l v ps) = of_parts l v (part_of ps.value.first) (map part_of ps.value.others.items)
+protocol_of (protocols.Tags l v case_line ts end_line) = of_tags l v case_line (map tag_of ts.items) end_line
 
 unfoldable mutual
   pub process_of : ProcessTree → Node process
@@ -65,16 +65,16 @@ unfoldable mutual
   arm_of (arms.InnerAltFor' shape ds l pri r p m) = node (held_decls ds) l (nested_alternation pri (Some (replicator_of r.value))) (single_body (arm_of m))
 
   pub variant_of : VariantTree → Node variant
-  variant_of (variants.Tagged' shape ds l v ts n) = node (held_decls ds) l (tag v.items (map target_of ts.items)) (single_body (process_of n))
+  variant_of (variants.Tagged' shape ds l v ts n) = node (held_decls ds) l (tag v (map target_of ts.items)) (single_body (process_of n))
 
   pub decl_of : DeclTree → Decl
-  decl_of (declTrees.Names l es t vs) = declares l (expressions (map expression_of es.items)) (sort_of t.value) vs.first.items (map (λ v. v.items) vs.others.items)
+  decl_of (declTrees.Names l es t vs) = declares l (expressions (map expression_of es.items)) (sort_of t.value) vs.first vs.others.items
   decl_of (declTrees.Item i) = item (item_of i)
 
   pub item_of : ItemTree → Item
-  item_of (itemTrees.Value l t v e) = value_item l (option_map value_type_of t) v.items (expression_of e.value)
+  item_of (itemTrees.Value l t v e) = value_item l (option_map value_type_of t) v (expression_of e.value)
   item_of (itemTrees.Protocol p) = protocol_item (protocol_of p)
-  item_of (itemTrees.Proc l v fs n end_line) = proc_item l v.items (formals_of fs) (process_of n) end_line
+  item_of (itemTrees.Proc l v fs n end_line) = proc_item l v (formals_of fs) (process_of n) end_line
 
   pub held_decls : {m : _} → Row_of-Decl m → Decls
   held_decls end_of-Decl = no_decl

@@ -5,6 +5,7 @@ use crate::tree::line::{
     Action, Formals, Guard, Input, OneOrMore, Part, Replicator, Sort, Target, ValueType, Var,
     VariantGuard,
 };
+use occ_held::letters::Letters;
 
 /// The line of a process.
 #[derive(Drop)]
@@ -60,7 +61,7 @@ pub enum ArmHead {
 #[derive(Drop)]
 pub struct VariantHead {
     /// The tag.
-    pub tag: Vec<u8>,
+    pub tag: Letters,
     /// The targets of what follows it.
     pub targets: Vec<Target>,
 }
@@ -69,22 +70,22 @@ pub struct VariantHead {
 #[derive(Drop)]
 pub enum DeclHead {
     /// The sizes, the sort and the names.
-    Names(Vec<Expr>, Box<Sort>, OneOrMore<Vec<u8>>),
+    Names(Vec<Expr>, Box<Sort>, OneOrMore<Letters>),
     /// The type where it is given, the name and the value.
-    Value(Option<ValueType>, Vec<u8>, Box<Expr>),
+    Value(Option<ValueType>, Letters, Box<Expr>),
     /// A protocol: the name and the parts.
-    Parts(Vec<u8>, Box<OneOrMore<Part>>),
+    Parts(Letters, Box<OneOrMore<Part>>),
     /// The first line of a protocol of variants: the name.
-    Tags(Vec<u8>),
+    Tags(Letters),
     /// The first line of a procedure: the name and the formals.
-    Proc(Vec<u8>, Option<Box<Formals>>),
+    Proc(Letters, Option<Box<Formals>>),
 }
 
 /// A line of a protocol of variants: the tag and the parts.
 #[derive(Drop)]
 pub struct TagHead {
     /// The tag.
-    pub tag: Vec<u8>,
+    pub tag: Letters,
     /// The parts that follow it.
     pub parts: Vec<Part>,
 }

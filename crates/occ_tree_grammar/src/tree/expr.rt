@@ -6,6 +6,7 @@ ghost use Rattle.occ_tree_grammar.specs.Lines.Views.{var_of};
 ghost use Rattle.occ_tree_grammar.specs.Lines.HeadReading.{as_var, operand_var};
 
 use crate::tree::line::Var;
+use occ_held::letters::Letters;
 
 /// A primitive type.
 #[derive(Clone, Copy)]
@@ -103,7 +104,7 @@ pub enum Literal {
     /// A byte.
     Byte(u8),
     /// A string: its bytes.
-    Text(Vec<u8>),
+    Text(Letters),
 }
 
 impl Drop for Literal {
@@ -154,7 +155,7 @@ impl Drop for Expr {
 #[cycle(expr)]
 pub enum Operand {
     /// A name with its subscripts.
-    Variable(Vec<u8>, Vec<Expr>),
+    Variable(Letters, Vec<Expr>),
     /// A literal, with its type where that is given.
     Literal(Literal, Option<Prim>),
     /// `TRUE` or `FALSE`

@@ -1,6 +1,7 @@
 //! What stands in one line.
 
 use crate::tree::expr::{Expr, Prim};
+use occ_held::letters::Letters;
 
 /// One or more of a kind.
 pub struct OneOrMore<T: Drop> {
@@ -22,7 +23,7 @@ impl<T: Drop> Drop for OneOrMore<T> {
 /// A variable or a channel: a name with its subscripts.
 pub struct Var {
     /// The name.
-    pub name: Vec<u8>,
+    pub name: Letters,
     /// The subscripts, in order; at most one.
     pub subscripts: Vec<Expr>,
 }
@@ -75,7 +76,7 @@ pub enum Input {
     /// The channel and the targets.
     Items(Var, OneOrMore<Target>),
     /// The channel, the tag that must come, and the targets of what follows it.
-    Tagged(Var, Vec<u8>, Vec<Target>),
+    Tagged(Var, Letters, Vec<Target>),
 }
 
 impl Drop for Input {
@@ -124,7 +125,7 @@ impl Drop for VariantGuard {
 /// A replicator: `name = base FOR count`.
 pub struct Replicator {
     /// The name of the index.
-    pub name: Vec<u8>,
+    pub name: Letters,
     /// The first value of the index.
     pub base: Expr,
     /// How many values the index takes.
@@ -154,7 +155,7 @@ pub enum Action {
     /// The channel and the items of an output.
     Output(Var, OneOrMore<Out>),
     /// The name and the actuals of a call.
-    Call(Vec<u8>, Option<OneOrMore<Expr>>),
+    Call(Letters, Option<OneOrMore<Expr>>),
 }
 
 impl Drop for Action {
@@ -192,7 +193,7 @@ pub enum Carried {
     /// Messages of one part.
     Part(Part),
     /// Messages of the protocol of this name.
-    Named(Vec<u8>),
+    Named(Letters),
 }
 
 impl Drop for Carried {
@@ -277,7 +278,7 @@ pub struct Formal {
     /// The spec, where it isn't that of the formal before it.
     pub spec: Option<Spec>,
     /// The name.
-    pub name: Vec<u8>,
+    pub name: Letters,
 }
 
 impl Drop for Formal {
@@ -291,7 +292,7 @@ pub struct Formals {
     /// The spec of the first.
     pub spec: Spec,
     /// The name of the first.
-    pub name: Vec<u8>,
+    pub name: Letters,
     /// The others.
     pub others: Vec<Formal>,
 }

@@ -9,6 +9,7 @@ use crate::tree::expr::Expr;
 use crate::tree::line::{
     Action, Formals, Guard, OneOrMore, Part, Replicator, Sort, Target, ValueType, Var, VariantGuard,
 };
+use occ_held::letters::Letters;
 
 /// A process.
 #[cycle(process)]
@@ -145,7 +146,7 @@ impl Drop for Arm {
 #[cycle(process)]
 pub enum Variant {
     /// The declarations before it, its line, the tag, the targets and the process.
-    Tagged(Vec<Decl>, u32, Vec<u8>, Vec<Target>, Process),
+    Tagged(Vec<Decl>, u32, Letters, Vec<Target>, Process),
 }
 
 impl Drop for Variant {
@@ -161,7 +162,7 @@ impl Drop for Variant {
 #[cycle(process)]
 pub enum Decl {
     /// Names of variables or channels: the line, the sizes, the sort and the names.
-    Names(u32, Vec<Expr>, Box<Sort>, OneOrMore<Vec<u8>>),
+    Names(u32, Vec<Expr>, Box<Sort>, OneOrMore<Letters>),
     /// What may stand at the top of a text too.
     Item(Item),
 }
@@ -193,11 +194,11 @@ impl Decl {
 #[cycle(process)]
 pub enum Item {
     /// A named value: the line, the type where it is given, the name and the value.
-    Value(u32, Option<ValueType>, Vec<u8>, Box<Expr>),
+    Value(u32, Option<ValueType>, Letters, Box<Expr>),
     /// A protocol.
     Protocol(Protocol),
     /// A procedure: the line, the name, the formals, the body and the line of the colon that ends it.
-    Proc(u32, Vec<u8>, Option<Box<Formals>>, Process, u32),
+    Proc(u32, Letters, Option<Box<Formals>>, Process, u32),
 }
 
 impl Drop for Item {
@@ -214,9 +215,9 @@ impl Drop for Item {
 /// A protocol.
 pub enum Protocol {
     /// The line, the name and the parts of its messages.
-    Parts(u32, Vec<u8>, Box<OneOrMore<Part>>),
+    Parts(u32, Letters, Box<OneOrMore<Part>>),
     /// The line, the name, the line of `CASE`, the tags, and the line of the colon that ends it.
-    Tags(u32, Vec<u8>, u32, Vec<Tag>, u32),
+    Tags(u32, Letters, u32, Vec<Tag>, u32),
 }
 
 impl Drop for Protocol {
@@ -233,7 +234,7 @@ pub struct Tag {
     /// The line.
     pub line: u32,
     /// The name.
-    pub name: Vec<u8>,
+    pub name: Letters,
     /// The parts that follow it in a message.
     pub parts: Vec<Part>,
 }

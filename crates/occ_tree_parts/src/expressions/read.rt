@@ -1,10 +1,10 @@
 //! Reading an expression from the front of the words of a line.
 
 ghost use Rattle.std.specs.Prelude.{length};
-ghost use Rattle.occ_tree_grammar.specs.Many.{many};
 ghost use Rattle.occ_tree_grammar.specs.Fronts.{each_as, ReadsWords};
 ghost use Rattle.occ_tree_grammar.specs.Expressions.Trees.{expression_of, operand_of};
-ghost use Rattle.occ_tree_grammar.specs.Expressions.Reading.{type_mark_at, index_with, indices_with, operand_with, after_logic, after_operand, expression_with, expression_at};
+ghost use Rattle.occ_tree_grammar.specs.Expressions.Chains.{operands_behind};
+ghost use Rattle.occ_tree_grammar.specs.Expressions.Reading.{type_mark_at, index_with, indices_with, operand_with, after_operand, expression_with, expression_at};
 
 use crate::expressions::symbol::{close, close_bracket, int, joined, open_bracket, prim};
 use occ_text::{Key, Sym, Token};
@@ -82,7 +82,7 @@ fn operand(
     match tokens {
         [Token::Name(name), rest @ ..] => {
             let (subscripts, rest) = indices(alloc, left, line, rest)?;
-            let name = Vec::from_slice(alloc, name)?;
+            let name = name.copy()?;
             Ok((Operand::Variable(name, subscripts), rest))
         }
         [Token::Number(n), rest @ ..] => {
@@ -95,7 +95,7 @@ fn operand(
         }
         [Token::Str(text), rest @ ..] => {
             let (of, rest) = type_mark(line, rest)?;
-            let text = Vec::from_slice(alloc, text)?;
+            let text = text.copy()?;
             Ok((Operand::Literal(Literal::Text(text), of), rest))
         }
         [Token::Key(Key::True), rest @ ..] => Ok((Operand::Truth(true), rest)),
@@ -119,8 +119,7 @@ fn operands(
     logic: Logic,
     tokens: &[Token],
 ) -> Result<(Vec<Operand>, &[Token]), ParseFault>
-    ensures { ReadsWords (each_as operand_of) result (many
-        (after_logic logic) (operand_with (expression_at left)) (length tokens.now)) tokens.now }
+    ensures { ReadsWords (each_as operand_of) result (operands_behind logic left (length tokens.now)) tokens.now }
 {
     let mut all = Vec::new(alloc);
     let mut rest = tokens;

@@ -2,16 +2,16 @@
 
 ghost use Rattle.std.specs.Prelude.{◌≤◌, ◌+◌};
 ghost use Rattle.occ_tree_grammar.specs.Fronts.{ReadsLines};
-ghost use Rattle.occ_tree_grammar.specs.Lines.Views.{formals_of};
 ghost use Rattle.occ_tree_grammar.specs.Lines.HeadViews.{decl_head_of};
-ghost use Rattle.occ_tree_grammar.specs.Processes.Views.{decl_of, process_of};
+ghost use Rattle.occ_tree_grammar.specs.Processes.Views.{decl_of};
 ghost use Rattle.occ_tree_grammar.specs.Limits.{most_levels};
 ghost use Rattle.occ_tree_processes.specs.Heads.{decl_line_with, ReadsHeadLine};
-ghost use Rattle.occ_tree_processes.specs.Opened.{decl_left_at, decl_left_of, left_behind, procedure_with};
+ghost use Rattle.occ_tree_processes.specs.Opened.{decl_left_at, decl_left_of, left_behind, procedure_behind};
 
 use crate::processes::line::{end_line, line_of};
 use crate::processes::opened::OpenedDecl;
 use crate::processes::protocol::tags;
+use occ_held::letters::Letters;
 use occ_text::Line;
 use occ_tree_grammar::ParseFault;
 use occ_tree_grammar::lines::head::DeclHead;
@@ -96,13 +96,12 @@ pub fn procedure_ended(
     last: u32,
     level: u32,
     line: u32,
-    name: Vec<u8>,
+    name: Letters,
     formals: Option<Box<Formals>>,
     body: Process,
     lines: &[Line],
 ) -> Result<(Decl, &[Line]), ParseFault>
-    ensures { ReadsLines decl_of result (procedure_with
-        level line name.items (formals_of formals) (process_of body)) lines.now }
+    ensures { ReadsLines decl_of result (procedure_behind level line name formals body) lines.now }
 {
     let (end, rest) = end_line(last, level, lines)?;
     Ok((Decl::Item(Item::Proc(line, name, formals, body, end)), rest))

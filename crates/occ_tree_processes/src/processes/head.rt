@@ -3,10 +3,10 @@
 
 ghost use Rattle.std.specs.Prelude.{◌≡◌};
 ghost use Rattle.occ_tree_grammar.specs.Lines.HeadViews.{choice_head_of, option_head_of, arm_head_of, variant_head_of};
-ghost use Rattle.occ_tree_grammar.specs.Processes.Trees.{node, single_body, process as the_process, choice as the_choice, option as the_option, arm as the_arm, variant as the_variant};
-ghost use Rattle.occ_tree_grammar.specs.Processes.Views.{listed_decls, process_of, selection_of, variant_of};
+ghost use Rattle.occ_tree_grammar.specs.Processes.Trees.{process as the_process, choice as the_choice, option as the_option, arm as the_arm, variant as the_variant};
+ghost use Rattle.occ_tree_grammar.specs.Processes.Views.{selection_of, variant_of};
 ghost use Rattle.occ_tree_processes.specs.Heads.{line_with, ReadsHeadLine};
-ghost use Rattle.occ_tree_processes.specs.Opened.{opened_head};
+ghost use Rattle.occ_tree_processes.specs.Opened.{opened_head, option_over, variant_over};
 
 use crate::processes::line::line_of;
 use crate::processes::opened::{Opened, process_opened};
@@ -94,8 +94,7 @@ pub fn variant_line(
 
 /// The option with this line and the process under it.
 pub fn selected(declarations: Vec<Decl>, line: u32, head: OptionHead, body: Process) -> Selection
-    ensures { selection_of result ≡ node {k = the_option}
-        (listed_decls declarations) line (option_head_of head) (single_body (process_of body)) }
+    ensures { selection_of result ≡ option_over declarations line (option_head_of head) body }
 {
     match head {
         OptionHead::Values(values) => Selection::Values(declarations, line, values, body),
@@ -105,8 +104,7 @@ pub fn selected(declarations: Vec<Decl>, line: u32, head: OptionHead, body: Proc
 
 /// The variant with this line and the process under it.
 pub fn tagged(declarations: Vec<Decl>, line: u32, head: VariantHead, body: Process) -> Variant
-    ensures { variant_of result ≡ node {k = the_variant}
-        (listed_decls declarations) line (variant_head_of head) (single_body (process_of body)) }
+    ensures { variant_of result ≡ variant_over declarations line (variant_head_of head) body }
 {
     Variant::Tagged(declarations, line, head.tag, head.targets, body)
 }

@@ -7,6 +7,7 @@ ghost use Rattle.occ_tree_grammar.specs.Lines.HeadViews.{process_head_of};
 ghost use Rattle.occ_tree_grammar.specs.Processes.Views.{decl_of, process_of};
 ghost use Rattle.occ_tree_processes.specs.Opened.{around, in_order, opened_head};
 
+use occ_held::letters::Letters;
 use occ_tree_grammar::lines::head::ProcessHead;
 use occ_tree_grammar::tree::expr::Expr;
 use occ_tree_grammar::tree::line::{Action, Formals, Replicator, Var};
@@ -71,7 +72,7 @@ pub enum OpenedDecl {
     /// The declaration: no process stands in it.
     Whole(Decl),
     /// The first line of a procedure, before its body: the line, the name and the formals.
-    Proc(u32, Vec<u8>, Option<Box<Formals>>),
+    Proc(u32, Letters, Option<Box<Formals>>),
 }
 
 impl Around {

@@ -8,6 +8,7 @@ ghost use Rattle.occ_tree_grammar.specs.Processes.Reading.{at_level, tag_with, t
 ghost use Rattle.occ_tree_grammar.specs.Limits.{most_levels, brackets};
 
 use crate::processes::line::{case_line, end_line, line_of, lines_at, too_deep};
+use occ_held::letters::Letters;
 use occ_text::Line;
 use occ_tree_grammar::ParseFault;
 use occ_tree_grammar::tree::process::{Protocol, Tag};
@@ -80,12 +81,12 @@ fn tags_inside(
     left: u32,
     level: u32,
     line: u32,
-    name: Vec<u8>,
+    name: Letters,
     lines: &[Line],
 ) -> Result<(Protocol, &[Line]), ParseFault>
     requires { level + left ≤ most_levels }
     ensures { ReadsLines
-        protocol_of result (tags_with brackets left level line name.items) lines.now }
+        protocol_of result (tags_with brackets left level line name) lines.now }
 {
     let below = level + 1;
     let (case, rest) = case_line(last, below, lines)?;
@@ -101,12 +102,12 @@ pub fn tags(
     left: u32,
     level: u32,
     line: u32,
-    name: Vec<u8>,
+    name: Letters,
     lines: &[Line],
 ) -> Result<(Protocol, &[Line]), ParseFault>
     requires { level + left ≤ most_levels }
     ensures { ReadsLines
-        protocol_of result (tags_at brackets left level line name.items) lines.now }
+        protocol_of result (tags_at brackets left level line name) lines.now }
 {
     if left == 0 {
         return Err(too_deep(last, level + 1, lines));

@@ -10,8 +10,8 @@ returns-in-Err c = listed_nothing _ _ _ _ _ _ _ _ c.in_ok-protocol-in-Items.ensu
 
 pub returns-in-Ok-stored : goal.returns-in-Ok-stored
 returns-in-Ok-stored c =
-    tagged_gives _ _ _ _ _ _ _ _ c.in_ok-protocol-in-Tagged.ensures c.as_slice-in-Tagged.ensures _ _ _ _ _ c.in-Tagged.is c.deref.ensures.value c.deref-in-Tagged.ensures.value c.in_ok-tag-in-Tagged.ensures c.in_ok-parts-in-Tagged.ensures _ c.in-Ok-stored.ensures
+    tagged_gives _ _ _ _ _ _ _ _ c.in_ok-protocol-in-Tagged.ensures c.as_slice-in-Tagged.ensures _ _ _ _ c.in-Tagged.is c.deref.ensures.value c.in_ok-tag-in-Tagged.ensures c.in_ok-parts-in-Tagged.ensures _ c.in-Ok-stored.ensures
 
 pub returns-in-Err-stored : goal.returns-in-Err-stored
 returns-in-Err-stored c =
-    tagged_nothing _ _ _ _ _ _ _ _ c.in_ok-protocol-in-Tagged.ensures c.as_slice-in-Tagged.ensures _ _ _ _ _ c.in-Tagged.is c.deref.ensures.value c.deref-in-Tagged.ensures.value c.in_ok-tag-in-Tagged.ensures c.in_ok-parts-in-Tagged.ensures _ c.in-Err-stored.ensures
+    tagged_nothing _ _ _ _ _ _ _ _ c.in_ok-protocol-in-Tagged.ensures c.as_slice-in-Tagged.ensures _ _ _ _ c.in-Tagged.is c.deref.ensures.value c.in_ok-tag-in-Tagged.ensures c.in_ok-parts-in-Tagged.ensures _ c.in-Err-stored.ensures

@@ -5,5 +5,5 @@ use Rattle.occ_check_acting.proofs.call.named_operand.Goals as goal
 
 pub returns-in-Variable : goal.returns-in-Variable
 returns-in-Variable c =
-    rw (c.in-Variable.is, c.deref.ensures.value, c.deref-in-Variable.ensures.value)
-    (ap (λ (es : Expressions). Some (c.in-Variable.name.items, es)) (expressions_made c.in-Variable.subscripts))
+    rw (c.in-Variable.is, c.deref.ensures.value)
+    (ap (λ (es : Expressions). Some (c.in-Variable.name, es)) (expressions_made c.in-Variable.subscripts))

@@ -8,14 +8,14 @@ returns-in_err-one c =
     let r =
     formal_stops (names_in c.args.context.scope) c.args.context.line c.args.spec.now c.args.formals.now c.loop-formal.formal-index c.loop-formal.all.items c.loop-formal.before.now
     c.spec_after-before.result.now c.formal-item.result c.loop-formal-test.true c.formal-item.is c.loop-formal.invariant c.spec_after-before.ensures c.in_err-one.field-0.0
-    (rw c.deref.ensures.value at c.in_err-one.ensures) in
+    c.in_err-one.ensures in
     search rules
 
 pub loop-formal-preserved : goal.loop-formal-preserved
 loop-formal-preserved c =
     formal_next (names_in c.args.context.scope) c.args.context.line c.args.spec.now c.args.formals.now c.loop-formal.formal-index c.loop-formal.all.items c.loop-formal.before.now
     c.spec_after-before.result.now c.formal-item.result c.loop-formal-test.true c.formal-item.is c.loop-formal.invariant c.spec_after-before.ensures c.in_ok-one.one
-    c.push.new.self.items (rw c.deref.ensures.value at c.in_ok-one.ensures) c.in_ok-push.ensures.items
+    c.push.new.self.items c.in_ok-one.ensures c.in_ok-push.ensures.items
 
 pub returns : goal.returns
 returns c =

@@ -16,7 +16,7 @@ loop-left-preserved c =
     let some = c.loop-left-test.true in
     let below : i < length tags = omega (arith, within, some) in
     let next : c.loop-left.left ≡ i + 1 = omega (arith, some) in
-    let named : c.in_ok-name.name.items ≡ c.index-tags-left.result.name = search rules in (
+    let named : c.in_ok-name.name ≡ c.index-tags-left.result.name = search rules in (
       omega (arith, within),
       one_before tags i c.index-tags-left.result c.loop-left.numbers.entries c.insert.new.self.entries c.in_ok-name.name below (named ∙ ap (λ t. t.name) c.index-tags-left.is) c.in_ok-insert.ensures.entries
           (λ x. c.loop-left.invariant.1 x ∙ ap (λ k. tag_number (drop k tags) x k) next),

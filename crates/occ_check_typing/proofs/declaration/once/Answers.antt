@@ -1,4 +1,4 @@
-use Rattle.std.proofs.Common.{◌≡◌, ◌∙◌, ap, true, false, map}
+use Rattle.std.proofs.Common.{◌≡◌, ◌∙◌, ap, true, false}
 use Rattle.std.specs.Prelude.{not}
 use Rattle.occ_check_meaning.specs.Scope.{is_among, keep}
 use Rattle.occ_check_typing.proofs.Twice.{begins, clashes, goes_on, keys_more, told_among}
@@ -11,15 +11,15 @@ loop-name-init c = begins c.args.names.now c.new-seen.result.keys c.new-seen.ens
 pub returns-then-not-added : goal.returns-then-not-added
 returns-then-not-added c =
     let e = c.in_ok-added.ensures.added in
-    let same = c.in_ok-from_slice.ensures.items ∙ c.as_slice.ensures in
-    let among : is_among c.name-item.result (map (λ v. v.items) c.loop-name.seen.keys) ≡ true = told_among c.loop-name.seen.keys c.in_ok-from_slice.field-0 c.name-item.result c.in_ok-added.added same e ∙ ap not c.if-not-added.true in
-    let no = clashes _ _ (map (λ v. v.items) c.loop-name.seen.keys) c.name-item.result c.loop-name-test.true c.name-item.is among c.loop-name.invariant in
+    let same = c.in_ok-copy.ensures in
+    let among : is_among c.name-item.result c.loop-name.seen.keys ≡ true = told_among c.loop-name.seen.keys c.in_ok-copy.field-0 c.name-item.result c.in_ok-added.added same e ∙ ap not c.if-not-added.true in
+    let no = clashes _ _ c.loop-name.seen.keys c.name-item.result c.loop-name-test.true c.name-item.is among c.loop-name.invariant in
     refused c.twice.result _ (ap (λ b. keep b c.args.names.now) no)
 
 pub loop-name-preserved : goal.loop-name-preserved
 loop-name-preserved c =
     let e = c.in_ok-added.ensures.added in
-    let same = c.in_ok-from_slice.ensures.items ∙ c.as_slice.ensures in
-    let among : is_among c.name-item.result (map (λ v. v.items) c.loop-name.seen.keys) ≡ false = told_among c.loop-name.seen.keys c.in_ok-from_slice.field-0 c.name-item.result c.in_ok-added.added same e ∙ ap not c.if-not-added.false in
-    goes_on _ _ (map (λ v. v.items) c.loop-name.seen.keys) _ c.name-item.result c.loop-name-test.true c.name-item.is among
-    (keys_more c.loop-name.seen.keys _ c.in_ok-from_slice.field-0 c.name-item.result same among c.in_ok-added.ensures.keys) c.loop-name.invariant
+    let same = c.in_ok-copy.ensures in
+    let among : is_among c.name-item.result c.loop-name.seen.keys ≡ false = told_among c.loop-name.seen.keys c.in_ok-copy.field-0 c.name-item.result c.in_ok-added.added same e ∙ ap not c.if-not-added.false in
+    goes_on _ _ c.loop-name.seen.keys _ c.name-item.result c.loop-name-test.true c.name-item.is among
+    (keys_more c.loop-name.seen.keys _ c.in_ok-copy.field-0 c.name-item.result same among c.in_ok-added.ensures.keys) c.loop-name.invariant

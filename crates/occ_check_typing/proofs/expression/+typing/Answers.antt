@@ -31,12 +31,12 @@ typed_subscripts-returns t c = subscripted_last _ _ _ _ _ c.loop-e-test.false c.
 pub size_of_operand-returns-in-Variable : goal.size_of_operand-returns-in-Variable
 size_of_operand-returns-in-Variable t c =
     subst (λ y. Gives (λ n. n) c.size_of_variable.result (size_of_operand (names_in c.args.context.scope) c.args.context.line y))
-    (variable_given _ _ _ _ _ c.in-Variable.is c.deref.ensures.value c.deref-in-Variable.ensures.value) c.size_of_variable.ensures
+    (variable_given _ _ _ _ c.in-Variable.is c.deref.ensures.value) c.size_of_variable.ensures
 
 pub typed_operand-returns-in-Variable : goal.typed_operand-returns-in-Variable
 typed_operand-returns-in-Variable t c =
     subst (λ y. Gives typed_of c.typed_variable.result (typed_operand (names_in c.args.context.scope) c.args.context.line y))
-    (variable_given _ _ _ _ _ c.in-Variable.is c.deref.ensures.value c.deref-in-Variable.ensures.value) c.typed_variable.ensures
+    (variable_given _ _ _ _ c.in-Variable.is c.deref.ensures.value) c.typed_variable.ensures
 
 pub typed-returns-in-Ok : goal.typed-returns-in-Ok
 typed-returns-in-Ok t c =

@@ -9,4 +9,4 @@ use Rattle.occ_check_typing.proofs.item.name_of_operand.Goals as goal
 pub returns-in-Variable : goal.returns-in-Variable
 returns-in-Variable c =
     subst (λ y. Gives (λ x. x.now) c.name_without.result (as_name (from (alone y))))
-    (variable_given _ _ _ _ _ c.in-Variable.is c.deref.ensures.value c.deref-in-Variable.ensures.value) c.name_without.ensures
+    (variable_given _ _ _ _ c.in-Variable.is c.deref.ensures.value) c.name_without.ensures

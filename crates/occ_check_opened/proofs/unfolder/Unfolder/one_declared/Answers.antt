@@ -19,7 +19,7 @@ returns-in_err-opened-in-Names-clause-entered c =
     refused_with c.in_err-opened-in-Names.field-0.0 _ _
     (λ none. names_form c.args.declaration.now v.line v.sizes v.sort v.names c.deref.result.now c.deref-in-Names.result.now v.is c.deref.ensures.value c.deref-in-Names.ensures (meant_innermost u) c.args.depth (counted u)
     ∙ names_refused
-    (λ ns. meant.names_declared ns v.line c.args.depth (expressions (map expression_of c.deref.result.now)) (sort_of c.deref-in-Names.result.now) (v.names.first.items ∷ map (λ x. x.items) v.names.others.items) (counted u))
+    (λ ns. meant.names_declared ns v.line c.args.depth (expressions (map expression_of c.deref.result.now)) (sort_of c.deref-in-Names.result.now) (v.names.first ∷ v.names.others.items) (counted u))
     (innermost_at u) (names_in c.inside.result) (names_are c.inside.result (innermost_at u) c.inside.ensures) none)
     c.in_err-opened-in-Names.ensures in
     search rules
@@ -31,7 +31,7 @@ returns-in_ok-opened-in-Names-clause-entered c =
     subst (Enters c.opened_names.result c.opened_names.new.self)
     (sym (names_form c.args.declaration.now v.line v.sizes v.sort v.names c.deref.result.now c.deref-in-Names.result.now v.is c.deref.ensures.value c.deref-in-Names.ensures (meant_innermost u) c.args.depth (counted u)))
     (enters_names c.opened_names.result c.opened_names.new.self (innermost_at u)
-    (λ ns. meant.names_declared ns v.line c.args.depth (expressions (map expression_of c.deref.result.now)) (sort_of c.deref-in-Names.result.now) (v.names.first.items ∷ map (λ x. x.items) v.names.others.items) (counted u))
+    (λ ns. meant.names_declared ns v.line c.args.depth (expressions (map expression_of c.deref.result.now)) (sort_of c.deref-in-Names.result.now) (v.names.first ∷ v.names.others.items) (counted u))
     (names_in c.inside.result) c.in_ok-opened-in-Names.opened c.names_declared.new.numbers (names_are c.inside.result (innermost_at u) c.inside.ensures) c.in_ok-opened-in-Names.ensures
     c.opened_names.ensures.scope c.opened_names.ensures.heads c.opened_names.ensures.numbers c.opened_names.ensures.memory)
 

@@ -58,4 +58,4 @@ linked-returns-in_ok-others-in-Logic t c =
 pub operand-returns-in_ok-name-in-Name : goal.operand-returns-in_ok-name-in-Name
 unfolding operand_with
 operand-returns-in_ok-name-in-Name t c =
-    subst (λ (r : Expressions). operand_with (expression_at c.args.left) (words c.args.tokens.now) ≡ Some (variable c.in_ok-name-in-Name.name.items r, words c.in_ok-subscripts-in-Name.rest.now)) (sym (expressions_made c.in_ok-subscripts-in-Name.subscripts)) (grind (arith, common_steps, c.in_ok-subscripts-in-Name.ensures, c.in_ok-name-in-Name.ensures.items))
+    subst (λ (r : Expressions). operand_with (expression_at c.args.left) (words c.args.tokens.now) ≡ Some (variable c.in_ok-name-in-Name.name r, words c.in_ok-subscripts-in-Name.rest.now)) (sym (expressions_made c.in_ok-subscripts-in-Name.subscripts)) (grind (arith, common_steps, c.in_ok-subscripts-in-Name.ensures, c.in_ok-name-in-Name.ensures))

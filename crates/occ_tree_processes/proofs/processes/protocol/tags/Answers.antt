@@ -5,7 +5,7 @@ use Rattle.occ_tree_parts.proofs.Steps.{no_tags, next_tags, fails_none}
 use Rattle.occ_tree_processes.proofs.processes.protocol.tags.Goals as goal
 
 pub returns-then-left-eq0 : goal.returns-then-left-eq0
-returns-then-left-eq0 c = fails_none c.too_deep.result _ (no_tags (most_levels + 1) c.args.left c.args.level c.args.line c.args.name.items (logical_lines c.args.lines.now) c.if-left-eq0.true)
+returns-then-left-eq0 c = fails_none c.too_deep.result _ (no_tags (most_levels + 1) c.args.left c.args.level c.args.line c.args.name (logical_lines c.args.lines.now) c.if-left-eq0.true)
 
 pub returns : goal.returns
-returns c = rw (next_tags (most_levels + 1) c.args.left c.args.level c.args.line c.args.name.items (logical_lines c.args.lines.now) c.if-left-eq0.false) c.tags_inside.ensures
+returns c = rw (next_tags (most_levels + 1) c.args.left c.args.level c.args.line c.args.name (logical_lines c.args.lines.now) c.if-left-eq0.false) c.tags_inside.ensures
