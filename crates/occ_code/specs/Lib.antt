@@ -5,5 +5,6 @@ pub mod Laws
 pub mod Emitted
 pub mod Examples
 pub mod Emits
+pub mod Pieces
 pub mod Cells
 pub mod CodeOf

@@ -1,12 +1,11 @@
 //! The code round the arms of an ALT, and round choices and arms for each value of an index.
-ghost use Rattle.std.specs.Prelude.{◌≡◌, ◌∷◌, [], ◌-◌, ◌+◌, ◌<◌, OnOk, length, pos};
-ghost use Rattle.occ_term.specs.Storing.{index_of};
-ghost use Rattle.occ_term.specs.View.{expression_of, place_of, replicator_of, test_of};
-ghost use Rattle.occ_machine.specs.declared.instr.Instr.TheVariants as instructions;
-ghost use Rattle.occ_code.specs.Expressions.{counting_code, input_opening, skip_opening};
-ghost use Rattle.occ_code.specs.Emits.{AddsCode, EmitsAround};
+ghost use Rattle.std.specs.Prelude.{◌≡◌, ◌∷◌, [], ◌-◌, ◌+◌, ◌<◌, length, pos};
+ghost use Rattle.occ_term.specs.View.{expression_of};
+ghost use Rattle.occ_machine.specs.declared.instr.Instr.TheVariants.{PassArms};
+ghost use Rattle.occ_code.specs.Expressions.{skip_opening};
 ghost use Rattle.occ_machine.specs.declared.instr.Instr.{Instr};
-ghost use Rattle.occ_code.specs.Emitted.{alt_code, each_choice_code, each_value_code};
+ghost use Rattle.occ_code.specs.Emitted.{alt_code};
+ghost use Rattle.occ_code.specs.Pieces.{AddsPiece, AddsAround, choices_over, opening_input, passing_or_taken, since, values_over};
 
 use crate::expressions::{emit_counting, emit_expression, emit_place_before};
 use crate::pieces::{emitted, put, put_at, since};
@@ -29,9 +28,8 @@ pub(crate) fn emit_skip_opening(
     end: usize,
     code: &mut Vec<Instr<u32>>,
 ) -> Result<(), AllocError>
-    ensures { OnOk result
-        (AddsCode code.old (skip_opening (expression_of test.now) (length code.old.items - end + 1))
-        code.new) }
+    ensures { AddsPiece result code.old code.new
+        (skip_opening (expression_of test.now) (since end code.old + 1)) }
 {
     let number = arm_number(code, end);
     put(code, Instr::OpenSkip(number))?;
@@ -48,9 +46,8 @@ pub(crate) fn emit_input_opening(
     end: usize,
     code: &mut Vec<Instr<u32>>,
 ) -> Result<(), AllocError>
-    ensures { OnOk result
-        (AddsCode code.old (input_opening (test_of test.now) (place_of channel.now)
-        (length code.old.items - end + 1)) code.new) }
+    ensures { AddsPiece result code.old code.new
+        (opening_input test.now channel.now (since end code.old + 1)) }
 {
     let number = arm_number(code, end);
     let before = emitted(code);
@@ -72,10 +69,7 @@ pub(crate) fn emit_taken(
     end: usize,
     code: &mut Vec<Instr<u32>>,
 ) -> Result<(), AllocError>
-    ensures { OnOk result
-        (AddsCode code.old
-        (instructions.PassArms (before - end) (1 + length code.old.items - before)
-        ∷ instructions.IfTaken (length code.old.items - opened) ∷ []) code.new) }
+    ensures { AddsPiece result code.old code.new (passing_or_taken end before opened code.old) }
 {
     put(code, Instr::IfTaken(since(code, opened)))?;
     emit_passing(before, end, code)?;
@@ -88,9 +82,8 @@ pub(crate) fn emit_passing(
     end: usize,
     code: &mut Vec<Instr<u32>>,
 ) -> Result<(), AllocError>
-    ensures { OnOk result
-        (AddsCode code.old
-        (instructions.PassArms (before - end) (length code.old.items - before) ∷ []) code.new) }
+    ensures { AddsPiece result code.old code.new
+        (PassArms (before - end) (since before code.old) ∷ []) }
 {
     let last = before.saturating_sub(end);
     put(code, Instr::PassArms(last, since(code, before)))?;
@@ -105,9 +98,7 @@ pub(crate) fn emit_next(
     code: &mut Vec<Instr<u32>>,
 ) -> Result<(), AllocError>
     requires { place < length code.old.items }
-    ensures { OnOk result
-        (EmitsAround place code.old (λ body. each_choice_code (index_of (replicator_of over.now))
-        (counting_code (replicator_of over.now)) body []) code.new) }
+    ensures { AddsAround result place code.old code.new (choices_over over.now) }
 {
     let back = since(code, place);
     put_at(code, place, Instr::BackToChoice(back));
@@ -124,9 +115,7 @@ pub(crate) fn emit_each_value(
     code: &mut Vec<Instr<u32>>,
 ) -> Result<(), AllocError>
     requires { place < length code.old.items }
-    ensures { OnOk result
-        (EmitsAround place code.old (each_value_code (index_of (replicator_of over.now))
-        (counting_code (replicator_of over.now))) code.new) }
+    ensures { AddsAround result place code.old code.new (values_over over.now) }
 {
     let before = emitted(code);
     put(code, Instr::Push(0))?;
@@ -142,8 +131,7 @@ pub(crate) fn emit_alt(
     code: &mut Vec<Instr<u32>>,
 ) -> Result<(), AllocError>
     requires { place < length code.old.items }
-    ensures { OnOk result
-        (EmitsAround place code.old (alt_code pri) code.new) }
+    ensures { AddsAround result place code.old code.new (alt_code pri) }
 {
     let back = since(code, place).saturating_sub(1);
     put_at(code, place, Instr::ChooseArm(pri, back));

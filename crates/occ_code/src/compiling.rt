@@ -1,13 +1,12 @@
 //! Compiling programs.
 ghost use Rattle.std.specs.Prelude.{◌≡◌, ◌≤◌, ◌-◌, ◌^◌, IfOk, IfErr, map, min};
 ghost use Rattle.std.specs.Arc.{arc_value};
-ghost use Rattle.occ_term.specs.Processes.{processes_of};
 ghost use Rattle.occ_term.specs.declared.fault.Errors.{Errors};
 ghost use Rattle.occ_term.specs.View.{term_of};
 ghost use Rattle.occ_machine.specs.Compiled.{most_instructions};
 ghost use Rattle.occ_machine.specs.Compiled as compiled;
-ghost use Rattle.occ_code.specs.CodeOf.{CodeRefuses, HasBodiesOf, IsCodeOf, IsQuantum, IsRefused};
-ghost use Rattle.occ_code.specs.Within.{AllWithin};
+ghost use Rattle.occ_code.specs.CodeOf.{CodeRefuses, HasBodiesOf, IsCodeOf, IsQuantum};
+ghost use Rattle.occ_code.specs.Pieces.{RefusedIfWithin};
 
 use crate::processes::bodies_of;
 use occ_machine::{Body, Code, copy_channels};
@@ -105,9 +104,7 @@ fn program_bodies(
     ensures bodies { IfOk result (HasBodiesOf (term_of term.now) quantum) }
     ensures small { IfOk result
         (λ bodies. compiled.instructions_in (map arc_value bodies.items) ≤ most_instructions) }
-    ensures refused { IfErr result
-        (λ fault. AllWithin (processes_of (term_of term.now))
-        → IsRefused fault (term_of term.now)) }
+    ensures refused { IfErr result (RefusedIfWithin (term_of term.now)) }
 {
     let bodies = bodies_of(alloc, quantum, term)?;
     if instructions_in(&bodies) > MOST_INSTRUCTIONS {

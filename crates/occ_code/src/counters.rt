@@ -1,8 +1,8 @@
 //! How many counters a term wants.
 ghost use Rattle.std.specs.Prelude.{◌≡◌, ◌+◌, ◌-◌, ◌^◌, max, min};
-ghost use Rattle.occ_term.specs.Terms as terms;
 ghost use Rattle.occ_term.specs.View.{arm_of, arms_of, reception_of, choice_of, choices_of, option_of, options_of, term_of, terms_of, variant_of, variants_of};
 ghost use Rattle.occ_code.specs.Emitted.{counters_of, counters_of_arms, counters_of_list, counters_of_choices, counters_of_options, counters_of_else, counters_of_terms, counters_of_variants};
+ghost use Rattle.occ_code.specs.Pieces.{CountsBefore};
 
 use occ_term::{Arm, Choice, Reception, Selection, Term, Variant};
 
@@ -79,8 +79,7 @@ fn counters_in_arms(arms: &[Arm]) -> u64
 /// Of an arm before others, which have so many.
 #[cycle(counters)]
 fn counters_in_arm(arm: &Arm, most: u64) -> u64
-    ensures { (others : terms.Arms) → most ≡ min (counters_of_arms others) (2 ^ 64 - 1) → result
-        ≡ min (counters_of_arms (arm_of arm.now others)) (2 ^ 64 - 1) }
+    ensures { CountsBefore counters_of_arms (arm_of arm.now) most result }
 {
     match arm {
         Arm::SkipArm(_, body) => {
@@ -128,8 +127,7 @@ fn counters_in_variants(variants: &[Variant]) -> u64
 /// Of a variant before others, which have so many.
 #[cycle(counters)]
 fn counters_in_variant(variant: &Variant, most: u64) -> u64
-    ensures { (others : terms.Variants) → most ≡ min (counters_of_variants others) (2 ^ 64 - 1)
-        → result ≡ min (counters_of_variants (variant_of variant.now others)) (2 ^ 64 - 1) }
+    ensures { CountsBefore counters_of_variants (variant_of variant.now) most result }
 {
     let own = counters_in(&variant.body);
     larger(own, most)
@@ -151,8 +149,7 @@ fn counters_in_choices(choices: &[Choice]) -> u64
 /// Of a choice before others, which have so many.
 #[cycle(counters)]
 fn counters_in_choice(choice: &Choice, most: u64) -> u64
-    ensures { (others : terms.Choices) → most ≡ min (counters_of_choices others) (2 ^ 64 - 1)
-        → result ≡ min (counters_of_choices (choice_of choice.now others)) (2 ^ 64 - 1) }
+    ensures { CountsBefore counters_of_choices (choice_of choice.now) most result }
 {
     match choice {
         Choice::When(_, body) => {
@@ -186,8 +183,7 @@ fn counters_in_options(options: &[Selection]) -> u64
 /// Of an option before others, which have so many.
 #[cycle(counters)]
 fn counters_in_option(option: &Selection, most: u64) -> u64
-    ensures { (others : terms.Options) → most ≡ min (counters_of_options others) (2 ^ 64 - 1)
-        → result ≡ min (counters_of_options (option_of option.now others)) (2 ^ 64 - 1) }
+    ensures { CountsBefore counters_of_options (option_of option.now) most result }
 {
     match option {
         Selection::Among(_, _, body) => {

@@ -1,11 +1,11 @@
 //! The code of expressions, items, targets and declarations.
-ghost use Rattle.std.specs.Prelude.{◌≡◌, ◌∷◌, [], ◌++◌, ◌*◌, ◌<◌, ◌^◌, OnOk, map, min, option_map};
+ghost use Rattle.std.specs.Prelude.{◌≡◌, ◌∷◌, [], ◌++◌, ◌*◌, ◌<◌, ◌^◌, min, option_map};
 ghost use Rattle.occ_term.specs.Messages.{product as product_of};
 ghost use Rattle.occ_term.specs.ArraySizes.{AreFew};
-ghost use Rattle.occ_term.specs.Terms.{OfOne, OfMany, OfCounted, Into, IntoCounted, Naming};
-ghost use Rattle.occ_term.specs.View.{expression_of, place_of, subscripts, array_of, item_of, items_of, target_of, targets_of, declaration_of, declarations_of, replicator_of};
+ghost use Rattle.occ_term.specs.Terms.{OfOne, OfMany, Into, IntoCounted, Naming};
+ghost use Rattle.occ_term.specs.View.{expression_of, place_of, array_of, item_of, items_of, target_of, targets_of, declaration_of, declarations_of, replicator_of};
 ghost use Rattle.occ_code.specs.Expressions.{expression_code, place_code, subscripts_code, components_at, item_code, items_code, target_code, targets_code, declaration_code, declarations_code, storing_code, counting_code, assignment_code, single_target, single_value};
-ghost use Rattle.occ_code.specs.Emits.{AddsCode};
+ghost use Rattle.occ_code.specs.Pieces.{AddsPiece, item_of_counted, target_of_counted, subscripts_among};
 
 use crate::pieces::{emitted, put, since};
 use occ_machine::Instr;
@@ -19,7 +19,7 @@ pub(crate) fn emit_expression(
     e: &TermExpr,
     code: &mut Vec<Instr<u32>>,
 ) -> Result<(), AllocError>
-    ensures { OnOk result (AddsCode code.old (expression_code (expression_of e.now)) code.new) }
+    ensures { AddsPiece result code.old code.new (expression_code (expression_of e.now)) }
 {
     match e {
         TermExpr::Constant(value) => put(code, Instr::Push(*value)),
@@ -67,8 +67,7 @@ fn emit_before(
     last: Instr<u32>,
     code: &mut Vec<Instr<u32>>,
 ) -> Result<(), AllocError>
-    ensures { OnOk result
-        (AddsCode code.old (expression_code (expression_of e.now) ++ last ∷ []) code.new) }
+    ensures { AddsPiece result code.old code.new (expression_code (expression_of e.now) ++ last ∷ []) }
 {
     put(code, last)?;
     emit_expression(alloc, e, code)?;
@@ -83,8 +82,7 @@ pub(crate) fn emit_place_before(
     last: Instr<u32>,
     code: &mut Vec<Instr<u32>>,
 ) -> Result<(), AllocError>
-    ensures { OnOk result
-        (AddsCode code.old (place_code (place_of place.now) ++ last ∷ []) code.new) }
+    ensures { AddsPiece result code.old code.new (place_code (place_of place.now) ++ last ∷ []) }
 {
     put(code, last)?;
     emit_place(alloc, place, code)?;
@@ -98,7 +96,7 @@ pub(crate) fn emit_place(
     place: &Place,
     code: &mut Vec<Instr<u32>>,
 ) -> Result<(), AllocError>
-    ensures { OnOk result (AddsCode code.old (place_code (place_of place.now)) code.new) }
+    ensures { AddsPiece result code.old code.new (place_code (place_of place.now)) }
 {
     place.sizes.few();
     let sizes = place.sizes.as_slice();
@@ -116,9 +114,8 @@ fn emit_subscripts(
     code: &mut Vec<Instr<u32>>,
 ) -> Result<(), AllocError>
     requires { AreFew sizes.now }
-    ensures { OnOk result
-        (AddsCode code.old
-        (subscripts_code (subscripts (map expression_of list.now)) line sizes.now) code.new) }
+    ensures { AddsPiece result code.old code.new
+        (subscripts_code (subscripts_among list.now) line sizes.now) }
 {
     let mut count = shorter(list.len(), sizes.len());
     let mut stride = product(&sizes[count..]);
@@ -171,7 +168,7 @@ fn components(place: &Place) -> u64
 
 /// A part of a message.
 fn emit_item(alloc: Global, item: &Item, code: &mut Vec<Instr<u32>>) -> Result<(), AllocError>
-    ensures { OnOk result (AddsCode code.old (item_code (item_of item.now)) code.new) }
+    ensures { AddsPiece result code.old code.new (item_code (item_of item.now)) }
 {
     match item {
         Item::One(primitive, value) => emit_value(alloc, *primitive, value, code),
@@ -188,8 +185,7 @@ fn emit_value(
     value: &TermExpr,
     code: &mut Vec<Instr<u32>>,
 ) -> Result<(), AllocError>
-    ensures { OnOk result
-        (AddsCode code.old (item_code (OfOne primitive (expression_of value.now))) code.new) }
+    ensures { AddsPiece result code.old code.new (item_code (OfOne primitive (expression_of value.now))) }
 {
     put(code, Instr::PartOne(primitive))?;
     emit_expression(alloc, value, code)?;
@@ -202,8 +198,7 @@ fn emit_array(
     array: &Array,
     code: &mut Vec<Instr<u32>>,
 ) -> Result<(), AllocError>
-    ensures { OnOk result
-        (AddsCode code.old (item_code (OfMany primitive (array_of array.now))) code.new) }
+    ensures { AddsPiece result code.old code.new (item_code (OfMany primitive (array_of array.now))) }
 {
     match array {
         Array::Cells(place) => {
@@ -225,9 +220,8 @@ fn emit_counted(
     array: &Array,
     code: &mut Vec<Instr<u32>>,
 ) -> Result<(), AllocError>
-    ensures { OnOk result
-        (AddsCode code.old (item_code
-        (OfCounted primitive line (expression_of count.now) (array_of array.now))) code.new) }
+    ensures { AddsPiece result code.old code.new
+        (item_code (item_of_counted primitive line count.now array.now)) }
 {
     match array {
         Array::Cells(place) => {
@@ -249,7 +243,7 @@ pub(crate) fn emit_items(
     items: &[Item],
     code: &mut Vec<Instr<u32>>,
 ) -> Result<(), AllocError>
-    ensures { OnOk result (AddsCode code.old (items_code (items_of items.now)) code.new) }
+    ensures { AddsPiece result code.old code.new (items_code (items_of items.now)) }
 {
     let mut count = items.len();
     while count > 0 {
@@ -261,7 +255,7 @@ pub(crate) fn emit_items(
 
 /// A target.
 fn emit_target(alloc: Global, target: &Target, code: &mut Vec<Instr<u32>>) -> Result<(), AllocError>
-    ensures { OnOk result (AddsCode code.old (target_code (target_of target.now)) code.new) }
+    ensures { AddsPiece result code.old code.new (target_code (target_of target.now)) }
 {
     match target {
         Target::Into(place) => {
@@ -281,9 +275,7 @@ fn emit_both_places(
     array: &Place,
     code: &mut Vec<Instr<u32>>,
 ) -> Result<(), AllocError>
-    ensures { OnOk result
-        (AddsCode code.old
-        (target_code (IntoCounted line (place_of count.now) (place_of array.now))) code.new) }
+    ensures { AddsPiece result code.old code.new (target_code (target_of_counted line count.now array.now)) }
 {
     let counts = components(count);
     let all = components(array);
@@ -297,7 +289,7 @@ fn emit_targets(
     targets: &[Target],
     code: &mut Vec<Instr<u32>>,
 ) -> Result<(), AllocError>
-    ensures { OnOk result (AddsCode code.old (targets_code (targets_of targets.now)) code.new) }
+    ensures { AddsPiece result code.old code.new (targets_code (targets_of targets.now)) }
 {
     let mut count = targets.len();
     while count > 0 {
@@ -313,7 +305,7 @@ pub(crate) fn emit_storing(
     targets: &[Target],
     code: &mut Vec<Instr<u32>>,
 ) -> Result<(), AllocError>
-    ensures { OnOk result (AddsCode code.old (storing_code (targets_of targets.now)) code.new) }
+    ensures { AddsPiece result code.old code.new (storing_code (targets_of targets.now)) }
 {
     put(code, Instr::StoreParts)?;
     emit_targets(alloc, targets, code)?;
@@ -327,8 +319,7 @@ pub(crate) fn emit_naming(
     value: &Item,
     code: &mut Vec<Instr<u32>>,
 ) -> Result<(), AllocError>
-    ensures { OnOk result
-        (AddsCode code.old (declaration_code (Naming first (item_of value.now))) code.new) }
+    ensures { AddsPiece result code.old code.new (declaration_code (Naming first (item_of value.now))) }
 {
     put(code, Instr::StoreNamed(first))?;
     emit_item(alloc, value, code)?;
@@ -341,8 +332,7 @@ pub(crate) fn emit_declaration(
     declaration: &Declaration,
     code: &mut Vec<Instr<u32>>,
 ) -> Result<(), AllocError>
-    ensures { OnOk result
-        (AddsCode code.old (declaration_code (declaration_of declaration.now)) code.new) }
+    ensures { AddsPiece result code.old code.new (declaration_code (declaration_of declaration.now)) }
 {
     match declaration {
         Declaration::Clearing(_, first, count) => put(code, Instr::ClearCells(*first, *count)),
@@ -356,8 +346,7 @@ pub(crate) fn emit_declarations(
     declarations: &[Declaration],
     code: &mut Vec<Instr<u32>>,
 ) -> Result<(), AllocError>
-    ensures { OnOk result
-        (AddsCode code.old (declarations_code (declarations_of declarations.now)) code.new) }
+    ensures { AddsPiece result code.old code.new (declarations_code (declarations_of declarations.now)) }
 {
     let mut count = declarations.len();
     while count > 0 {
@@ -373,7 +362,7 @@ pub(crate) fn emit_counting(
     over: &Replicator,
     code: &mut Vec<Instr<u32>>,
 ) -> Result<(), AllocError>
-    ensures { OnOk result (AddsCode code.old (counting_code (replicator_of over.now)) code.new) }
+    ensures { AddsPiece result code.old code.new (counting_code (replicator_of over.now)) }
 {
     put(code, Instr::CountedFrom(over.line))?;
     emit_expression(alloc, &over.count, code)?;
@@ -389,9 +378,8 @@ pub(crate) fn emit_assignment(
     values: &[Item],
     code: &mut Vec<Instr<u32>>,
 ) -> Result<(), AllocError>
-    ensures { OnOk result
-        (AddsCode code.old (assignment_code (targets_of targets.now) (items_of values.now))
-        code.new) }
+    ensures { AddsPiece result code.old code.new
+        (assignment_code (targets_of targets.now) (items_of values.now)) }
 {
     if let (Some(cell), Some(value)) = (only_variable(targets), only_value(values)) {
         put(code, Instr::StoreOne(cell))?;

@@ -1,13 +1,13 @@
 //! Emitting code from its end to its start.
-ghost use Rattle.std.specs.Prelude.{◌≡◌, ◌∷◌, [], ◌-◌, ◌<◌, OnOk, length, set};
-ghost use Rattle.occ_code.specs.Emits.{AddsCode};
+ghost use Rattle.std.specs.Prelude.{◌≡◌, ◌∷◌, [], ◌-◌, ◌<◌, length, set};
+ghost use Rattle.occ_code.specs.Pieces.{AddsPiece};
 
 use occ_machine::Instr;
 use std::alloc::AllocError;
 
 /// Puts one instruction before what was emitted.
 pub(crate) fn put(code: &mut Vec<Instr<u32>>, instr: Instr<u32>) -> Result<(), AllocError>
-    ensures { OnOk result (AddsCode code.old (instr ∷ []) code.new) }
+    ensures { AddsPiece result code.old code.new (instr ∷ []) }
 {
     code.push(instr)?;
     Ok(())

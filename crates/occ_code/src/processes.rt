@@ -1,13 +1,12 @@
 //! The bodies of a term's processes: its own, and those of the branches of its PARs.
-ghost use Rattle.std.specs.Prelude.{◌≡◌, ◌∷◌, [], ℕ, IfOk, OnOk};
-ghost use Rattle.occ_term.specs.Terms as terms;
-ghost use Rattle.occ_term.specs.Processes.{branches_among, branches_in, branches_in_arms, branches_in_choices, branches_in_options, branches_in_reception, branches_in_terms, branches_in_variants, numbered};
+ghost use Rattle.std.specs.Prelude.{◌≡◌, IfOk, OnOk};
+ghost use Rattle.occ_term.specs.Processes.{branches_among, branches_in, branches_in_arms, branches_in_choices, branches_in_options, branches_in_reception, branches_in_terms, branches_in_variants};
 ghost use Rattle.occ_term.specs.View.{arm_of, arms_of, branches_of, choice_of, choices_of, option_of, options_of, reception_of, term_of, terms_of, variants_of};
-ghost use Rattle.occ_code.specs.CodeOf.{AddsBefore, AddsShared, HasBodiesOf, IsBodyOf};
+ghost use Rattle.occ_code.specs.CodeOf.{AddsBefore, HasBodiesOf, IsBodyOf};
 ghost use Rattle.occ_code.specs.Emitted.{whole_code};
-ghost use Rattle.occ_machine.specs.Machine as machine;
 ghost use Rattle.occ_code.specs.Emits.{emitted};
 ghost use Rattle.occ_code.specs.Within.{KeepsWithin};
+ghost use Rattle.occ_code.specs.Pieces.{AddsAll, AddsBodyOf};
 
 use crate::cells::{process_cells, rising_cells};
 use crate::counters::counters_in;
@@ -42,8 +41,7 @@ fn add_body(
     term: &Term,
     bodies: &mut Vec<Arc<Body, Global>>,
 ) -> Result<(), AllocError>
-    ensures { OnOk result ((number : ℕ)
-        → AddsShared quantum bodies.old (numbered number (term_of term.now) ∷ []) bodies.new) }
+    ensures { OnOk result (AddsBodyOf quantum (term_of term.now) bodies.old bodies.new) }
 {
     let body = body_of(alloc, quantum, term)?;
     bodies.push(Arc::new(alloc, body)?)?;
@@ -83,8 +81,7 @@ fn add_branches(
     term: &Term,
     bodies: &mut Vec<Arc<Body, Global>>,
 ) -> Result<(), AllocError>
-    ensures { OnOk result
-        (AddsShared quantum bodies.old (branches_in (term_of term.now)) bodies.new) }
+    ensures { AddsAll result quantum bodies.old bodies.new (branches_in (term_of term.now)) }
 {
     match term {
         Term::Skip => Ok(()),
@@ -114,8 +111,7 @@ fn add_in_terms(
     parts: &[Term],
     bodies: &mut Vec<Arc<Body, Global>>,
 ) -> Result<(), AllocError>
-    ensures { OnOk result
-        (AddsShared quantum bodies.old (branches_in_terms (terms_of parts.now)) bodies.new) }
+    ensures { AddsAll result quantum bodies.old bodies.new (branches_in_terms (terms_of parts.now)) }
 {
     let mut count = parts.len();
     while count > 0 {
@@ -133,8 +129,8 @@ fn add_each(
     branches: &[Branch],
     bodies: &mut Vec<Arc<Body, Global>>,
 ) -> Result<(), AllocError>
-    ensures { OnOk result
-        (AddsShared quantum bodies.old (branches_among (branches_of branches.now)) bodies.new) }
+    ensures { AddsAll result quantum bodies.old bodies.new
+        (branches_among (branches_of branches.now)) }
 {
     let mut count = branches.len();
     while count > 0 {
@@ -153,9 +149,8 @@ fn add_in_variants(
     variants: &[Variant],
     bodies: &mut Vec<Arc<Body, Global>>,
 ) -> Result<(), AllocError>
-    ensures { OnOk result
-        (AddsShared quantum bodies.old
-        (branches_in_variants (variants_of variants.now)) bodies.new) }
+    ensures { AddsAll result quantum bodies.old bodies.new
+        (branches_in_variants (variants_of variants.now)) }
 {
     let mut count = variants.len();
     while count > 0 {
@@ -173,8 +168,8 @@ fn add_in_choices(
     choices: &[Choice],
     bodies: &mut Vec<Arc<Body, Global>>,
 ) -> Result<(), AllocError>
-    ensures { OnOk result
-        (AddsShared quantum bodies.old (branches_in_choices (choices_of choices.now)) bodies.new) }
+    ensures { AddsAll result quantum bodies.old bodies.new
+        (branches_in_choices (choices_of choices.now)) }
 {
     let mut count = choices.len();
     while count > 0 {
@@ -218,8 +213,8 @@ fn add_in_options(
     options: &[Selection],
     bodies: &mut Vec<Arc<Body, Global>>,
 ) -> Result<(), AllocError>
-    ensures { OnOk result
-        (AddsShared quantum bodies.old (branches_in_options (options_of options.now)) bodies.new) }
+    ensures { AddsAll result quantum bodies.old bodies.new
+        (branches_in_options (options_of options.now)) }
 {
     let mut count = options.len();
     while count > 0 {
@@ -259,8 +254,7 @@ fn add_in_arms(
     arms: &[Arm],
     bodies: &mut Vec<Arc<Body, Global>>,
 ) -> Result<(), AllocError>
-    ensures { OnOk result
-        (AddsShared quantum bodies.old (branches_in_arms (arms_of arms.now)) bodies.new) }
+    ensures { AddsAll result quantum bodies.old bodies.new (branches_in_arms (arms_of arms.now)) }
 {
     let mut count = arms.len();
     while count > 0 {
@@ -308,8 +302,8 @@ fn add_in_reception(
     list: &Reception,
     bodies: &mut Vec<Arc<Body, Global>>,
 ) -> Result<(), AllocError>
-    ensures { OnOk result
-        (AddsShared quantum bodies.old (branches_in_reception (reception_of list.now)) bodies.new) }
+    ensures { AddsAll result quantum bodies.old bodies.new
+        (branches_in_reception (reception_of list.now)) }
 {
     match list {
         Reception::Plain(_, body) => add_branches(alloc, quantum, body, bodies),

@@ -1,13 +1,13 @@
 //! The code of terms.
-ghost use Rattle.std.specs.Prelude.{◌≡◌, ◌∷◌, [], ◌++◌, ◌-◌, ◌+◌, ◌*◌, ◌≤◌, ◌<◌, IfOk, OnOk, List, length, map, ℕ};
-ghost use Rattle.occ_term.specs.Storing.{index_of};
+ghost use Rattle.std.specs.Prelude.{◌≡◌, ◌-◌, ◌+◌, ◌*◌, ◌≤◌, ◌<◌, IfOk, OnOk, length, map};
 ghost use Rattle.occ_term.specs.Terms as terms;
-ghost use Rattle.occ_term.specs.View.{arm_of, arms_of, branches_of, choice_of, choices_of, declarations_of, expression_of, items_of, option_of, options_of, place_of, reception_of, replicator_of, targets_of, term_of, terms_of, variant_of, variants_of};
+ghost use Rattle.occ_term.specs.View.{arm_of, arms_of, branches_of, choice_of, choices_of, expression_of, items_of, option_of, options_of, place_of, reception_of, targets_of, term_of, terms_of, variant_of, variants_of};
 ghost use Rattle.occ_machine.specs.declared.instr.Instr.TheVariants as instructions;
-ghost use Rattle.occ_code.specs.Expressions.{counting_code, declarations_code, expression_code, items_code, par_code, place_code, storing_code};
-ghost use Rattle.occ_code.specs.Emitted.{arms_code, choices_code, each_code, else_code, list_code, options_code, term_code, terms_code, variants_code, while_code};
-ghost use Rattle.occ_code.specs.Emits.{AddsCode, Emits, EmitsAround, EmitsBefore};
+ghost use Rattle.occ_code.specs.Expressions.{expression_code, par_code};
+ghost use Rattle.occ_code.specs.Emitted.{arms_code, choices_code, else_code, list_code, options_code, term_code, terms_code, variants_code, while_code};
+ghost use Rattle.occ_code.specs.Emits.{EmitsBefore};
 ghost use Rattle.occ_machine.specs.declared.instr.Instr.{Instr};
+ghost use Rattle.occ_code.specs.Pieces.{AddsPiece, AddsAround, EmitsOne, among_code, choosing_code, input_code, output_code, rounds_over, since};
 
 use crate::arms::{
     emit_alt, emit_each_value, emit_input_opening, emit_next, emit_passing, emit_skip_opening,
@@ -35,7 +35,7 @@ pub(crate) fn emit_term(
     code: &mut Vec<Instr<u32>>,
 ) -> Result<(), AllocError>
     requires room { slot + 2 ≤ 2 * length code.old.items }
-    ensures { OnOk result (AddsCode code.old (term_code slot (term_of term.now)) code.new) }
+    ensures { AddsPiece result code.old code.new (term_code slot (term_of term.now)) }
 {
     match term {
         Term::Skip => Ok(()),
@@ -102,7 +102,7 @@ fn emit_terms(
     code: &mut Vec<Instr<u32>>,
 ) -> Result<(), AllocError>
     requires room { slot + 2 ≤ 2 * length code.old.items }
-    ensures { OnOk result (AddsCode code.old (terms_code slot (terms_of parts.now)) code.new) }
+    ensures { AddsPiece result code.old code.new (terms_code slot (terms_of parts.now)) }
 {
     let mut count = parts.len();
     while count > 0 {
@@ -118,9 +118,8 @@ fn emit_input(
     targets: &[Target],
     code: &mut Vec<Instr<u32>>,
 ) -> Result<(), AllocError>
-    ensures { OnOk result
-        (AddsCode code.old ((place_code (place_of channel.now) ++ instructions.Receive ∷ [])
-        ++ storing_code (targets_of targets.now)) code.new) }
+    ensures { AddsPiece result code.old code.new
+        (input_code (place_of channel.now) (targets_of targets.now)) }
 {
     emit_storing(alloc, targets, code)?;
     emit_place_before(alloc, channel, Instr::Receive, code)?;
@@ -134,9 +133,8 @@ fn emit_output(
     items: &[Item],
     code: &mut Vec<Instr<u32>>,
 ) -> Result<(), AllocError>
-    ensures { OnOk result
-        (AddsCode code.old (place_code (place_of channel.now)
-        ++ (items_code (items_of items.now) ++ instructions.Send tag ∷ [])) code.new) }
+    ensures { AddsPiece result code.old code.new
+        (output_code (place_of channel.now) tag (items_of items.now)) }
 {
     put(code, Instr::Send(tag))?;
     emit_items(alloc, items, code)?;
@@ -150,7 +148,7 @@ fn emit_par(
     branches: &[Branch],
     code: &mut Vec<Instr<u32>>,
 ) -> Result<(), AllocError>
-    ensures { OnOk result (AddsCode code.old (par_code (branches_of branches.now)) code.new) }
+    ensures { AddsPiece result code.old code.new (par_code (branches_of branches.now)) }
 {
     if branches.is_empty() {
         return Ok(());
@@ -178,9 +176,8 @@ fn emit_test(
     code: &mut Vec<Instr<u32>>,
 ) -> Result<(), AllocError>
     requires { place < length code.old.items }
-    ensures { OnOk result
-        (EmitsAround place code.old (while_code (expression_code (expression_of test.now)))
-        code.new) }
+    ensures { AddsAround result place code.old code.new
+        (while_code (expression_code (expression_of test.now))) }
 {
     put(code, Instr::Choose(since(code, place)))?;
     emit_expression(alloc, test, code)?;
@@ -198,9 +195,7 @@ fn emit_passes(
     code: &mut Vec<Instr<u32>>,
 ) -> Result<(), AllocError>
     requires { place < length code.old.items }
-    ensures { OnOk result
-        (EmitsAround place code.old (each_code slot (index_of (replicator_of over.now))
-        (counting_code (replicator_of over.now))) code.new) }
+    ensures { AddsAround result place code.old code.new (rounds_over slot over.now) }
 {
     let back = since(code, place);
     put_at(code, place, Instr::LoopBack(back));
@@ -221,9 +216,8 @@ fn emit_choices(
 ) -> Result<(), AllocError>
     requires room { slot + 2 ≤ 2 * length code.old.items }
     requires end { end ≤ length code.old.items }
-    ensures { OnOk result
-        (AddsCode code.old
-        (choices_code slot (choices_of choices.now) (length code.old.items - end)) code.new) }
+    ensures { AddsPiece result code.old code.new
+        (choices_code slot (choices_of choices.now) (since end code.old)) }
 {
     let mut count = choices.len();
     while count > 0 {
@@ -277,9 +271,8 @@ fn emit_choose(
     before: usize,
     code: &mut Vec<Instr<u32>>,
 ) -> Result<(), AllocError>
-    ensures { OnOk result
-        (AddsCode code.old (expression_code (expression_of test.now) ++ instructions.Choose
-        (length code.old.items - before) ∷ []) code.new) }
+    ensures { AddsPiece result code.old code.new
+        (choosing_code (expression_of test.now) (since before code.old)) }
 {
     put(code, Instr::Choose(since(code, before)))?;
     emit_expression(alloc, test, code)?;
@@ -297,9 +290,8 @@ fn emit_arms(
 ) -> Result<(), AllocError>
     requires room { slot + 2 ≤ 2 * length code.old.items }
     requires end { end ≤ length code.old.items }
-    ensures { OnOk result
-        (AddsCode code.old (arms_code slot (arms_of arms.now) (length code.old.items - end))
-        code.new) }
+    ensures { AddsPiece result code.old code.new
+        (arms_code slot (arms_of arms.now) (since end code.old)) }
 {
     let mut count = arms.len();
     while count > 0 {
@@ -367,7 +359,7 @@ fn emit_list(
     code: &mut Vec<Instr<u32>>,
 ) -> Result<(), AllocError>
     requires room { slot + 2 ≤ 2 * length code.old.items }
-    ensures { OnOk result (AddsCode code.old (list_code slot (reception_of list.now)) code.new) }
+    ensures { AddsPiece result code.old code.new (list_code slot (reception_of list.now)) }
 {
     match list {
         Reception::Plain(targets, body) => {
@@ -390,9 +382,8 @@ fn emit_options(
 ) -> Result<(), AllocError>
     requires room { slot + 2 ≤ 2 * length code.old.items }
     requires end { end ≤ length code.old.items }
-    ensures { OnOk result
-        (AddsCode code.old
-        (options_code slot (options_of options.now) (length code.old.items - end)) code.new) }
+    ensures { AddsPiece result code.old code.new
+        (options_code slot (options_of options.now) (since end code.old)) }
 {
     let mut count = options.len();
     while count > 0 {
@@ -436,11 +427,8 @@ fn emit_among(
     before: usize,
     code: &mut Vec<Instr<u32>>,
 ) -> Result<(), AllocError>
-    ensures { OnOk result
-        (AddsCode code.old
-        (instructions.IfAmong constants.now
-        (length (declarations_code (declarations_of declarations.now)) + length code.old.items -
-        before) ∷ declarations_code (declarations_of declarations.now)) code.new) }
+    ensures { AddsPiece result code.old code.new
+        (among_code constants.now declarations.now before code.old) }
 {
     emit_declarations(alloc, declarations, code)?;
     let constants = Items::from_slice(alloc, constants.as_slice())?;
@@ -457,7 +445,7 @@ fn emit_else(
     code: &mut Vec<Instr<u32>>,
 ) -> Result<(), AllocError>
     requires room { slot + 2 ≤ 2 * length code.old.items }
-    ensures { OnOk result (AddsCode code.old (else_code slot (options_of options.now)) code.new) }
+    ensures { AddsPiece result code.old code.new (else_code slot (options_of options.now)) }
 {
     for option in options {
         match option {
@@ -483,8 +471,7 @@ fn emit_variants(
     code: &mut Vec<Instr<u32>>,
 ) -> Result<(), AllocError>
     requires room { slot + 2 ≤ 2 * length code.old.items }
-    ensures { OnOk result
-        (AddsCode code.old (variants_code slot (variants_of variants.now)) code.new) }
+    ensures { AddsPiece result code.old code.new (variants_code slot (variants_of variants.now)) }
 {
     let end = emitted(code);
     put(code, Instr::Halt)?;
@@ -506,9 +493,8 @@ fn emit_variant(
     code: &mut Vec<Instr<u32>>,
 ) -> Result<(), AllocError>
     requires room { slot + 2 ≤ 2 * length code.old.items }
-    ensures { OnOk result ((before : List (Instr ℕ)) (others : terms.Variants) → length before ≡ end
-        → Emits before (variants_code slot others) code.old.items
-        → Emits before (variants_code slot (variant_of variant.now others)) code.new.items) }
+    ensures { OnOk result
+        (EmitsOne (variants_code slot) (variant_of variant.now) end code.old code.new) }
 {
     let before = emitted(code);
     put(code, Instr::Jump(since(code, end)))?;

@@ -4,7 +4,8 @@ ghost use Rattle.occ_term.specs.Uses as uses;
 ghost use Rattle.occ_term.specs.Evaluation.{evaluated};
 ghost use Rattle.occ_constants.specs.Chains.{chosen_from, constant_value};
 ghost use Rattle.occ_term.specs.View.{expression_of};
-ghost use Rattle.occ_term.specs.Values.{after, binary};
+ghost use Rattle.occ_term.specs.Values.{binary};
+ghost use Rattle.occ_constants.specs.Operands.{after_both};
 
 use occ_term::operator::{binary, converted, unary};
 use occ_term::{Fault, Operator, Primitive, TermExpr};
@@ -86,8 +87,8 @@ fn of_two(
     a: Result<i64, Fault>,
     b: Result<i64, Fault>,
 ) -> Result<i64, Fault>
-    ensures { evaluated result ≡ after (evaluated a)
-        (λ x. after (evaluated b) (λ y. binary operator primitive line x y)) }
+    ensures { evaluated result ≡ after_both (evaluated a) (evaluated b)
+        (binary operator primitive line) }
 {
     binary(operator, primitive, line, a?, b?)
 }

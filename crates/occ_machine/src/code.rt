@@ -2,6 +2,7 @@
 ghost use Rattle.std.specs.Prelude.{◌≡◌, ◌↔◌, IsTrue, IfOk, IfSome, IfNone, None, Some, length, map, slice_get};
 ghost use Rattle.std.specs.Arc.{arc_value};
 ghost use Rattle.occ_machine.specs.Compiled.{IsCompiled};
+ghost use Rattle.occ_machine.specs.Made.{program_with};
 
 use crate::body::Body;
 use crate::channels::{copy_channels, same_channels};
@@ -45,11 +46,8 @@ impl Model for Code {
 impl Code {
     /// The code with these bodies, channels and mode of errors.
     pub fn new(bodies: Vec<Arc<Body, Global>>, channels: Vec<Channel>, errors: Errors) -> Code
-        requires { IsCompiled (record
-            { bodies = map arc_value bodies.items; channels = channels.items; errors = errors }) }
-        ensures { result
-            ≡ record
-            { bodies = map arc_value bodies.items; channels = channels.items; errors = errors } }
+        requires { IsCompiled (program_with bodies channels errors) }
+        ensures { result ≡ program_with bodies channels errors }
     {
         Code {
             bodies,

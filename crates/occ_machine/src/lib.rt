@@ -6,6 +6,7 @@
 pub mod body;
 mod channels;
 pub mod code;
+pub mod indices;
 pub mod instr;
 pub mod quick;
 mod same_code;
@@ -14,6 +15,7 @@ pub mod task;
 pub use body::Body;
 pub use channels::copy_channels;
 pub use code::Code;
+pub use indices::Indices;
 pub use instr::{Instr, Slot};
 pub use quick::Quick;
 pub use task::{Arm, Task, Wait};

@@ -1,6 +1,7 @@
 //! A process between two of its turns.
 ghost use Rattle.std.specs.Prelude.{◌≡◌, ◌↔◌, IsTrue, IfOk};
 
+use crate::indices::Indices;
 use occ_term::same::{same_numbers, same_values};
 use occ_term::{Fault, Frame, Message};
 use sqlite_items::Items;
@@ -14,7 +15,7 @@ pub struct Arm {
     /// The channel that it inputs from; none for SKIP.
     pub chan: Option<u32>,
     /// The values of its replicators' indices, outermost first.
-    pub indices: Items<i64>,
+    pub indices: Indices,
 }
 
 /// What a process stands at.
@@ -27,7 +28,7 @@ pub enum Wait {
     /// message.
     Took {
         arm: u32,
-        indices: Items<i64>,
+        indices: Indices,
         message: Option<Message>,
     },
     /// Offers a message on a channel.
@@ -90,7 +91,7 @@ impl Arm {
         Ok(Arm {
             number: self.number,
             chan: self.chan,
-            indices: Items::from_slice(alloc, self.indices.as_slice())?,
+            indices: self.indices.copy(alloc)?,
         })
     }
 
@@ -115,7 +116,7 @@ impl Wait {
                 arm,
                 indices,
                 message,
-            } => took(alloc, *arm, indices.as_slice(), message),
+            } => took(alloc, *arm, indices, message),
             Wait::Offers { chan, message } => offers(alloc, *chan, message),
             Wait::Awaits { chan } => Ok(Wait::Awaits { chan: *chan }),
             Wait::Chooses { pri, arms } => chooses(alloc, *pri, arms.as_slice()),
@@ -198,12 +199,12 @@ impl Task {
 fn took(
     alloc: Global,
     arm: u32,
-    indices: &[i64],
+    indices: &Indices,
     message: &Option<Message>,
 ) -> Result<Wait, AllocError>
     ensures { IfOk result (λ wait. wait ≡ Wait.Took arm indices.now message.now) }
 {
-    let indices = Items::from_slice(alloc, indices)?;
+    let indices = indices.copy(alloc)?;
     let message = copy_of(alloc, message)?;
     Ok(Wait::Took {
         arm,

@@ -11,3 +11,4 @@ pub mod Places
 pub mod Running
 pub mod Outcomes
 pub mod Rows
+pub mod Turning

@@ -15,7 +15,7 @@ use crate::entries::{entry, set_entry};
 use crate::ready::insert;
 use crate::tables::Tables;
 use crate::tasks::{set_wait, take_wait};
-use occ_machine::{Arm, Task, Wait};
+use occ_machine::{Arm, Indices, Task, Wait};
 use occ_term::{ERROR, End, Fault, KEYBOARD, Message, Part, Parts, Primitive, SCREEN};
 use sqlite_items::Items;
 use std::alloc::{AllocError, Global};
@@ -104,7 +104,7 @@ fn copied_arm(alloc: Global, arms: &[Arm], at: usize) -> Result<Arm, AllocError>
     ensures { IfOk result (λ arm. slice_get arms.now at ≡ Some arm) }
 {
     let arm = &arms[at];
-    let indices = Items::from_slice(alloc, arm.indices.as_slice())?;
+    let indices = arm.indices.copy(alloc)?;
     Ok(Arm {
         number: arm.number,
         chan: arm.chan,
@@ -114,13 +114,13 @@ fn copied_arm(alloc: Global, arms: &[Arm], at: usize) -> Result<Arm, AllocError>
 
 /// The arm by which an input takes its message.
 #[inline(always)]
-fn input_arm(alloc: Global, chan: u32) -> Arm
+fn input_arm(chan: u32) -> Arm
     ensures { result ≡ input_arm chan }
 {
     Arm {
         number: 0,
         chan: Some(chan),
-        indices: Items::new(alloc),
+        indices: Indices::new(),
     }
 }
 
@@ -154,7 +154,7 @@ fn first_of(noted: Option<Fault>, fault: Fault) -> Option<Fault>
 impl Tables {
     /// A process that waits for a message on this channel, where no other offer stands, leaves its
     /// channels. The arm by which it takes the message is handed out.
-    fn leave(&mut self, alloc: Global, taker: u32, chan: u32, pick: u32) -> Arm
+    fn leave(&mut self, taker: u32, chan: u32, pick: u32) -> Arm
         requires { IsTaking self.old.tasks.items taker chan pick }
         ensures arm { IsTakingBy self.old.tasks.items taker chan pick result }
         ensures left { LeavesChannels self.old taker self.new }
@@ -162,7 +162,7 @@ impl Tables {
         match take_wait(&mut self.tasks, taker) {
             Wait::Awaits { chan: own } => {
                 set_entry(&mut self.awaiting, own, None);
-                input_arm(alloc, own)
+                input_arm(own)
             }
             Wait::Chooses { pri, mut arms } => {
                 set_arms(&mut self.awaiting, arms.as_slice(), None);
@@ -178,7 +178,6 @@ impl Tables {
     /// The message goes to a process that waits for one on its channel.
     fn give(
         &mut self,
-        alloc: Global,
         number: u32,
         taker: u32,
         chan: u32,
@@ -197,7 +196,7 @@ impl Tables {
             Err(refused) => return Err((message, refused)),
         }
         insert(&mut self.ready, taker);
-        let arm = self.leave(alloc, taker, chan, pick);
+        let arm = self.leave(taker, chan, pick);
         set_wait(&mut self.tasks, taker, took(arm, Some(message)));
         Ok(())
     }
@@ -242,7 +241,6 @@ impl Tables {
     /// What the process offers is taken, or it waits until it is.
     pub(crate) fn offer(
         &mut self,
-        alloc: Global,
         place: usize,
         number: u32,
         chan: u32,
@@ -263,7 +261,7 @@ impl Tables {
             }
         }
         if let Some(taker) = entry(&self.awaiting, chan) {
-            self.give(alloc, number, taker, chan, message, pick)?;
+            self.give(number, taker, chan, message, pick)?;
             return Ok(());
         }
         set_entry(&mut self.offering, chan, Some(number));
@@ -275,7 +273,6 @@ impl Tables {
     /// The process takes a message that is there, or it waits for one.
     pub(crate) fn await_on(
         &mut self,
-        alloc: Global,
         keyboard: &[u8],
         place: usize,
         number: u32,
@@ -288,11 +285,11 @@ impl Tables {
         ensures err { OnErr result (self.new ≡ self.old) }
     {
         if let Some(byte) = next_byte(chan, keyboard, self.used) {
-            self.take_byte(number, input_arm(alloc, chan), byte)?;
+            self.take_byte(number, input_arm(chan), byte)?;
             return Ok(());
         }
         match entry(&self.offering, chan) {
-            Some(giver) => self.take_from(number, giver, chan, input_arm(alloc, chan))?,
+            Some(giver) => self.take_from(number, giver, chan, input_arm(chan))?,
             None => {
                 set_entry(&mut self.awaiting, chan, Some(number));
                 let wait = Wait::Awaits { chan };

@@ -1,10 +1,10 @@
 //! A run of a plan.
-ghost use Rattle.std.specs.Prelude.{◌≡◌, ◌+◌, ◌<◌, ◌≤◌, IfOk, IsTrue, OnOk, length, take};
+ghost use Rattle.std.specs.Prelude.{◌≡◌, ◌+◌, ◌<◌, ◌≤◌, IfOk, IsTrue, OnOk, length};
 ghost use Rattle.occ_net_tables.specs.Endings.{EndsAs, GoesOn};
 ghost use Rattle.occ_net_tables.specs.Outcomes.{IsOutcome, IsRan};
 ghost use Rattle.occ_net_tables.specs.Places.{IsKeptBy, placed_among};
 ghost use Rattle.occ_net_tables.specs.Rows.{CanRunRow, KeepsRow};
-ghost use Rattle.occ_net_tables.specs.Running.{HasRun};
+ghost use Rattle.occ_net_tables.specs.Turning.{HasRunSoFar};
 ghost use Rattle.occ_choices.specs.Plans.{choices_of};
 
 use crate::ready::place_among;
@@ -101,8 +101,8 @@ fn run_row(
 ) -> Result<bool, AllocError>
     requires run { CanRunRow code.now keyboard.now keep (choices_of plan.now) kept.old.items
         tables.old }
-    ensures run { OnOk result (HasRun code.now keyboard.now keep
-        (take (length kept.new.items) (choices_of plan.now)) kept.new.items tables.new) }
+    ensures run { OnOk result
+        (HasRunSoFar code.now keyboard.now keep (choices_of plan.now) kept.new tables.new) }
     ensures more { OnOk result (length kept.old.items ≤ length kept.new.items) }
     ensures going { IfOk result (λ going. IsTrue going → GoesOn code.now tables.new) }
 {

@@ -133,13 +133,11 @@ impl Tables {
     {
         match wait {
             Wait::Ready => Ok(()),
-            Wait::Offers { chan, message } => match self.offer(
-                alloc, place, number, chan, message, pick,
-            ) {
+            Wait::Offers { chan, message } => match self.offer(place, number, chan, message, pick) {
                 Ok(()) => Ok(()),
                 Err((message, refused)) => Err((Wait::Offers { chan, message }, refused)),
             },
-            Wait::Awaits { chan } => match self.await_on(alloc, keyboard, place, number, chan) {
+            Wait::Awaits { chan } => match self.await_on(keyboard, place, number, chan) {
                 Ok(()) => Ok(()),
                 Err(refused) => Err((Wait::Awaits { chan }, refused)),
             },

@@ -3,8 +3,9 @@ ghost use Rattle.std.specs.Prelude.{◌+◌, ◌<◌, ◌≤◌, ◌^◌, IfOk, 
 ghost use Rattle.occ_choices.specs.Plans.{choices_of};
 ghost use Rattle.occ_proc.specs.Turns.{left_message};
 ghost use Rattle.occ_net_tables.specs.Endings.{GoesOn};
-ghost use Rattle.occ_net_tables.specs.Rows.{HasTakenTurn, SettlesEnd, StandsAlone, TakesRow};
-ghost use Rattle.occ_net_tables.specs.Settling.{HasMid, HasSomeMid, HasStopped, Settles, SettlesBy, SettlesOn, SettlesWait, Standing, TakesTurn, offer_left};
+ghost use Rattle.occ_net_tables.specs.Rows.{HasTakenTurn, StandsAlone};
+ghost use Rattle.occ_net_tables.specs.Settling.{HasSomeMid, HasStopped, SettlesBy, SettlesOn, SettlesWait, Standing, TakesTurn, offer_left};
+ghost use Rattle.occ_net_tables.specs.Turning.{SettlesTurn, TakesRowOf};
 
 use crate::ready::place_among;
 use crate::tables::Tables;
@@ -68,8 +69,7 @@ impl Tables {
         requires some { 0 < most }
         requires within { from + most ≤ length (choices_of plan.now) }
         requires fits { length (choices_of plan.now) < 2 ^ 64 }
-        ensures row { IfOk result (λ row. TakesRow code.now keyboard.now (choices_of plan.now) from
-            row.0 self.old self.new) }
+        ensures row { IfOk result (TakesRowOf code.now keyboard.now plan.now from self.old self.new) }
         ensures some { IfOk result (λ row. (0 < row.0) × (row.0 ≤ most)) }
         ensures going { IfOk result (λ row. IsTrue row.1 → GoesOn code.now self.new) }
     {
@@ -101,19 +101,19 @@ impl Tables {
     ) -> Result<bool, AllocError>
         requires { HasTakenTurn code.now keyboard.now self.old place number end
             (left_message scratch.old) }
-        ensures turn { OnOk result (SettlesEnd code.now keyboard.now place number end
-            (left_message scratch.old) pick self.old self.new) }
+        ensures turn { OnOk result
+            (SettlesTurn code.now keyboard.now place number end scratch.old pick self.old self.new) }
         ensures going { IfOk result (λ going. IsTrue going → GoesOn code.now self.new) }
     {
         code.compiled();
         match end {
             TurnEnd::Ready => Ok(true),
             TurnEnd::Offers(tag, chan) => {
-                self.settle_offer(alloc, scratch, place, number, chan, tag, pick)?;
+                self.settle_offer(scratch, place, number, chan, tag, pick)?;
                 Ok(false)
             }
             TurnEnd::Awaits(chan) => {
-                self.settle_input(alloc, keyboard, place, number, chan)?;
+                self.settle_input(keyboard, place, number, chan)?;
                 Ok(false)
             }
             TurnEnd::Other => {
@@ -127,7 +127,6 @@ impl Tables {
     #[inline(never)]
     fn settle_offer(
         &mut self,
-        alloc: Global,
         scratch: &mut Scratch,
         place: usize,
         number: u32,
@@ -141,7 +140,7 @@ impl Tables {
     {
         self.make_room(1)?;
         let message = scratch.take_message(tag);
-        match self.offer(alloc, place, number, chan, message, pick) {
+        match self.offer(place, number, chan, message, pick) {
             Ok(()) => {}
             Err((_, refused)) => return Err(refused),
         }
@@ -152,7 +151,6 @@ impl Tables {
     #[inline(never)]
     fn settle_input(
         &mut self,
-        alloc: Global,
         keyboard: &[u8],
         place: usize,
         number: u32,
@@ -163,7 +161,7 @@ impl Tables {
             (SettlesOn keyboard.now number place (Wait.Awaits chan) self.old self.new) }
     {
         self.make_room(1)?;
-        self.await_on(alloc, keyboard, place, number, chan)?;
+        self.await_on(keyboard, place, number, chan)?;
         Ok(())
     }
 

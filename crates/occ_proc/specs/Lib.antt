@@ -2,3 +2,4 @@ pub mod Turns
 pub mod Doing
 pub mod Opening
 pub mod Stretches
+pub mod Answering

@@ -39,3 +39,5 @@ pub mod ExpressionExamples
 pub mod ProcessExamples
 pub mod FaultExamples
 pub mod NetworkExamples
+pub mod CommonOperators
+pub mod FrameParts

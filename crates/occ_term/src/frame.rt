@@ -1,8 +1,9 @@
 //! The variables of a process.
-ghost use Rattle.std.specs.Prelude.{◌≡◌, ◌<◌, ◌≤◌, ◌+◌, ◌++◌, ◌↔◌, ◌^◌, IsTrue, IfOk, IfSome, OnOk, drop, length, map, pos, replicate, take, slice_index_or, slice_set, []};
+ghost use Rattle.std.specs.Prelude.{◌≡◌, ◌<◌, ◌+◌, ◌++◌, ◌↔◌, ◌^◌, IsTrue, IfOk, IfSome, OnOk, drop, length, map, pos, replicate, slice_index_or, slice_set};
 ghost use Rattle.occ_term.specs.CellRows.{cells_of};
 ghost use Rattle.occ_term.specs.Frames.{at, in_place, value_at, values_with, zero_frame, frame_with, with_place, frame_from, row_with, span_with, counter_at, with_counter};
 ghost use Rattle.occ_term.specs.Values.{values_from};
+ghost use Rattle.occ_term.specs.FrameParts.{IsRowOf, copied_frame};
 
 use crate::cell_rows::CellRow;
 use crate::frame_cells::FrameCells;
@@ -59,9 +60,7 @@ impl Frame {
         loops: usize,
         from: &Frame,
     ) -> Result<Frame, AllocError>
-        ensures { IfOk result
-            (λ f. f ≡ record
-            { cells = cells.now; values = map (at from.now) cells.now; left = replicate loops 0 }) }
+        ensures { IfOk result (λ f. f ≡ copied_frame cells.now loops from.now) }
     {
         let values = values_of(alloc, cells, from)?;
         let left = vec![in alloc; 0; loops]?;
@@ -259,8 +258,7 @@ fn set_in(values: &mut [i64], place: usize, value: i64)
 
 fn values_in_row(values: &[i64], place: usize, count: usize) -> Option<&[i64]>
     requires { place + count < 2 ^ 64 }
-    ensures { IfSome result (λ row. (row.now ≡ take count (drop place values.now))
-        × (place + count ≤ length values.now)) }
+    ensures { IfSome result (λ row. IsRowOf values.now place count row.now) }
 {
     if place + count <= values.len() {
         Some(&values[place..place + count])

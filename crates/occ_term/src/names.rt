@@ -7,6 +7,7 @@ ghost use Rattle.occ_term.specs.Names.{component_name, with_subscripts};
 use crate::primitive::Primitive;
 use crate::protocol::Protocol;
 use crate::same::{same_bytes, same_numbers};
+use occ_held::letters::Letters;
 use sqlite_items::Items;
 use std::alloc::{AllocError, Global};
 use std::marker::Model;
@@ -26,7 +27,7 @@ pub const ERROR: u32 = 2;
 
 /// Letters with the subscripts behind them, which the components of a row share.
 struct Stem {
-    letters: Items<u8>,
+    letters: Letters,
     subscripts: Items<u32>,
 }
 
@@ -64,12 +65,19 @@ impl Drop for Name {
 
 impl Name {
     /// The name with these letters. The error is a refused growth.
-    #[tactic(auto, using(crate::proofs::Components::no_subscripts), unfolding(crate::specs::Names::with_subscripts))]
     pub fn new(alloc: Global, letters: &[u8]) -> Result<Name, AllocError>
         ensures { IfOk result (λ n. n ≡ letters.now) }
     {
+        Name::of(alloc, Letters::new(alloc, letters)?)
+    }
+
+    /// The name with these letters, which it shares with their copies. The error is a refused growth.
+    #[tactic(auto, using(crate::proofs::Components::no_subscripts), unfolding(crate::specs::Names::with_subscripts))]
+    pub fn of(alloc: Global, letters: Letters) -> Result<Name, AllocError>
+        ensures { IfOk result (λ n. n ≡ letters) }
+    {
         let stem = Stem {
-            letters: Items::from_slice(alloc, letters)?,
+            letters,
             subscripts: Items::new(alloc),
         };
         let stem = Arc::new(alloc, stem)?;
@@ -104,7 +112,7 @@ impl Name {
         match self.last {
             None => Arc::try_clone(&self.stem),
             Some(number) => {
-                let letters = Items::from_slice(alloc, self.stem.letters.as_slice())?;
+                let letters = self.stem.letters.copy()?;
                 let mut subscripts = Items::from_slice(alloc, self.stem.subscripts.as_slice())?;
                 subscripts.push(number)?;
                 let stem = Stem {

@@ -1,11 +1,12 @@
-//! Operators and conversions on values of 64 bits, whether they are within INT or not: in words of 64 bits where these do, and in
-//! words of 128 elsewhere.
-ghost use Rattle.std.specs.Prelude.{◌≡◌, ◌<◌, ◌≤◌, ◌^◌, ◌%◌, ◌*◌, ◌-◌, ◌≢◌, ◌+ℤ◌, ◌-ℤ◌, ◌*ℤ◌, int_div, int_rem, pos, IfOk, IfSome};
+//! Operators and conversions on values of 64 bits, whether they are within INT or not. What an operator makes of two of them is within
+//! words of 128 bits; where it has to be one of the type, words of 64 do.
+ghost use Rattle.std.specs.Prelude.{◌≡◌, ◌<◌, ◌≤◌, ◌^◌, ◌%◌, ◌*◌, ◌-◌, ◌+ℤ◌, ◌-ℤ◌, ◌*ℤ◌, neg_ℤ, int_rem, if◌then◌else◌, IfNone, IfOk, IfSome, None};
 ghost use Rattle.occ_term.specs.Messages.{is_of};
 ghost use Rattle.occ_term.specs.Values as values;
-ghost use Rattle.occ_term.specs.Values.{bits_of, of_bits, width, wrapped, truth};
-ghost use Rattle.occ_term.specs.Terms.{Divide, Remainder, ShiftLeft, ShiftRight};
+ghost use Rattle.occ_term.specs.Values.{bits_of, is_zero, of_bits, truth, width, wrapped};
+ghost use Rattle.occ_term.specs.Terms.{ShiftLeft, ShiftRight};
 ghost use Rattle.occ_term.specs.Evaluation.{evaluated};
+ghost use Rattle.occ_term.specs.CommonOperators.{FailsIfCommon, if_in_type};
 
 use crate::expression::{Monadic, Operator};
 use crate::fault::{Fault, FaultKind};
@@ -21,14 +22,37 @@ pub fn binary(
 ) -> Result<i64, Fault>
     ensures { evaluated result ≡ values.binary operator primitive line a b }
 {
-    match common_value(operator, primitive, line, a, b) {
-        Some(value) => Ok(value),
-        None => any_binary(operator, primitive, line, a, b),
+    let x = i128::from(a);
+    let y = i128::from(b);
+    match operator {
+        Operator::Plus => Ok(wrapped(primitive, x + y)),
+        Operator::Minus => Ok(wrapped(primitive, x - y)),
+        Operator::Times => Ok(wrapped(primitive, x * y)),
+        Operator::BitAnd => Ok(of_bits(primitive, bits_of(primitive, x) & bits_of(primitive, y))),
+        Operator::BitOr => Ok(of_bits(primitive, bits_of(primitive, x) | bits_of(primitive, y))),
+        Operator::BitXor => Ok(of_bits(primitive, bits_of(primitive, x) ^ bits_of(primitive, y))),
+        Operator::ShiftLeft => shift_left(primitive, line, a, b),
+        Operator::ShiftRight => shift_right(primitive, line, a, b),
+        Operator::After => Ok(truth(0 < wrapped(Primitive::Int, x - y))),
+        Operator::Add
+        | Operator::Subtract
+        | Operator::Multiply
+        | Operator::Divide
+        | Operator::Remainder
+        | Operator::Equal
+        | Operator::Unequal
+        | Operator::Less
+        | Operator::Greater
+        | Operator::AtMost
+        | Operator::AtLeast => match common_value(operator, primitive, line, a, b) {
+            Some(value) => Ok(value),
+            None => Err(fault(FaultKind::Arith, line)),
+        },
     }
 }
 
-/// The same where words of 64 bits do: a comparison, or arithmetic whose right operand is an INT and whose value is one of the type.
-/// Where it answers nothing, `binary` tells the value or the fault.
+/// The value of a common operator: a comparison, or arithmetic whose result has to be one of the type. Where there is none, a
+/// common operator fails; of the others none has one here.
 #[inline(always)]
 pub fn common_value(
     operator: Operator,
@@ -37,14 +61,15 @@ pub fn common_value(
     a: i64,
     b: i64,
 ) -> Option<i64>
-    ensures { IfSome result (λ v. values.binary operator primitive line a b ≡ values.Value v) }
+    ensures value { IfSome result (λ v. values.binary operator primitive line a b ≡ values.Value v) }
+    ensures fault { IfNone result (FailsIfCommon operator primitive line a b) }
 {
     match operator {
-        Operator::Add => common_sum(primitive, line, a, b),
-        Operator::Subtract => common_difference(primitive, line, a, b),
-        Operator::Multiply => common_product(primitive, line, a, b),
-        Operator::Divide => common_quotient(primitive, line, a, b),
-        Operator::Remainder => common_rest(primitive, line, a, b),
+        Operator::Add => sum(primitive, a, b),
+        Operator::Subtract => difference(primitive, a, b),
+        Operator::Multiply => if_in_type(primitive, a.checked_mul(b)?),
+        Operator::Divide => if_in_type(primitive, a.checked_div(b)?),
+        Operator::Remainder => rest(primitive, a, b),
         Operator::Equal => Some(truth(a == b)),
         Operator::Unequal => Some(truth(a != b)),
         Operator::Less => Some(truth(a < b)),
@@ -55,50 +80,19 @@ pub fn common_value(
     }
 }
 
-/// Any operator's value, in words of 128 bits.
-fn any_binary(
-    operator: Operator,
-    primitive: Primitive,
-    line: u32,
-    a: i64,
-    b: i64,
-) -> Result<i64, Fault>
-    ensures { evaluated result ≡ values.binary operator primitive line a b }
-{
-    let x = i128::from(a);
-    let y = i128::from(b);
-    match operator {
-        Operator::Add => in_type(primitive, line, sum(a, b)),
-        Operator::Subtract => in_type(primitive, line, difference(a, b)),
-        Operator::Multiply => in_type(primitive, line, product(a, b)),
-        Operator::Divide => divide(primitive, line, a, b),
-        Operator::Remainder => remainder(primitive, line, a, b),
-        Operator::Plus => Ok(wrapped(primitive, sum(a, b))),
-        Operator::Minus => Ok(wrapped(primitive, difference(a, b))),
-        Operator::Times => Ok(wrapped(primitive, product(a, b))),
-        Operator::BitAnd => Ok(of_bits(primitive, bits_of(primitive, x) & bits_of(primitive, y))),
-        Operator::BitOr => Ok(of_bits(primitive, bits_of(primitive, x) | bits_of(primitive, y))),
-        Operator::BitXor => Ok(of_bits(primitive, bits_of(primitive, x) ^ bits_of(primitive, y))),
-        Operator::ShiftLeft => shift_left(primitive, line, a, b),
-        Operator::ShiftRight => shift_right(primitive, line, a, b),
-        Operator::After => Ok(truth(0 < wrapped(Primitive::Int, difference(a, b)))),
-        Operator::Equal => Ok(truth(a == b)),
-        Operator::Unequal => Ok(truth(a != b)),
-        Operator::Less => Ok(truth(a < b)),
-        Operator::Greater => Ok(truth(a > b)),
-        Operator::AtMost => Ok(truth(a <= b)),
-        Operator::AtLeast => Ok(truth(a >= b)),
-    }
-}
-
 /// An operator's value on one value.
 pub fn unary(operator: Monadic, primitive: Primitive, line: u32, a: i64) -> Result<i64, Fault>
     ensures { evaluated result ≡ values.unary operator primitive line a }
 {
-    let x = i128::from(a);
     match operator {
-        Monadic::Negate => in_type(primitive, line, -x),
-        Monadic::BitNot => Ok(of_bits(primitive, all_ones(primitive) - bits_of(primitive, x))),
+        Monadic::Negate => match negative(primitive, a) {
+            Some(value) => Ok(value),
+            None => Err(fault(FaultKind::Arith, line)),
+        },
+        Monadic::BitNot => {
+            let bits = bits_of(primitive, i128::from(a));
+            Ok(of_bits(primitive, all_ones(primitive) - bits))
+        }
         Monadic::Not => Ok(truth(a == 0)),
     }
 }
@@ -132,17 +126,6 @@ pub fn is_of(primitive: Primitive, v: i64) -> bool
     }
 }
 
-/// The same of what operators make of two values.
-fn fits(primitive: Primitive, v: i128) -> bool
-    ensures { result ≡ is_of primitive v }
-{
-    match primitive {
-        Primitive::Bool => 0 <= v && v <= 1,
-        Primitive::Byte => 0 <= v && v <= 255,
-        Primitive::Int => -2147483648 <= v && v <= 2147483647,
-    }
-}
-
 #[inline(always)]
 fn truth(test: bool) -> i64
     ensures { result ≡ truth test }
@@ -150,62 +133,12 @@ fn truth(test: bool) -> i64
     if test { 1 } else { 0 }
 }
 
-fn in_type(primitive: Primitive, line: u32, v: i128) -> Result<i64, Fault>
-    ensures { evaluated result ≡ values.in_type primitive line v }
-{
-    if fits(primitive, v) {
-        Ok(v as i64)
-    } else {
-        Err(fault(FaultKind::Arith, line))
-    }
-}
+// ---- arithmetic whose result has to be one of the type
 
-// ---- arithmetic in words of 64 bits
-
-/// The sum, where the right operand is an INT. Then a sum that wraps is none, so that it need not be tested for.
+/// A value where it is one of the type.
 #[inline(always)]
-fn common_sum(primitive: Primitive, line: u32, a: i64, b: i64) -> Option<i64>
-    ensures { IfSome result
-        (λ v. values.binary Operator.Add primitive line a b ≡ values.Value v) }
-{
-    let value = a.wrapping_add(b);
-    if is_of(Primitive::Int, b) && is_of(primitive, value) {
-        Some(value)
-    } else {
-        None
-    }
-}
-
-/// The difference, in the same way.
-#[inline(always)]
-fn common_difference(primitive: Primitive, line: u32, a: i64, b: i64) -> Option<i64>
-    ensures { IfSome result
-        (λ v. values.binary Operator.Subtract primitive line a b ≡ values.Value v) }
-{
-    let value = a.wrapping_sub(b);
-    if is_of(Primitive::Int, b) && is_of(primitive, value) {
-        Some(value)
-    } else {
-        None
-    }
-}
-
-/// The product of two INTs, which is within 64 bits.
-#[inline(always)]
-fn common_product(primitive: Primitive, line: u32, a: i64, b: i64) -> Option<i64>
-    ensures { IfSome result
-        (λ v. values.binary Operator.Multiply primitive line a b ≡ values.Value v) }
-{
-    if is_of(Primitive::Int, a) && is_of(Primitive::Int, b) {
-        if_in_type(primitive, line, a * b)
-    } else {
-        None
-    }
-}
-
-#[inline(always)]
-fn if_in_type(primitive: Primitive, line: u32, value: i64) -> Option<i64>
-    ensures { IfSome result (λ v. values.in_type primitive line value ≡ values.Value v) }
+fn if_in_type(primitive: Primitive, value: i64) -> Option<i64>
+    ensures { result ≡ if_in_type primitive value }
 {
     if is_of(primitive, value) {
         Some(value)
@@ -214,79 +147,51 @@ fn if_in_type(primitive: Primitive, line: u32, value: i64) -> Option<i64>
     }
 }
 
+/// The sum. With an INT on the right one that wraps is of no type, so that it need not be tested for.
 #[inline(always)]
-fn common_quotient(primitive: Primitive, line: u32, a: i64, b: i64) -> Option<i64>
-    ensures { IfSome result
-        (λ v. values.binary Operator.Divide primitive line a b ≡ values.Value v) }
+fn sum(primitive: Primitive, a: i64, b: i64) -> Option<i64>
+    ensures { result ≡ if_in_type primitive (a +ℤ b) }
 {
-    if_in_type(primitive, line, a.checked_div(b)?)
+    let value = if is_of(Primitive::Int, b) {
+        a.wrapping_add(b)
+    } else {
+        a.checked_add(b)?
+    };
+    if_in_type(primitive, value)
 }
 
+/// The difference, in the same way.
 #[inline(always)]
-fn common_rest(primitive: Primitive, line: u32, a: i64, b: i64) -> Option<i64>
-    ensures { IfSome result
-        (λ v. values.binary Operator.Remainder primitive line a b ≡ values.Value v) }
+fn difference(primitive: Primitive, a: i64, b: i64) -> Option<i64>
+    ensures { result ≡ if_in_type primitive (a -ℤ b) }
 {
-    if_in_type(primitive, line, a.checked_rem(b)?)
+    let value = if is_of(Primitive::Int, b) {
+        a.wrapping_sub(b)
+    } else {
+        a.checked_sub(b)?
+    };
+    if_in_type(primitive, value)
 }
 
-// ---- arithmetic that no two values of 64 bits leave
-
-fn sum(a: i64, b: i64) -> i128
-    ensures { result ≡ a +ℤ b }
+/// What the quotient towards zero leaves, with the sign of the dividend; none by zero.
+#[inline(always)]
+fn rest(primitive: Primitive, a: i64, b: i64) -> Option<i64>
+    ensures { result ≡ (if is_zero b then None else if_in_type primitive (int_rem a b)) }
 {
-    i128::from(a) + i128::from(b)
+    if b == 0 {
+        return None;
+    }
+    if_in_type(primitive, a.wrapping_rem(b))
 }
 
-fn difference(a: i64, b: i64) -> i128
-    ensures { result ≡ a -ℤ b }
+/// The value below zero by as much as this one is above.
+fn negative(primitive: Primitive, a: i64) -> Option<i64>
+    ensures { result ≡ if_in_type primitive (neg_ℤ a) }
 {
-    i128::from(a) - i128::from(b)
-}
-
-fn product(a: i64, b: i64) -> i128
-    ensures { result ≡ a *ℤ b }
-{
-    i128::from(a) * i128::from(b)
-}
-
-/// Towards zero.
-fn quotient(a: i64, b: i64) -> i128
-    requires { b ≢ pos 0 }
-    ensures { result ≡ int_div a b }
-{
-    i128::from(a) / i128::from(b)
-}
-
-/// What the quotient leaves, with the sign of the dividend.
-fn rest(a: i64, b: i64) -> i128
-    requires { b ≢ pos 0 }
-    ensures { result ≡ int_rem a b }
-{
-    i128::from(a) % i128::from(b)
+    if_in_type(primitive, a.checked_neg()?)
 }
 
 // ---- operators
-
-fn divide(primitive: Primitive, line: u32, a: i64, b: i64) -> Result<i64, Fault>
-    ensures { evaluated result ≡ values.binary Divide primitive line a b }
-{
-    if b == 0 {
-        Err(fault(FaultKind::Arith, line))
-    } else {
-        in_type(primitive, line, quotient(a, b))
-    }
-}
-
-fn remainder(primitive: Primitive, line: u32, a: i64, b: i64) -> Result<i64, Fault>
-    ensures { evaluated result ≡ values.binary Remainder primitive line a b }
-{
-    if b == 0 {
-        Err(fault(FaultKind::Arith, line))
-    } else {
-        in_type(primitive, line, rest(a, b))
-    }
-}
 
 fn all_ones(primitive: Primitive) -> u64
     ensures { result ≡ 2 ^ width primitive - 1 }

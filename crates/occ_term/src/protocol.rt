@@ -3,6 +3,7 @@
 ghost use Rattle.std.specs.Prelude.{◌≡◌, IfOk};
 
 use crate::primitive::Primitive;
+use occ_held::letters::Letters;
 use sqlite_items::Items;
 use std::alloc::{AllocError, Global};
 use std::marker::Model;
@@ -23,7 +24,7 @@ pub enum PartType {
 #[derive(Debug)]
 pub struct Tag {
     /// The tag's name.
-    pub name: Items<u8>,
+    pub name: Letters,
     /// The parts after the tag, in order.
     pub parts: Items<PartType>,
 }
@@ -171,7 +172,7 @@ impl Tag {
         ensures { IfOk result (λ t. t ≡ self.now) }
     {
         Ok(Tag {
-            name: Items::from_slice(alloc, self.name.as_slice())?,
+            name: self.name.copy()?,
             parts: copy_parts(alloc, self.parts.as_slice())?,
         })
     }

@@ -1,26 +1,23 @@
 //! Strings.
 ghost use Rattle.std.specs.Prelude.{◌≡◌, ◌<◌, ◌^◌, IfOk, length};
-ghost use Rattle.std.specs.Arc.{arc_value};
 
-use sqlite_items::Items;
+use occ_held::letters::Letters;
 use std::alloc::{AllocError, Global};
 use std::marker::Model;
-use std::sync::Arc;
 
 /// The letters of a string, of which there are fewer than 2 to the 32. Contracts see their list. Copies share them.
 pub struct Text {
-    letters: Arc<Items<u8>, Global>,
+    letters: Letters,
 }
 
 impl Model for Text {
     ghost use Rattle.std.specs.Prelude.{◌<◌, ◌^◌, List, ℕ, length};
-    ghost use Rattle.std.specs.Arc.{arc_value};
 
     ghost Value = { List ℕ };
 
-    ghost view = { λ t. arc_value t.letters };
+    ghost view = { λ t. t.letters };
 
-    ghost invariant = { λ t. length (arc_value t.letters) < 2 ^ 32 };
+    ghost invariant = { λ t. length t.letters < 2 ^ 32 };
 }
 
 impl Drop for Text {
@@ -35,15 +32,23 @@ impl Text {
         requires { length letters.now < 2 ^ 32 }
         ensures { IfOk result (λ t. t ≡ letters.now) }
     {
-        let letters = Arc::new(alloc, Items::from_slice(alloc, letters)?)?;
+        let letters = Letters::new(alloc, letters)?;
         Ok(Text { letters })
+    }
+
+    /// These letters, which it shares with their copies.
+    pub fn of(letters: Letters) -> Text
+        requires { length letters < 2 ^ 32 }
+        ensures { result ≡ letters }
+    {
+        Text { letters }
     }
 
     /// A copy, which shares the letters. The error is that there are too many copies.
     pub fn copy(&self) -> Result<Text, AllocError>
         ensures { IfOk result (λ t. t ≡ self.now) }
     {
-        let letters = Arc::try_clone(&self.letters)?;
+        let letters = self.letters.copy()?;
         Ok(Text { letters })
     }
 
@@ -58,6 +63,6 @@ impl Text {
     pub fn len(&self) -> u32
         ensures { result ≡ length self.now }
     {
-        self.letters.len() as u32
+        self.letters.as_slice().len() as u32
     }
 }

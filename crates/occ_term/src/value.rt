@@ -95,18 +95,18 @@ fn first_of_component(
     line: u32,
     first: u32,
     size: u32,
-    others: &[u32],
+    inner: &[u32],
     e: &TermExpr,
     frame: &Frame,
 ) -> Result<u32, Fault>
-    requires few { FewCells first (size ∷ others.now) }
+    requires few { FewCells first (size ∷ inner.now) }
     requires bounded { Bounded (expression_of e.now) (at frame.now) }
     ensures { evaluated result
-        ≡ first_of_component line first size others.now (expression_of e.now) (at frame.now) }
+        ≡ first_of_component line first size inner.now (expression_of e.now) (at frame.now) }
 {
     let v = evaluate(e, frame)?;
     let i = subscript(line, size, v)?;
-    Ok(first_with(first, size, others, i))
+    Ok(first_with(first, size, inner, i))
 }
 
 fn first_with(first: u32, size: u32, others: &[u32], i: u32) -> u32

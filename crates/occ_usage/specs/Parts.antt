@@ -1,13 +1,14 @@
 -- What parts of a term use, as the code has them, and that it has noted this.
 -- Manual: the usage rules check list.
-use Rattle.std.specs.Prelude.{List, OnOk, Option, Result}
+use Rattle.std.specs.Prelude.{List, OnOk, Option, Result, map}
+use Rattle.occ_term.specs.declared.expression.Array.{Array}
 use Rattle.occ_term.specs.declared.expression.Item.{Item}
 use Rattle.occ_term.specs.declared.expression.Place.{Place}
 use Rattle.occ_term.specs.declared.expression.Target.{Target}
 use Rattle.occ_term.specs.declared.expression.TermExpr.{TermExpr}
 use Rattle.occ_term.specs.Terms.{tested}
-use Rattle.occ_term.specs.Uses.{Uses, with_use, reading, named_by, reads_of, reads_in_place, reads_of_items, written_place, input_place, output_place, uses_of_targets}
-use Rattle.occ_term.specs.View.{items_of, place_of, targets_of, test_of}
+use Rattle.occ_term.specs.Uses.{Uses, with_use, reading, inputting, outputting, only, union, named_by, reads_of, reads_of_array, reads_in_place, reads_in_subscripts, reads_of_items, written_place, input_place, output_place, uses_of_targets}
+use Rattle.occ_term.specs.View.{array_of, expression_of, items_of, place_of, subscripts, targets_of, test_of}
 use Rattle.occ_usage.specs.declared.noted.Kind.{Kind}
 use Rattle.occ_usage.specs.declared.noted.Noted.{Noted}
 use Rattle.occ_usage.specs.Noted.{Adds, use_of}
@@ -42,3 +43,24 @@ items_read is = reading (reads_of_items (items_of is))
 -- an arm without a Boolean reads nothing for it
 abbrev pub test_read : Option TermExpr → Uses
 test_read test = reading (reads_of (tested (test_of test)))
+
+-- what reading a place's value reads: what it names, and what its subscripts read
+abbrev pub value_read : Place → Uses
+value_read p = reading (union (named_by (place_of p)) (reads_in_place (place_of p)))
+
+abbrev pub subscripts_read : List TermExpr → Uses
+subscripts_read es = reading (reads_in_subscripts (subscripts (map expression_of es)))
+
+abbrev pub counted_read : TermExpr → Array → Uses
+counted_read count array = reading (union (reads_of (expression_of count)) (reads_of_array (array_of array)))
+
+-- what an assignment uses, and an input
+abbrev pub assigned : List Item → List Target → Uses
+assigned values targets = with_use (items_read values) (targets_written targets)
+
+abbrev pub input_to : Place → List Target → Uses
+input_to channel targets = with_use (input_from channel) (targets_written targets)
+
+-- what stands beside the program uses: the keyboard outputs on channel 0, the screen inputs on 1, the error channel's sink on 2
+abbrev pub used_beside : Uses
+used_beside = with_use (outputting (only 0)) (with_use (inputting (only 1)) (inputting (only 2)))

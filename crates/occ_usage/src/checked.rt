@@ -6,9 +6,10 @@
 ghost use Rattle.std.specs.Prelude.{◌≡◌, IfOk, IfErr};
 ghost use Rattle.occ_term.specs.UnfoldedProgram.{Lawful};
 ghost use Rattle.occ_usage.specs.Refusals.{UsageRefuses};
-ghost use Rattle.occ_term.specs.Uses.{inputting, only, outputting, uses_of, with_use};
+ghost use Rattle.occ_term.specs.Uses.{uses_of};
 ghost use Rattle.occ_usage.specs.Clashes.{clashes};
 ghost use Rattle.occ_usage.specs.Noted.{FaultFor, Finds, uses_in};
+ghost use Rattle.occ_usage.specs.Parts.{used_beside};
 ghost use Rattle.occ_term.specs.View.{term_of};
 
 use crate::clashes::clash_between;
@@ -143,8 +144,7 @@ fn find_clash(alloc: Global, term: &Term) -> Result<Option<Found>, AllocError>
 
 /// The keyboard outputs on channel 0, the screen inputs on 1, and the error channel's sink on 2.
 fn uses_beside(alloc: Global) -> Result<Noted, AllocError>
-    ensures { IfOk result (λ noted. uses_in noted.uses ≡ with_use
-        (outputting (only 0)) (with_use (inputting (only 1)) (inputting (only 2)))) }
+    ensures { IfOk result (λ noted. uses_in noted.uses ≡ used_beside) }
 {
     let mut noted = Noted::new(alloc, 0);
     noted.push(Kind::Output, 0, 1, 0)?;

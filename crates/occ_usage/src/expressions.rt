@@ -1,11 +1,11 @@
 //! The uses of expressions, items, targets and declarations.
-ghost use Rattle.std.specs.Prelude.{◌+◌, ◌<◌, ◌^◌, map};
-ghost use Rattle.occ_term.specs.Uses.{with_use, reading, reads_of, reads_in_place, reads_in_subscripts, named_by, reads_of_array, reads_of_item, uses_of_target, uses_of_declaration, uses_of_declarations, uses_of_replicator, union, only, writing, numbers_in};
+ghost use Rattle.std.specs.Prelude.{◌+◌, ◌<◌, ◌^◌};
+ghost use Rattle.occ_term.specs.Uses.{with_use, reading, reads_of, reads_of_array, reads_of_item, uses_of_target, uses_of_declaration, uses_of_declarations, uses_of_replicator, only, writing, numbers_in};
 ghost use Rattle.occ_term.specs.Terms.{Clearing, Naming};
 ghost use Rattle.occ_term.specs.Values.{span};
 ghost use Rattle.occ_usage.specs.Noted.{use_of};
-ghost use Rattle.occ_usage.specs.Parts.{NotesUses, place_named, place_used, written_to, input_from, output_to, targets_written, items_read};
-ghost use Rattle.occ_term.specs.View.{expression_of, place_of, subscripts, array_of, item_of, target_of, declaration_of, declarations_of, replicator_of};
+ghost use Rattle.occ_usage.specs.Parts.{NotesUses, place_named, place_used, written_to, input_from, output_to, targets_written, items_read, counted_read, subscripts_read, value_read};
+ghost use Rattle.occ_term.specs.View.{expression_of, subscripts, array_of, item_of, target_of, declaration_of, declarations_of, replicator_of};
 
 use crate::noted::{Kind, Noted};
 use crate::places::{cells_of, named};
@@ -44,8 +44,7 @@ pub fn note_expression(e: &TermExpr, noted: &mut Noted) -> Result<(), AllocError
 /// The value of a place: what it names is read, and what its subscripts read.
 #[cycle(reads)]
 fn note_value(place: &Place, noted: &mut Noted) -> Result<(), AllocError>
-    ensures { NotesUses result noted.old noted.new (reading
-        (union (named_by (place_of place.now)) (reads_in_place (place_of place.now)))) }
+    ensures { NotesUses result noted.old noted.new (value_read place.now) }
 {
     note_place(Kind::Read, place, noted)?;
     Ok(())
@@ -63,8 +62,7 @@ pub fn note_place(kind: Kind, place: &Place, noted: &mut Noted) -> Result<(), Al
 
 #[cycle(reads)]
 fn note_subscripts(list: &[TermExpr], noted: &mut Noted) -> Result<(), AllocError>
-    ensures { NotesUses result noted.old noted.new
-        (reading (reads_in_subscripts (subscripts (map expression_of list.now)))) }
+    ensures { NotesUses result noted.old noted.new (subscripts_read list.now) }
 {
     for subscript in list {
         note_expression(subscript, noted)?;
@@ -121,8 +119,7 @@ fn note_item(item: &Item, noted: &mut Noted) -> Result<(), AllocError>
 }
 
 fn note_counted(count: &TermExpr, array: &Array, noted: &mut Noted) -> Result<(), AllocError>
-    ensures { NotesUses result noted.old noted.new (reading
-        (union (reads_of (expression_of count.now)) (reads_of_array (array_of array.now)))) }
+    ensures { NotesUses result noted.old noted.new (counted_read count.now array.now) }
 {
     note_expression(count, noted)?;
     note_array(array, noted)?;

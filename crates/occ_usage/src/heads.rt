@@ -3,7 +3,7 @@ ghost use Rattle.occ_term.specs.Terms as terms;
 ghost use Rattle.occ_term.specs.Uses.{with_use};
 ghost use Rattle.occ_term.specs.View.{arm_of, choice_of, option_of, term_of, variant_of};
 ghost use Rattle.occ_usage.specs.Heads.{head_of, head_of_arms, head_of_choices, head_of_options, head_of_variants};
-ghost use Rattle.occ_usage.specs.Parts.{NotesUses, input_from, output_to, targets_written, items_read, test_read};
+ghost use Rattle.occ_usage.specs.Parts.{NotesUses, input_from, output_to, items_read, test_read, assigned, input_to};
 
 use crate::expressions::{
     note_clearing, note_declaration, note_declarations, note_expression, note_input, note_items,
@@ -42,8 +42,7 @@ pub fn note_head(term: &Term, noted: &mut Noted) -> Result<(), AllocError>
 
 /// The targets stand first, and so are told first.
 fn note_assignment(targets: &[Target], values: &[Item], noted: &mut Noted) -> Result<(), AllocError>
-    ensures { NotesUses result noted.old noted.new
-        (with_use (items_read values.now) (targets_written targets.now)) }
+    ensures { NotesUses result noted.old noted.new (assigned values.now targets.now) }
 {
     note_targets(targets, noted)?;
     note_items(values, noted)?;
@@ -51,8 +50,7 @@ fn note_assignment(targets: &[Target], values: &[Item], noted: &mut Noted) -> Re
 }
 
 fn note_input_to(channel: &Place, targets: &[Target], noted: &mut Noted) -> Result<(), AllocError>
-    ensures { NotesUses result noted.old noted.new
-        (with_use (input_from channel.now) (targets_written targets.now)) }
+    ensures { NotesUses result noted.old noted.new (input_to channel.now targets.now) }
 {
     note_input(channel, noted)?;
     note_targets(targets, noted)?;
