@@ -1,5 +1,5 @@
 -- Which histories of editions are legal.
-use Rattle.std.specs.Prelude.{◌≡◌, Bool, true, false, List, [], ◌∷◌}
+use Rattle.std.specs.Prelude.{◌≡◌, Bool, true, false, MatchBool, List, [], ◌∷◌}
 use mathlib.Core.List.{IsPrefix}
 use Rattle.logbook.specs.Pages.{Book}
 use Rattle.occ_term.specs.Runs.{Entry}
@@ -19,6 +19,10 @@ Follows e x = (e.last ≡ false) × IsPrefix e.entries x.entries
 -- x is e, or came after it
 abbrev pub Extends : Edition → Edition → Type 0
 Extends e x = IsPrefix e.entries x.entries × (e.last ≡ true → x ≡ e)
+
+-- where x goes past e it extends it, and else e extends x
+abbrev pub GoesPast : (past : Bool) → (e x : Edition) → Type 0
+GoesPast past e x = MatchBool past (Extends e x) (Extends x e)
 
 -- each of the editions follows the one before it, and the first follows e
 abbrev pub Rises : Edition → List Edition → Type 0

@@ -1,10 +1,10 @@
 -- What the publisher's changes do.
-use Rattle.std.specs.Prelude.{◌≡◌, Bool, List, [], ◌∷◌, ◌++◌, Option, None, Some}
+use Rattle.std.specs.Prelude.{◌≡◌, Bool, false, List, [], ◌∷◌, ◌++◌, MatchResult, Option, None, Result, Some}
 use mathlib.Core.List.{IsPrefix}
 use Rattle.logbook.specs.Pages.{Book}
 use Rattle.occ_term.specs.Runs.{Entry}
 use Rattle.occ_board.specs.declared.shown.Edition.{Edition}
-use Rattle.occ_board.specs.Editions.{edition, Reached, reached}
+use Rattle.occ_board.specs.Editions.{edition, Extends, Reached, reached}
 use Rattle.occ_board.specs.declared.trace.Change.{Change}
 use Rattle.occ_board.specs.declared.trace.Change.TheVariants.{Show, Reach}
 
@@ -27,6 +27,19 @@ pub record Publishing : Type 0 where
 abbrev pub publishing : List Entry → List Entry → Bool → Publishing
 publishing published pending closed = record { published = published; pending = pending; closed = closed }
 
+-- what is published, and behind it what is pending
+abbrev pub held_by : Publishing → List Entry
+held_by p = p.published ++ p.pending
+
+-- the publisher when it has published all that, perhaps as its last list
+abbrev pub all_published : Publishing → (last : Bool) → Publishing
+all_published p last = publishing (held_by p) [] last
+
+-- the entry stands behind what was pending; or it comes back, and nothing changes
+abbrev pub PutsEntry : {U E : Type 0} → (old new : Publishing) → Entry → Result U (Entry × E) → Type 0
+PutsEntry old new e r =
+    MatchResult r (λ _. new ≡ publishing old.published (old.pending ++ e ∷ []) false) (λ back. (back.0 ≡ e) × (new ≡ old))
+
 -- What is shown is an edition of the history, and the newest edition has no more than what is shown and pending
 abbrev pub IsAhead : Book → List Entry → List Entry → Reached → Reached → Type 0
 IsAhead book published pending shown newest =
@@ -39,6 +52,14 @@ pub record Watching : Type 0 where
 
 abbrev pub watching : List Entry → Edition → Watching
 watching seen known = record { seen = seen; known = known }
+
+-- what it sees now begins with what it saw before, and with what it knew of
+abbrev pub SeesOn : (old new : Watching) → Type 0
+SeesOn old new = IsPrefix old.seen new.seen × IsPrefix old.known.entries new.seen
+
+-- it knows of what it sees, and that extends what it knew of
+abbrev pub Learns : (old new : Watching) → Type 0
+Learns old new = (new.known.entries ≡ new.seen) × Extends old.known new.known
 
 -- what a watcher saw last, which is nothing where it has no place
 abbrev pub seen_by : {R : Type 0} → (R → List Entry) → Option R → List Entry

@@ -1,7 +1,7 @@
 //! The history of a board's editions, of which only the length is stored. A [`Front`] is a beginning of it that was reached, and
 //! can be copied by whoever sees it.
-ghost use Rattle.std.specs.Prelude.{◌≡◌, MatchBool, IfSome, None};
-ghost use Rattle.occ_board.specs.Editions.{blank, reached, Extends, Follows};
+ghost use Rattle.std.specs.Prelude.{◌≡◌, IfSome, None};
+ghost use Rattle.occ_board.specs.Editions.{blank, reached, Follows, GoesPast};
 
 use crate::shown::Edition;
 use logbook::{Gain, Offer, Plain, Play, Rule, Seen, Start, Word};
@@ -118,8 +118,7 @@ impl Front {
     /// Whether this one goes on where the other ends. Either way one of the two begins the other.
     pub fn goes_past(&self, other: &Front) -> bool
         requires { other.now.book ≡ self.now.book }
-        ensures { MatchBool result (Extends other.now.edition self.now.edition)
-            (Extends self.now.edition other.now.edition) }
+        ensures { GoesPast result other.now.edition self.now.edition }
     {
         let mut both = self.seen.again();
         both.learn(&other.seen);

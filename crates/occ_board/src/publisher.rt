@@ -1,11 +1,12 @@
 //! The publisher, which alone makes the list longer.
-ghost use Rattle.std.specs.Prelude.{◌≡◌, ◌≢◌, ◌⊎◌, ◌<◌, ◌≤◌, true, false, [], ◌∷◌, ◌++◌, length, drop, All, Err, IfOk, IfSome, IsTrue, IsFalse, MatchResult, Some, vec_capacity};
+ghost use Rattle.std.specs.Prelude.{◌≡◌, ◌≢◌, ◌⊎◌, ◌<◌, ◌≤◌, true, false, [], length, drop, All, Err, IfOk, IfSome, IsTrue, IsFalse, MatchResult, Some, vec_capacity};
 ghost use mathlib.Core.List.{IsPrefix};
 ghost use Rattle.left_right.specs.Sides.{view};
 ghost use Rattle.occ_board.specs.declared.publisher.BoardFault.TheVariants.{BadWatchers};
 ghost use Rattle.occ_board.specs.Editions.{blank, edition, reached};
 ghost use Rattle.occ_board.specs.FaultTexts.{fault_text};
-ghost use Rattle.occ_board.specs.Traces.{added, publishing, watching, IsAhead};
+ghost use Rattle.occ_board.specs.Traces.{all_published, publishing, watching, PutsEntry};
+ghost use Rattle.occ_board.specs.Writers.{held_in, pending_in, published_in, HasReached, ShowsAll};
 
 use crate::front::{Front, Head, Naming, open_history};
 use crate::shown::{Edition, Shown};
@@ -80,25 +81,26 @@ pub struct Publisher<J: Naming> {
 }
 
 impl<J: Naming> Model for Publisher<J> {
-    ghost use Rattle.std.specs.Prelude.{◌≡◌, [], drop, true};
-    ghost use Rattle.occ_board.specs.Traces.{Publishing, publishing, added, IsAhead};
+    ghost use Rattle.std.specs.Prelude.{◌≡◌, [], true};
+    ghost use Rattle.occ_board.specs.Traces.{Publishing, publishing};
+    ghost use Rattle.occ_board.specs.Writers.{pending_in, published_in, HasReached};
 
     ghost Value = { Publishing };
 
-    ghost view = { λ p. publishing p.writer.desk.shown.value.entries.items (added (drop p.writer.behind p.writer.log.items)) p.front.edition.last };
+    ghost view = { λ p. publishing (published_in p.writer) (pending_in p.writer) p.front.edition.last };
 
-    ghost invariant = { λ p. (p.head ≡ J.book) × IsAhead J.book p.writer.desk.shown.value.entries.items (added (drop p.writer.behind p.writer.log.items)) p.writer.desk.shown.value.front p.front × (p.front.edition.last ≡ true → added (drop p.writer.behind p.writer.log.items) ≡ []) };
+    ghost invariant = { λ p. (p.head ≡ J.book) × HasReached J.book p.writer p.front × (p.front.edition.last ≡ true → pending_in p.writer ≡ []) };
 }
 
 /// The edition that a publisher makes of all that it has, which is not the last.
 struct Further;
 
 impl<J: Naming> Plain<TraceWriter<J>, Edition, u64> for Further {
-    ghost use Rattle.std.specs.Prelude.{◌++◌, drop, false, None};
+    ghost use Rattle.std.specs.Prelude.{false, None};
     ghost use Rattle.occ_board.specs.Editions.{edition};
-    ghost use Rattle.occ_board.specs.Traces.{added};
+    ghost use Rattle.occ_board.specs.Writers.{held_in};
 
-    ghost ask = { λ w. edition (w.desk.shown.value.entries.items ++ added (drop w.behind w.log.items)) false };
+    ghost ask = { λ w. edition (held_in w) false };
 
     ghost state = { λ w. None };
 }
@@ -107,11 +109,11 @@ impl<J: Naming> Plain<TraceWriter<J>, Edition, u64> for Further {
 struct Last;
 
 impl<J: Naming> Plain<TraceWriter<J>, Edition, u64> for Last {
-    ghost use Rattle.std.specs.Prelude.{◌++◌, drop, true, None};
+    ghost use Rattle.std.specs.Prelude.{true, None};
     ghost use Rattle.occ_board.specs.Editions.{edition};
-    ghost use Rattle.occ_board.specs.Traces.{added};
+    ghost use Rattle.occ_board.specs.Writers.{held_in};
 
-    ghost ask = { λ w. edition (w.desk.shown.value.entries.items ++ added (drop w.behind w.log.items)) true };
+    ghost ask = { λ w. edition (held_in w) true };
 
     ghost state = { λ w. None };
 }
@@ -166,8 +168,9 @@ fn empty_writer<J: Naming>(
     readers: usize,
 ) -> Result<TraceWriter<J>, AllocError>
     requires { (front.now ≡ reached J.book blank) × (0 < readers) × (readers ≤ 8) }
-    ensures { IfOk result (λ w. (w.desk.shown.value.entries.items ≡ [])
-        × (w.desk.shown.value.front ≡ reached J.book blank) × (drop w.behind w.log.items ≡ [])) }
+    ensures empty { IfOk result (λ w. published_in w ≡ []) }
+    ensures blank { IfOk result (λ w. w.desk.shown.value.front ≡ reached J.book blank) }
+    ensures none_behind { IfOk result (λ w. drop w.behind w.log.items ≡ []) }
 {
     let first = Trace {
         entries: Vec::new(alloc),
@@ -211,12 +214,8 @@ fn recorded<J: Naming>(
 ) -> Option<Front>
     requires front { (head.now ≡ J.book) × (front.now.book ≡ J.book)
         × (front.now.edition.last ≡ false) }
-    requires ahead { IsPrefix front.now.edition.entries
-        (writer.now.desk.shown.value.entries.items
-        ++ added (drop writer.now.behind writer.now.log.items)) }
-    ensures { IfSome result (λ f. f
-        ≡ reached J.book (edition (writer.now.desk.shown.value.entries.items
-        ++ added (drop writer.now.behind writer.now.log.items)) last)) }
+    requires ahead { IsPrefix front.now.edition.entries (held_in writer.now) }
+    ensures { IfSome result (λ f. f ≡ reached J.book (edition (held_in writer.now) last)) }
 {
     if last {
         return front.add::<TraceWriter<J>, Last>(head, writer);
@@ -226,16 +225,10 @@ fn recorded<J: Naming>(
 
 // Shows all that is pending, as the edition `next`, and says whether it did.
 fn show<J: Naming, R: Wait>(rt: &R, writer: TraceWriter<J>, next: Front) -> (TraceWriter<J>, bool)
-    requires { (next.book ≡ J.book)
-        × (next.edition.entries ≡ writer.desk.shown.value.entries.items
-        ++ added (drop writer.behind writer.log.items)) }
-    ensures shown { IsTrue result.1
-        → (result.0.desk.shown.value.entries.items ≡ next.edition.entries)
-        × (result.0.desk.shown.value.front ≡ next)
-        × (added (drop result.0.behind result.0.log.items) ≡ []) }
-    ensures kept { IsFalse result.1 → (result.0.desk.shown.value ≡ writer.desk.shown.value)
-        × (added (drop result.0.behind result.0.log.items)
-        ≡ added (drop writer.behind writer.log.items)) }
+    requires { (next.book ≡ J.book) × (next.edition.entries ≡ held_in writer) }
+    ensures shown { IsTrue result.1 → ShowsAll result.0 next }
+    ensures kept { IsFalse result.1 → result.0.desk.shown.value ≡ writer.desk.shown.value }
+    ensures pending { IsFalse result.1 → pending_in result.0 ≡ pending_in writer }
 {
     let mut writer = writer;
     let Ok(()) = writer.append(Change::Reach(next)) else {
@@ -258,21 +251,15 @@ fn exchange<J: Naming, R: Wait>(
     last: bool,
 ) -> (TraceWriter<J>, Front, bool)
     requires going { (head.now ≡ J.book) × (front.edition.last ≡ false) }
-    requires ahead { IsAhead J.book writer.desk.shown.value.entries.items
-        (added (drop writer.behind writer.log.items)) writer.desk.shown.value.front front }
+    requires ahead { HasReached J.book writer front }
     ensures shown { IsTrue result.2
-        → (result.0.desk.shown.value.entries.items ≡ writer.desk.shown.value.entries.items
-        ++ added (drop writer.behind writer.log.items))
-        × (added (drop result.0.behind result.0.log.items) ≡ []) × (result.1.edition.last ≡ last) }
-    ensures kept { IsFalse result.2
-        → (result.0.desk.shown.value.entries.items ≡ writer.desk.shown.value.entries.items)
-        × (added (drop result.0.behind result.0.log.items)
-        ≡ added (drop writer.behind writer.log.items)) }
+        → (published_in result.0 ≡ held_in writer) × (pending_in result.0 ≡ []) }
+    ensures last { IsTrue result.2 → result.1.edition.last ≡ last }
+    ensures kept { IsFalse result.2 → published_in result.0 ≡ published_in writer }
+    ensures pending { IsFalse result.2 → pending_in result.0 ≡ pending_in writer }
     ensures going { IsFalse result.2 → result.1.edition.last ≡ false }
-    ensures closed { result.1.edition.last ≡ true
-        → added (drop result.0.behind result.0.log.items) ≡ [] }
-    ensures ahead { IsAhead J.book result.0.desk.shown.value.entries.items
-        (added (drop result.0.behind result.0.log.items)) result.0.desk.shown.value.front result.1 }
+    ensures closed { result.1.edition.last ≡ true → pending_in result.0 ≡ [] }
+    ensures ahead { HasReached J.book result.0 result.1 }
 {
     let Some(next) = recorded(&writer, head, &front, last) else {
         return (writer, front, false);
@@ -292,9 +279,7 @@ impl<J: Naming> Publisher<J> {
     /// Puts an entry behind what is pending. The entry comes back where a growth was refused.
     pub fn append(&mut self, shown: Shown) -> Result<(), (Shown, AllocError)>
         requires { self.old.closed ≡ false }
-        ensures { MatchResult result (λ _.
-            self.new ≡ publishing self.old.published (self.old.pending ++ shown ∷ []) false)
-            (λ r. (r.0 ≡ shown) × (self.new ≡ self.old)) }
+        ensures { PutsEntry self.old self.new shown result }
     {
         let Err(refused) = self.writer.append(Change::Show(shown)) else {
             return Ok(());
@@ -312,8 +297,7 @@ impl<J: Naming> Publisher<J> {
     /// `Refused`; what is published and what is pending stay as they were.
     pub fn publish<R: Wait>(self, rt: &R) -> (Publisher<J>, Result<(), BoardFault>)
         requires { self.closed ≡ false }
-        ensures { MatchResult result.1 (λ _.
-            result.0 ≡ publishing (self.published ++ self.pending) [] false)
+        ensures { MatchResult result.1 (λ _. result.0 ≡ all_published self false)
             (λ _. result.0 ≡ self) }
     {
         self.put_out(rt, false)
@@ -326,16 +310,16 @@ impl<J: Naming> Publisher<J> {
     /// `Refused`, as of `publish`. From then on each call of this and of `publish` answers it.
     pub fn close<R: Wait>(self, rt: &R) -> (Publisher<J>, Result<(), BoardFault>)
         requires { self.closed ≡ false }
-        ensures { MatchResult result.1 (λ _.
-            result.0 ≡ publishing (self.published ++ self.pending) [] true) (λ _. result.0 ≡ self) }
+        ensures { MatchResult result.1 (λ _. result.0 ≡ all_published self true)
+            (λ _. result.0 ≡ self) }
     {
         self.put_out(rt, true)
     }
 
     fn put_out<R: Wait>(self, rt: &R, last: bool) -> (Publisher<J>, Result<(), BoardFault>)
         requires { self.closed ≡ false }
-        ensures { MatchResult result.1 (λ _.
-            result.0 ≡ publishing (self.published ++ self.pending) [] last) (λ _. result.0 ≡ self) }
+        ensures { MatchResult result.1 (λ _. result.0 ≡ all_published self last)
+            (λ _. result.0 ≡ self) }
     {
         let Publisher {
             writer,

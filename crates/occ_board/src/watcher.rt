@@ -3,7 +3,7 @@ ghost use Rattle.std.specs.Prelude.{◌≡◌, ◌⊎◌, true, MatchResult};
 ghost use Rattle.std.specs.Fn.{FnOnceReturnsAt};
 ghost use mathlib.Core.List.{IsPrefix};
 ghost use Rattle.occ_board.specs.Editions.{Extends};
-ghost use Rattle.occ_board.specs.Traces.{Watching};
+ghost use Rattle.occ_board.specs.Traces.{Learns, SeesOn, Watching};
 
 use crate::front::{Front, Naming};
 use crate::shown::Shown;
@@ -63,11 +63,8 @@ impl<J: Naming> Watcher<J> {
         requires { F.IsAlwaysCallable f }
         ensures answer { MatchResult result (λ r. FnOnceReturnsAt F.FnOnce f r.0.seen r.1)
             (λ w. w.known ≡ self.known) }
-        ensures seen { MatchResult result
-            (λ r. IsPrefix self.seen r.0.seen × IsPrefix self.known.entries r.0.seen)
-            (λ w. IsPrefix self.seen w.seen) }
-        ensures known { MatchResult result
-            (λ r. (r.0.known.entries ≡ r.0.seen) × Extends self.known r.0.known)
+        ensures seen { MatchResult result (λ r. SeesOn self r.0) (λ w. IsPrefix self.seen w.seen) }
+        ensures known { MatchResult result (λ r. Learns self r.0)
             (λ w. IsPrefix w.seen w.known.entries) }
     {
         let Watcher { reader, known } = self;

@@ -1,14 +1,14 @@
 -- The sequence chart of a run, in SVG: a column for each end that takes part, from top to bottom an arrow for each communication, and at
 -- the foot what each process waits for.
 -- Manual: nothing; this is (own).
-use Rattle.std.specs.Prelude.{Bool, List, [], codes, drop, false, if◌then◌else◌, length, max, min, nat_eq, nat_lt, take, true, ℕ, ◌&&◌, ◌++◌, ◌+◌, ◌-◌, ◌*◌, ◌∷◌, ◌≡◌, Vec}
+use Rattle.std.specs.Prelude.{Bool, List, OnOk, Result, [], codes, drop, false, if◌then◌else◌, length, max, min, nat_eq, nat_lt, take, true, ℕ, ◌&&◌, ◌++◌, ◌+◌, ◌-◌, ◌*◌, ◌∷◌, ◌≡◌, Vec}
 use Rattle.std.specs.Fmt.{decimal}
 use Rattle.occ_term.specs.declared.communication.End.{End}
 use Rattle.occ_term.specs.declared.communication.End.TheVariants.{Process as OfProcess}
 use Rattle.occ_term.specs.Runs.{Entry}
 use Rattle.occ_term.specs.declared.ending.Ending.{Ending}
 use Rattle.occ_term.specs.Endings.{ending_text}
-use Rattle.occ_shown.specs.Answers.{numbers_text, entries_in}
+use Rattle.occ_shown.specs.Answers.{AddsText, numbers_text, entries_in}
 use Rattle.occ_chart.specs.declared.part.Part.{Part}
 use Rattle.occ_chart.specs.declared.part.Part.TheVariants.{First, Last}
 use Rattle.occ_chart.specs.declared.xml.Style.TheVariants.{Plain, Red, Note, RedNote}
@@ -176,3 +176,7 @@ head_of_end names x y end = label Plain x y 24 (end_name (texts_of names) end) (
 -- a chart of what code has
 abbrev pub IsChartOf : {A : Type 0} → List Channel → List Communication → Part → Ending → List (Vec ℕ A) → List Footing → List ℕ → Vec ℕ A → Type 0
 IsChartOf cs trace part ending names ss circle bytes = IsChart (entries_in cs trace) part ending (texts_of names) ss circle bytes.items
+
+-- the foot was put behind a text
+abbrev pub PutsFoot : {X E A B : Type 0} → Result X E → Vec ℕ A → Vec ℕ A → List (Vec ℕ B) → List End → (count after : ℕ) → Bool → List Footing → (circle : List ℕ) → Ending → Type 0
+PutsFoot done old new names columns count after high stubs circle ending = OnOk done (AddsText old new (foot (texts_of names) columns count after high stubs circle ending))

@@ -1,6 +1,6 @@
 //! The sequence chart of a run, in SVG.
-ghost use Rattle.std.specs.Prelude.{◌≡◌, ◌≤◌, ◌^◌, IfOk, OnOk, length};
-ghost use Rattle.occ_chart.specs.Charts.{IsChartOf, above, foot, svg_opening};
+ghost use Rattle.std.specs.Prelude.{◌≤◌, ◌^◌, IfOk, OnOk, length};
+ghost use Rattle.occ_chart.specs.Charts.{IsChartOf, above, foot, svg_opening, PutsFoot};
 ghost use Rattle.occ_shown.specs.Answers.{AddsText, HasBytes};
 ghost use Rattle.occ_chart.specs.Labels.{texts_of};
 
@@ -127,9 +127,7 @@ fn write_below(
 ) -> Result<(), AllocError>
     requires few { length columns.now ≤ 2 ^ 40 }
     requires near { count ≤ 990 }
-    ensures { OnOk result (AddsText out.old out.new
-        (foot (texts_of names.now) columns.now count after is_cut stubs.now circle.now
-        ending)) }
+    ensures { PutsFoot result out.old out.new names.now columns.now count after is_cut stubs.now circle.now ending }
 {
     let bottom = row(count);
     write_feet(alloc, out, columns, bottom, stubs)?;

@@ -104,17 +104,17 @@ pub(crate) fn write_heads_again(
     alloc: Global,
     out: &mut Vec<u8>,
     names: &[Vec<u8>],
-    bottom: u64,
+    y: u64,
     count: usize,
     columns: &[End],
 ) -> Result<(), AllocError>
     requires columns { length columns.now ≤ 2 ^ 40 }
-    requires bottom { bottom ≤ 2 ^ 40 }
-    ensures { OnOk result (AddsElements out.old out.new
-        (heads_again (texts_of names.now) bottom count columns.now)) }
+    requires bottom { y ≤ 2 ^ 40 }
+    ensures { OnOk result
+        (AddsElements out.old out.new (heads_again (texts_of names.now) y count columns.now)) }
 {
     if count > 40 {
-        return write_heads(alloc, out, names, bottom + 46, columns);
+        return write_heads(alloc, out, names, y + 46, columns);
     }
     Ok(())
 }

@@ -5,6 +5,8 @@ use Rattle.occ_chart.specs.declared.part.Part.{Part}
 use Rattle.occ_chart.specs.Charts.{IsChart}
 use Rattle.occ_chart.specs.Columns.{Footing, footing}
 use Rattle.occ_chart.specs.Labels.{foot_words, texts_of}
+use Rattle.occ_choices.specs.Plans.{choices_of}
+use Rattle.occ_choices.specs.declared.plan.Plan.{Plan}
 use Rattle.occ_machine.specs.Compiled.{Program}
 use Rattle.occ_machine.specs.declared.task.Task.{Task}
 use Rattle.occ_net_replay.specs.declared.choice.Choice.{Choice}
@@ -71,11 +73,12 @@ pub record IsRunChart (options : Options) (source keyboard : List ℕ) (list : L
 
 -- ---- of what code has
 
-abbrev pub IsReplayChartOf : {A : Type 0} → Program → List ℕ → List Choice → Part → List (Vec ℕ A) → List ℕ → Vec ℕ A → Type 0
-IsReplayChartOf p keyboard list part names circle bytes = IsReplayChart p keyboard list part (texts_of names) circle bytes.items
+abbrev pub IsReplayChartOf : {A : Type 0} → Program → List ℕ → Plan → Part → List (Vec ℕ A) → List ℕ → Vec ℕ A → Type 0
+IsReplayChartOf p keyboard plan part names circle bytes = IsReplayChart p keyboard (choices_of plan) part (texts_of names) circle bytes.items
 
-abbrev pub IsRunChartOf : {A : Type 0} → Options → (source keyboard : List ℕ) → List Choice → Part → List (Vec ℕ A) → List ℕ → Vec ℕ A → Type 0
-IsRunChartOf options source keyboard list part names circle bytes = IsRunChart options source keyboard list part (texts_of names) circle bytes.items
+abbrev pub IsRunChartOf : {A : Type 0} → Options → (source keyboard : List ℕ) → Plan → Part → List (Vec ℕ A) → List ℕ → Vec ℕ A → Type 0
+IsRunChartOf options source keyboard plan part names circle bytes =
+    IsRunChart options source keyboard (choices_of plan) part (texts_of names) circle bytes.items
 
 -- private contracts alone cite these: the words of a process, and of whatever network the tables hold
 abbrev pub AddsFooting : {A B : Type 0} → ℕ → Option (Vec ℕ A) → (old new : Vec Footing B) → Type 0

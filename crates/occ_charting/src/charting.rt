@@ -1,7 +1,6 @@
 //! Charts of runs.
 ghost use Rattle.std.specs.Prelude.{IfErr, IfOk};
 ghost use Rattle.occ_charting.specs.Charting.{IsReplayChartOf, IsRunChartOf};
-ghost use Rattle.occ_choices.specs.Plans.{choices_of};
 ghost use Rattle.occ_play.specs.Playing.{Refuses};
 
 use crate::feet::feet;
@@ -25,8 +24,8 @@ fn drawn(
     names: &[Vec<u8>],
     circle: &[u32],
 ) -> Result<Vec<u8>, AllocError>
-    ensures { IfOk result (IsReplayChartOf
-        code.now keyboard.now (choices_of plan.now) part names.now circle.now) }
+    ensures { IfOk result
+        (IsReplayChartOf code.now keyboard.now plan.now part names.now circle.now) }
 {
     let Ran {
         ending,
@@ -69,8 +68,8 @@ pub fn chart(
     names: &[Vec<u8>],
     circle: &[u32],
 ) -> Result<Vec<u8>, PlayFault>
-    ensures drawn { IfOk result (IsRunChartOf
-        options.now source.now keyboard.now (choices_of plan.now) part names.now circle.now) }
+    ensures drawn { IfOk result (IsRunChartOf options.now source.now keyboard.now plan.now part
+        names.now circle.now) }
     ensures refused { IfErr result (Refuses options.now source.now) }
 {
     let code = code_of(options, alloc, source)?;

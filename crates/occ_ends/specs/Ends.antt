@@ -231,3 +231,7 @@ AddsUses old ps new = ListsUses old.items ps new.items
 
 abbrev pub AddsBehind : {A : Type 0} → Vec ProcessUses A → (others all : List Numbered) → Vec ProcessUses A → Type 0
 AddsBehind old others all new = (before : List ProcessUses) → ListsUses before others old.items → ListsUses before all new.items
+
+-- those of one before whatever others, where it is put before them so
+abbrev pub AddsAhead : {A S : Type 0} → (branches : S → List Numbered) → (put : S → S) → (old new : Vec ProcessUses A) → Type 0
+AddsAhead {S = S} branches put old new = (others : S) → AddsBehind old (branches others) (branches (put others)) new

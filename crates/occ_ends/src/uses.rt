@@ -3,7 +3,7 @@ ghost use Rattle.std.specs.Prelude.{◌≡◌, ◌∷◌, [], IfOk, OnOk, map};
 ghost use Rattle.occ_term.specs.Terms as terms;
 ghost use Rattle.occ_term.specs.Processes.{branches_among, branches_in, branches_in_arms, branches_in_choices, branches_in_options, branches_in_reception, branches_in_terms, branches_in_variants, numbered};
 ghost use Rattle.occ_term.specs.View.{arm_of, arms_of, branches_of, choice_of, choices_of, option_of, options_of, reception_of, term_of, terms_of, variants_of};
-ghost use Rattle.occ_ends.specs.Ends.{AddsBehind, AddsUses, all_using, noted_for};
+ghost use Rattle.occ_ends.specs.Ends.{AddsAhead, AddsUses, all_using, noted_for};
 ghost use Rattle.occ_ends.specs.declared.uses.ProcessUses.{ProcessUses};
 
 use occ_term::{Arm, Branch, Choice, Reception, Selection, Term, Variant};
@@ -150,8 +150,8 @@ fn add_in_choice(
     choice: &Choice,
     list: &mut Vec<ProcessUses>,
 ) -> Result<(), AllocError>
-    ensures { OnOk result ((others : terms.Choices) → AddsBehind list.old
-        (branches_in_choices others) (branches_in_choices (choice_of choice.now others)) list.new) }
+    ensures { OnOk result
+        (AddsAhead branches_in_choices (choice_of choice.now) list.old list.new) }
 {
     match choice {
         Choice::When(_, body) => {
@@ -193,8 +193,8 @@ fn add_in_option(
     option: &Selection,
     list: &mut Vec<ProcessUses>,
 ) -> Result<(), AllocError>
-    ensures { OnOk result ((others : terms.Options) → AddsBehind list.old
-        (branches_in_options others) (branches_in_options (option_of option.now others)) list.new) }
+    ensures { OnOk result
+        (AddsAhead branches_in_options (option_of option.now) list.old list.new) }
 {
     match option {
         Selection::Among(_, _, body) => {
@@ -223,8 +223,7 @@ fn add_in_arms(alloc: Global, arms: &[Arm], list: &mut Vec<ProcessUses>) -> Resu
 /// Those of an arm before others.
 #[cycle(branches)]
 fn add_in_arm(alloc: Global, arm: &Arm, list: &mut Vec<ProcessUses>) -> Result<(), AllocError>
-    ensures { OnOk result ((others : terms.Arms) → AddsBehind list.old
-        (branches_in_arms others) (branches_in_arms (arm_of arm.now others)) list.new) }
+    ensures { OnOk result (AddsAhead branches_in_arms (arm_of arm.now) list.old list.new) }
 {
     match arm {
         Arm::SkipArm(_, body) => {

@@ -1,6 +1,6 @@
 -- What is wrong where a text is refused.
 -- Manual: nothing; this is (own).
-use Rattle.std.specs.Prelude.{Bool, List, [], codes, if◌then◌else◌, map, ℕ, ◌==◌, ◌||◌, ◌∷◌}
+use Rattle.std.specs.Prelude.{Bool, IsFalse, List, [], codes, if◌then◌else◌, map, ℕ, ◌==◌, ◌||◌, ◌∷◌, ◌≡◌}
 use Rattle.occ_explain.specs.declared.cause_table.TheConstants.{CAUSES}
 
 -- the cause beside a number
@@ -18,3 +18,7 @@ abbrev pub is_told_closer : ℕ → Bool
 is_told_closer n =
     n == 2 || n == 4 || n == 5 || n == 6 || n == 20 || n == 21 || n == 22
     || n == 30 || n == 31 || n == 50 || n == 51 || n == 52
+
+-- what is told is the cause, unless that is told more closely
+abbrev pub TellsCause : (number : ℕ) → List ℕ → Type 0
+TellsCause number wrong = IsFalse (is_told_closer number) → wrong ≡ cause_of number

@@ -3,6 +3,7 @@
 use Rattle.std.specs.Prelude.{Bool, List, [], codes, if◌then◌else◌, length, map, nat_lt, replicate, ℕ, ◌++◌, ◌-◌, ◌==◌, ◌||◌, ◌∷◌}
 use Rattle.std.specs.Fmt.{decimal}
 use Rattle.occ_files.specs.Names.{printed_name}
+use Rattle.occ_explain.specs.declared.explaining.Explanation.{Explanation}
 
 -- a byte that would move a terminal, or is no ASCII
 abbrev pub is_hidden : ℕ → Bool
@@ -38,3 +39,7 @@ hint_line hint = if length hint == 0 then [] else 32 ∷ 32 ∷ printable hint +
 unfoldable pub explained_text : (file : List ℕ) (line column : ℕ) (source wrong hint : List ℕ) → List ℕ
 explained_text file line column source wrong hint =
     first_line file line column wrong ++ source_line line source ++ caret_line line column ++ hint_line hint
+
+-- an explanation, behind the file's name
+abbrev pub explanation_text : (file : List ℕ) → Explanation → List ℕ
+explanation_text file e = explained_text file e.line e.column e.source.now e.wrong.items e.hint.items

@@ -26,6 +26,10 @@ pub record IsPlace (text : List ℕ) (line column : ℕ) : Type 0 where
 abbrev pub number_of_line : LogicalLine → ℕ
 number_of_line (logical_line number level ws) = number
 
--- No logical line of the text begins behind the first of these physical lines, up to the second one.
+-- None of these logical lines begins behind the first of these physical lines, up to the second one.
+abbrev pub NoneBegins : (from to : ℕ) → List LogicalLine → Type 0
+NoneBegins from to all = All (λ l. (number_of_line l ≤ from) ⊎ (to < number_of_line l)) all
+
+-- No logical line of the text does.
 abbrev pub IsNear : (text : List ℕ) (from to : ℕ) → Type 0
-IsNear text from to = (all : List LogicalLine) → LinesOf text all → All (λ l. (number_of_line l ≤ from) ⊎ (to < number_of_line l)) all
+IsNear text from to = (all : List LogicalLine) → LinesOf text all → NoneBegins from to all

@@ -1,7 +1,7 @@
 //! Explanations of refusals.
-ghost use Rattle.std.specs.Prelude.{◌≡◌, ◌≤◌, IfOk, IsFalse, length, ℕ};
+ghost use Rattle.std.specs.Prelude.{◌≡◌, ◌≤◌, IfOk, length, ℕ};
 ghost use Rattle.std.specs.Str.Lines.{lines};
-ghost use Rattle.occ_explain.specs.Causes.{cause_of, is_told_closer};
+ghost use Rattle.occ_explain.specs.Causes.{TellsCause};
 ghost use Rattle.occ_explain.specs.Places.{IsNear, IsPlace, line_numbered};
 
 use crate::finding::{Spot, finding_of};
@@ -73,8 +73,7 @@ pub fn explain<'a>(
     ensures shown { IfOk result (λ e. e.source.now ≡ line_numbered source.now e.line) }
     ensures near { IfOk result (λ e. 1 ≤ refusal.now.line
         → IsNear source.now refusal.now.line e.line) }
-    ensures cause { IfOk result (λ e. IsFalse (is_told_closer refusal.now.number)
-        → e.wrong.items ≡ cause_of refusal.now.number) }
+    ensures cause { IfOk result (λ e. TellsCause refusal.now.number e.wrong.items) }
     ensures some { IfOk result (λ e. 1 ≤ length e.wrong.items) }
     ensures reached { IfOk result (λ e. refusal.now.line ≤ length (lines source.now)
         → refusal.now.line ≤ e.line) }

@@ -1,7 +1,7 @@
 //! What is found out about a refusal: a place, what is wrong there, and how it is mended.
 
-ghost use Rattle.std.specs.Prelude.{◌≡◌, ◌≤◌, ◌+◌, IfOk, IsFalse, length};
-ghost use Rattle.occ_explain.specs.Causes.{cause_of, is_told_closer};
+ghost use Rattle.std.specs.Prelude.{◌≡◌, ◌≤◌, ◌+◌, IfOk, length};
+ghost use Rattle.occ_explain.specs.Causes.{TellsCause, cause_of};
 
 use crate::causes::cause_of;
 use crate::class::Class;
@@ -65,8 +65,7 @@ pub(crate) fn finding_of(
     text: &Text<'_>,
     refusal: &Refusal<'_>,
 ) -> Result<Finding, AllocError>
-    ensures cause { IfOk result (λ f. IsFalse (is_told_closer refusal.now.number)
-        → f.wrong.items ≡ cause_of refusal.now.number) }
+    ensures cause { IfOk result (λ f. TellsCause refusal.now.number f.wrong.items) }
     ensures some { IfOk result (λ f. 1 ≤ length f.wrong.items) }
 {
     let Some(index) = line_index(text, refusal) else {

@@ -1,7 +1,7 @@
 //! Whether physical lines stand in one logical line.
-ghost use Rattle.std.specs.Prelude.{◌≤◌, ◌<◌, ◌⊎◌, All, IfOk, IsTrue, map};
+ghost use Rattle.std.specs.Prelude.{IfOk, IsTrue, map};
 ghost use Rattle.occ_text.specs.Words.{logical_line_of};
-ghost use Rattle.occ_explain.specs.Places.{IsNear, number_of_line};
+ghost use Rattle.occ_explain.specs.Places.{IsNear, NoneBegins};
 
 use occ_text::{Line, TextFault, read_lines};
 use std::alloc::{AllocError, Global};
@@ -9,8 +9,7 @@ use std::alloc::{AllocError, Global};
 /// Whether none of these lines begins behind the first place, up to the second one.
 #[tactic(auto, using(crate::proofs::Nearby::one_elsewhere))]
 fn none_begins(mut lines: &[Line], from: u32, to: u32) -> bool
-    ensures { IsTrue result → All (λ l. (number_of_line l ≤ from) ⊎ (to < number_of_line l))
-        (map logical_line_of lines.entry.now) }
+    ensures { IsTrue result → NoneBegins from to (map logical_line_of lines.entry.now) }
 {
     while let [line, rest @ ..] = lines {
         if from < line.number && line.number <= to {

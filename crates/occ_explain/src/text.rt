@@ -2,7 +2,7 @@
 ghost use Rattle.std.specs.Prelude.{◌≡◌, ◌≤◌, ◌++◌, IfOk, OnOk, drop, length, replicate};
 ghost use Rattle.std.specs.Str.{IsAscii};
 ghost use Rattle.occ_files.specs.Names.{printed_name};
-ghost use Rattle.occ_explain.specs.Explanations.{caret_line, explained_text, first_line, hint_line, printable, shown_byte, source_line};
+ghost use Rattle.occ_explain.specs.Explanations.{caret_line, explanation_text, first_line, hint_line, printable, shown_byte, source_line};
 
 use crate::explaining::Explanation;
 use occ_files::printed_name;
@@ -111,9 +111,7 @@ pub fn explained(
     explanation: &Explanation<'_>,
 ) -> Result<Vec<u8>, AllocError>
     ensures ascii { IfOk result (λ v. IsAscii (drop (length (printed_name file.now)) v.items)) }
-    ensures written { let e = explanation.now in IfOk result
-        (λ v. v.items ≡ explained_text file.now e.line e.column e.source.now e.wrong.items
-        e.hint.items) }
+    ensures written { IfOk result (λ v. v.items ≡ explanation_text file.now explanation.now) }
 {
     let (line, column) = (explanation.line, explanation.column);
     let mut out = Vec::new(alloc);

@@ -1,7 +1,9 @@
 -- What is told behind the line of a refusal, and behind the ending of a run.
 -- Manual: nothing; this is (own).
-use Rattle.std.specs.Prelude.{IsFalse, List, None, Option, Some, [], length, min, suc, zero, ℕ, ◌++◌, ◌∷◌, ◌≡◌, ◌≤◌}
+use Rattle.std.specs.Prelude.{List, None, Option, Some, Vec, [], length, min, option_map, suc, zero, ℕ, ◌++◌, ◌∷◌, ◌≡◌, ◌≤◌}
 use Rattle.std.specs.Str.Lines.{lines}
+use Rattle.occ_choices.specs.Plans.{choices_of}
+use Rattle.occ_choices.specs.declared.plan.Plan.{Plan}
 use Rattle.occ_machine.specs.Compiled.{Program}
 use Rattle.occ_net_replay.specs.declared.choice.Choice.{Choice}
 use Rattle.occ_play.specs.declared.fault.PlayFault.{PlayFault}
@@ -17,7 +19,7 @@ use Rattle.occ_check_names.specs.declared.fault.CheckFault.TheVariants as checks
 use Rattle.occ_usage.specs.declared.checked.UsageFault.TheVariants as usages
 use Rattle.occ_code.specs.declared.compiling.CodeFault.TheVariants as codings
 use Rattle.occ_explain.specs.declared.refusal.Refusal.{Refusal}
-use Rattle.occ_explain.specs.Causes.{cause_of, is_told_closer}
+use Rattle.occ_explain.specs.Causes.{TellsCause}
 use Rattle.occ_explain.specs.Places.{IsNear, IsPlace, line_numbered}
 use Rattle.occ_explain.specs.Explanations.{explained_text}
 use Rattle.occ_chart.specs.declared.part.Part.{Part}
@@ -86,7 +88,7 @@ pub record IsExplained (source file : List ℕ) (number named : ℕ) (bytes : Li
   pub within : IsPlace source line column
   pub reached : named ≤ length (lines source) → named ≤ line
   pub near : 1 ≤ named → IsNear source named line
-  pub cause : IsFalse (is_told_closer number) → wrong ≡ cause_of number
+  pub cause : TellsCause number wrong
   pub some : 1 ≤ length wrong
   pub is : bytes ≡ explained_text file line column (line_numbered source line) wrong hint
 
@@ -95,6 +97,9 @@ abbrev pub TellsRefusal : (source file : List ℕ) → Option NumberAndLine → 
 TellsRefusal source file None told = told ≡ None
 TellsRefusal source file (Some refusal) None = Some refusal ≡ None
 TellsRefusal source file (Some refusal) (Some bytes) = IsExplained source file refusal.0 refusal.1 bytes
+
+abbrev pub TellsFault : {A : Type 0} → (source file : List ℕ) → PlayFault → Option (Vec ℕ A) → Type 0
+TellsFault source file fault told = TellsRefusal source file (refusal_in fault) (option_map (λ v. v.items) told)
 
 -- The report of the run of a source by these choices, by the code that it has for turns of these options. What it tells of places
 -- fits that code and the logical lines of the source; who is at the ends of channels is told by what the program of the source uses.
@@ -130,6 +135,10 @@ pub record IsNamedChart (options : Options) (source keyboard : List ℕ) (list :
   pub circle : List ℕ
   pub waits : IsCircleOf (meaning unfolded) program keyboard list circle
   pub chart : IsRunChart options source keyboard list part names circle bytes
+
+-- by the choices of a plan
+abbrev pub IsNamedChartBy : {A : Type 0} → Options → (source keyboard : List ℕ) → Plan → Part → Vec ℕ A → Type 0
+IsNamedChartBy options source keyboard plan part bytes = IsNamedChart options source keyboard (choices_of plan) part bytes.items
 
 -- The turns of the run of a source by these choices. The lines at which processes stand fit the code and the lines of the source.
 pub record StepsOf (options : Options) (source keyboard : List ℕ) (list : List Choice) (bytes : List ℕ) : Type 0 where

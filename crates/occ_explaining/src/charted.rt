@@ -1,7 +1,6 @@
 //! Charts whose columns have the names of the PROCs.
 ghost use Rattle.std.specs.Prelude.{◌≡◌, IfErr, IfOk, map};
-ghost use Rattle.occ_choices.specs.Plans.{choices_of};
-ghost use Rattle.occ_explaining.specs.Explaining.{IsNamedChart, first_names};
+ghost use Rattle.occ_explaining.specs.Explaining.{IsNamedChartBy, first_names};
 ghost use Rattle.occ_play.specs.Playing.{Refuses};
 
 use crate::reported::{lines_of, tree_of, unfolded_of};
@@ -31,8 +30,8 @@ pub fn named_chart(
     plan: &Plan,
     part: Part,
 ) -> Result<Vec<u8>, PlayFault>
-    ensures drawn { IfOk result (λ bytes.
-        IsNamedChart options.now source.now keyboard.now (choices_of plan.now) part bytes.items) }
+    ensures drawn { IfOk result
+        (IsNamedChartBy options.now source.now keyboard.now plan.now part) }
     ensures refused { IfErr result (Refuses options.now source.now) }
 {
     let code = code_of(options, alloc, source)?;

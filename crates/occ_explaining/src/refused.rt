@@ -1,6 +1,6 @@
 //! Explanations of what a play was refused for.
 ghost use Rattle.std.specs.Prelude.{◌≡◌, IfOk, Some, None, option_map};
-ghost use Rattle.occ_explaining.specs.Explaining.{TellsRefusal, number_and_line, numbered_of, refusal_in};
+ghost use Rattle.occ_explaining.specs.Explaining.{TellsFault, number_and_line, numbered_of, refusal_in};
 
 use occ_check_names::fault::CheckFault;
 use occ_code::CodeFault;
@@ -128,8 +128,7 @@ pub fn explained_fault(
     file: &[u8],
     fault: &PlayFault,
 ) -> Result<Option<Vec<u8>>, AllocError>
-    ensures { IfOk result (λ told. TellsRefusal source.now file.now (refusal_in fault.now)
-        (option_map (λ v. v.items) told)) }
+    ensures { IfOk result (TellsFault source.now file.now fault.now) }
 {
     let Some(refusal) = refusal_of(fault) else {
         return Ok(None);

@@ -23,6 +23,10 @@ breaks_of c = failures_of c - interruptions_of c
 abbrev pub reader_of : {R : Type 0} → CountedReader R → R
 reader_of c = c.reader
 
+-- these are the next bytes, of a reader that tells what it has
+abbrev pub ReadsNext : {R : Type 0} → (R → Option (List ℕ)) → CountedReader R → CountedReader R → List ℕ → Type 0
+ReadsNext remaining old new bytes = Consumes (remaining (reader_of old)) (remaining (reader_of new)) bytes
+
 -- why the last of them failed
 abbrev pub reason_kept : {R : Type 0} → CountedReader R → Reason
 reason_kept c = c.reason
@@ -37,5 +41,5 @@ TellsReason old new Memory = breaks_of new ≡ breaks_of old
 -- what was added are the next bytes
 pub record Grows {R : Type 0} (remaining : R → Option (List ℕ)) (old new : CountedReader R) (before after : List ℕ) : Type 0 where
   pub more : List ℕ
-  pub next : Consumes (remaining (reader_of old)) (remaining (reader_of new)) more
+  pub next : ReadsNext remaining old new more
   pub added : after ≡ before ++ more

@@ -23,3 +23,7 @@ pub record IsHistory (p : Program) (net : Net) (chan : ℕ) (messages : List Mes
   pub input : net.input chan ≡ messages
   pub trace : messages_on chan net.trace ≡ messages
   pub fits : AllFit (protocol_on p chan) messages
+
+-- each channel has those of the trace
+abbrev pub HasHistories : Program → Net → Type 0
+HasHistories p net = (chan : ℕ) → IsHistory p net chan (messages_on chan net.trace)

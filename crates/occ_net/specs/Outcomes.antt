@@ -10,9 +10,13 @@ use Rattle.occ_net_replay.specs.Replay.{Net, ending_of}
 use Rattle.occ_net_tables.specs.declared.running.Outcome.{Outcome as Alone}
 use Rattle.occ_net_tables.specs.Outcomes.{Begins}
 use Rattle.occ_net_tables.specs.Places.{Placed}
-use Rattle.occ_net.specs.Histories.{IsHistory}
+use Rattle.occ_net.specs.Histories.{HasHistories}
 use Rattle.occ_net.specs.Networks.{IsState, Past, fresh}
 use Rattle.occ_net.specs.declared.outcome.Outcome.{Outcome}
+
+-- where it has ended, no fault was noted
+abbrev pub EndsClean : Program → Net → Type 0
+EndsClean p net = or_limit (ending_of p.errors net) ≡ E.Ended → net.noted ≡ []
 
 -- The ending of its network's state, Limit where there is none, and the bytes that were input from the screen's and the error channel.
 -- It has ended only where no fault was noted. On each channel the messages output are those input, in order, each of its protocol.
@@ -21,7 +25,7 @@ pub record Shows (net : Net) (o : Outcome) : Type 0 where
   pub clean : o.ending ≡ E.Ended → net.noted ≡ []
   pub screen : o.screen.items ≡ bytes_of (messages_on 1 net.trace)
   pub error : o.error.items ≡ bytes_of (messages_on 2 net.trace)
-  pub histories : (chan : ℕ) → IsHistory o.network.program net chan (messages_on chan net.trace)
+  pub histories : HasHistories o.network.program net
 
 -- What one thread's outcome has of a network in this state: its choices, its ending, Limit where there is none, and its communications.
 pub record IsReplayOf (n : Past) (net : Net) (o : Alone) : Type 0 where

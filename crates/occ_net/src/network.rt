@@ -1,11 +1,9 @@
 //! A network, and what is read from it.
-ghost use Rattle.std.specs.Prelude.{◌≡◌, ◌↔◌, ◌<◌, [], IfErr, IfNone, IfOk, IfSome, IsSome, None, Some, length, replicate, false, ℕ};
-ghost use Rattle.occ_term.specs.Runs.{messages_on};
-ghost use Rattle.occ_net_replay.specs.Following.{or_limit};
+ghost use Rattle.std.specs.Prelude.{◌≡◌, ◌↔◌, ◌<◌, IfErr, IfNone, IfOk, IfSome, IsSome, None, Some, length, replicate, false};
 ghost use Rattle.occ_net_replay.specs.Replay.{Net, ending_of};
-ghost use Rattle.occ_net.specs.Networks.{IsNetwork, IsState, fresh, ready_in, ready_task};
-ghost use Rattle.occ_net.specs.Histories.{IsHistory};
-ghost use Rattle.occ_net.specs.Outcomes.{IsReplayOf};
+ghost use Rattle.occ_net.specs.Networks.{InState, IsNetwork, IsState, fresh, ready_in, ready_task};
+ghost use Rattle.occ_net.specs.Histories.{HasHistories, IsHistory};
+ghost use Rattle.occ_net.specs.Outcomes.{EndsClean, IsReplayOf};
 
 use crate::fault::NetFault;
 use crate::history::History;
@@ -95,10 +93,8 @@ impl Network {
     /// What every state of a network keeps: on each channel the messages output are those input, in
     /// order, each of the channel's protocol, and no fault was noted where it has ended.
     pub fn obeyed(&self)
-        ensures histories { (net : Net) → IsState self.now net → (chan : ℕ)
-            → IsHistory self.now.program net chan (messages_on chan net.trace) }
-        ensures clean { (net : Net) → IsState self.now net
-            → or_limit (ending_of self.now.program.errors net) ≡ Ending.Ended → net.noted ≡ [] }
+        ensures histories { InState self.now (HasHistories self.now.program) }
+        ensures clean { InState self.now (EndsClean self.now.program) }
     {
         self.code.compiled();
     }

@@ -25,6 +25,8 @@ use Rattle.occ_check_names.specs.declared.fault.CheckFault.{CheckFault}
 use Rattle.occ_check.specs.CheckRefuses.{CheckRefuses}
 use Rattle.occ_code.specs.declared.compiling.CodeFault.{CodeFault}
 use Rattle.occ_code.specs.declared.compiling.CodeFault.TheVariants as code
+use Rattle.occ_choices.specs.Plans.{choices_of}
+use Rattle.occ_choices.specs.declared.plan.Plan.{Plan}
 use Rattle.occ_net_replay.specs.declared.choice.Choice.{Choice}
 use Rattle.occ_term.specs.declared.ending.Ending.TheVariants as E
 use Rattle.occ_term.specs.declared.fault.Errors.TheVariants.{Halt}
@@ -118,6 +120,10 @@ pub record IsAnswer (options : Options) (source keyboard : List ℕ) (list : Lis
 abbrev pub IsSomeAnswer : Options → (source keyboard : List ℕ) → List Choice → Bool → List ℕ → Type 0
 IsSomeAnswer options source keyboard list trace bytes = (played : Played) × IsAnswer options source keyboard list trace played bytes
 
+-- by the choices of a plan
+abbrev pub IsAnswerBy : Options → (source keyboard : List ℕ) → Plan → Bool → Played → List ℕ → Type 0
+IsAnswerBy options source keyboard plan trace played bytes = IsAnswer options source keyboard (choices_of plan) trace played bytes
+
 -- ---- refusals
 
 -- a text is refused only where the definitions refuse it; want of memory says nothing
@@ -186,3 +192,12 @@ AfterFault contents Answers Refusal old new fault = Refusal fault × (new ≡ ol
 -- the answer was written, and nothing else
 abbrev pub Wrote : {W : Type 0} → (W → Option (List ℕ)) → (List ℕ → Type 0) → Counted W → Counted W → Type 0
 Wrote contents Answers old new = (bytes : List ℕ) × Answers bytes × Appends (contents (writer_of old)) (contents (writer_of new)) bytes
+
+-- the answer by a plan was
+abbrev pub Plays : {W : Type 0} → (W → Option (List ℕ)) → Options → (source keyboard : List ℕ) → Plan → Bool → (old new : Counted W) → Played → Type 0
+Plays contents options source keyboard plan trace old new played = Wrote contents (IsAnswerBy options source keyboard plan trace played) old new
+
+-- a fault of such a play: a failed write of its answer, or a refusal
+abbrev pub Fails : {W : Type 0} → (W → Option (List ℕ)) → Options → (source keyboard : List ℕ) → Plan → Bool → (old new : Counted W) → PlayFault → Type 0
+Fails contents options source keyboard plan trace old new fault =
+    AfterFault contents (IsSomeAnswer options source keyboard (choices_of plan) trace) (Refuses options source) old new fault

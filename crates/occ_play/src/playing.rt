@@ -1,11 +1,10 @@
 //! Plays a program, from its source's bytes to its answer's bytes.
-ghost use Rattle.std.specs.Prelude.{◌≡◌, ◌<◌, ◌-◌, ◌^◌, IfOk, IfErr, List};
+ghost use Rattle.std.specs.Prelude.{◌≡◌, ◌<◌, ◌-◌, ◌^◌, IfOk, IfErr};
 ghost use Rattle.occ_shown.specs.Counting.{failures_of};
 ghost use Rattle.occ_choices.specs.Plans.{choices_of};
 ghost use Rattle.occ_net_replay.specs.declared.choice.Choice.{Choice};
-ghost use Rattle.occ_net_tables.specs.Outcomes.{IsOutcome};
-ghost use Rattle.occ_play.specs.Playing.{AfterFault, IsAnswer, IsSomeAnswer, IsTextsCode, Ran, Refuses, RefusesCode, RefusesText, Unfolds, Wrote, plain};
-ghost use Rattle.occ_play.specs.Watching.{AnswersWith};
+ghost use Rattle.occ_play.specs.Playing.{Fails, IsAnswerBy, IsTextsCode, Plays, Ran, Refuses, RefusesCode, RefusesText, Unfolds, plain};
+ghost use Rattle.occ_play.specs.Watching.{TellsAny};
 ghost use Rattle.occ_term.specs.UnfoldedProgram.{Lawful};
 ghost use Rattle.occ_play.specs.Status.{status};
 
@@ -76,12 +75,10 @@ pub fn play<W: Write>(
     out: &mut Counted<W>,
 ) -> Result<Played, PlayFault>
     requires room { failures_of out.old < 2 ^ 64 - 1 }
-    ensures played { IfOk result (λ played. Wrote W.contents
-        (IsAnswer plain source.now keyboard.now (choices_of plan.now) trace played)
-        out.old out.new) }
-    ensures fault { IfErr result (AfterFault W.contents
-        (IsSomeAnswer plain source.now keyboard.now (choices_of plan.now) trace)
-        (Refuses plain source.now) out.old out.new) }
+    ensures played { IfOk result
+        (Plays W.contents plain source.now keyboard.now plan.now trace out.old out.new) }
+    ensures fault { IfErr result
+        (Fails W.contents plain source.now keyboard.now plan.now trace out.old out.new) }
 {
     play_in(&Options::plain(), alloc, source, keyboard, plan, trace, out)
 }
@@ -101,12 +98,10 @@ pub fn play_in<W: Write>(
     out: &mut Counted<W>,
 ) -> Result<Played, PlayFault>
     requires room { failures_of out.old < 2 ^ 64 - 1 }
-    ensures played { IfOk result (λ played. Wrote W.contents
-        (IsAnswer options.now source.now keyboard.now (choices_of plan.now) trace played)
-        out.old out.new) }
-    ensures fault { IfErr result (AfterFault W.contents
-        (IsSomeAnswer options.now source.now keyboard.now (choices_of plan.now) trace)
-        (Refuses options.now source.now) out.old out.new) }
+    ensures played { IfOk result
+        (Plays W.contents options.now source.now keyboard.now plan.now trace out.old out.new) }
+    ensures fault { IfErr result
+        (Fails W.contents options.now source.now keyboard.now plan.now trace out.old out.new) }
 {
     let (played, bytes) = answered(options, alloc, source, keyboard, plan, trace)?;
     match write_answer(bytes.as_slice(), out) {
@@ -125,7 +120,7 @@ fn answered(
     trace: bool,
 ) -> Result<(Played, Vec<u8>), PlayFault>
     ensures answer { IfOk result (λ r.
-        IsAnswer options.now source.now keyboard.now (choices_of plan.now) trace r.0 r.1.items) }
+        IsAnswerBy options.now source.now keyboard.now plan.now trace r.0 r.1.items) }
     ensures refused { IfErr result (Refuses options.now source.now) }
 {
     let (code, outcome) = ran(options, alloc, source, keyboard, plan)?;
@@ -144,10 +139,8 @@ pub(crate) fn told(
     trace: bool,
 ) -> Result<(Played, Vec<u8>), PlayFault>
     requires { Ran options.now source.now keyboard.now outcome.choices.items code.now outcome }
-    ensures answer { IfOk result (λ r. (list : List Choice)
-        → IsOutcome code.now keyboard.now list outcome
-        → AnswersWith options.now source.now keyboard.now list trace code.now outcome r.0
-        r.1.items) }
+    ensures answer { IfOk result (λ r.
+        TellsAny options.now source.now keyboard.now trace code.now outcome r.0 r.1.items) }
     ensures choices { IfOk result (λ r. r.0.choices ≡ outcome.choices) }
     ensures ending { IfOk result (λ r. r.0.ending ≡ outcome.ending) }
     ensures refused { IfErr result (Refuses options.now source.now) }

@@ -1,11 +1,11 @@
 //! Plays a program by several threads, at whose communications others look meanwhile.
-ghost use Rattle.std.specs.Prelude.{◌≡◌, ◌<◌, ◌-◌, ◌^◌, ◌++◌, false, true, IfOk, IfErr};
+ghost use Rattle.std.specs.Prelude.{◌≡◌, ◌<◌, ◌-◌, ◌^◌, false, true, IfOk};
 ghost use Rattle.occ_board.specs.Editions.{edition};
 ghost use Rattle.occ_shown.specs.Counting.{failures_of};
 ghost use Rattle.occ_choices.specs.Crews.{IsCrew};
-ghost use Rattle.occ_play.specs.Playing.{AfterFault, Ran, Refuses, Wrote};
-ghost use Rattle.occ_play.specs.Watching.{IsWatched, TellsOutcome, TellsSome};
-ghost use Rattle.occ_play.specs.Working.{IsSomeCrewsAnswer, WorkersRefuse};
+ghost use Rattle.occ_play.specs.Playing.{Ran};
+ghost use Rattle.occ_play.specs.Watching.{ToldPlay, UntoldPlay, WatchedPlay};
+ghost use Rattle.occ_play.specs.Working.{FaultBy};
 
 use crate::fault::PlayFault;
 use crate::playing::{Options, Played, code_of, told};
@@ -41,14 +41,10 @@ pub fn play_watched<J: Naming, R: Threads + Wait + Sync, G: Gate + Sync, W: Writ
 ) -> Result<(Played, Publisher<J>, Note<J>), PlayFault>
     requires room { failures_of out.old < 2 ^ 64 - 1 }
     requires going { publisher.closed ≡ false }
-    ensures played { IfOk result (λ r. Wrote W.contents
-        (IsWatched options.now source.now keyboard.now limit trace
-        (publisher.published ++ publisher.pending) r.1 r.0) out.old out.new) }
+    ensures played { WatchedPlay result W.contents options.now source.now keyboard.now limit trace publisher out.old out.new }
     ensures note { IfOk result (λ r. r.2 ≡ edition r.1.published true) }
     ensures crew { IfOk result (λ _. IsCrew workers) }
-    ensures fault { IfErr result (AfterFault W.contents
-        (IsSomeCrewsAnswer workers options.now source.now keyboard.now limit trace)
-        (WorkersRefuse workers options.now source.now) out.old out.new) }
+    ensures fault { FaultBy result W.contents workers options.now source.now keyboard.now limit trace out.old out.new }
 {
     let code = match code_of(options, alloc, source) {
         Ok(code) => code,
@@ -86,12 +82,8 @@ fn written<W: Write>(
 ) -> Result<Played, PlayFault>
     requires room { failures_of out.old < 2 ^ 64 - 1 }
     requires ran { Ran options.now source.now keyboard.now outcome.choices.items code.now outcome }
-    ensures played { IfOk result (λ played.
-        Wrote W.contents (TellsOutcome options.now source.now keyboard.now trace code.now outcome
-        played) out.old out.new) }
-    ensures fault { IfErr result (AfterFault W.contents
-        (TellsSome options.now source.now keyboard.now trace code.now outcome)
-        (Refuses options.now source.now) out.old out.new) }
+    ensures played { ToldPlay result W.contents options.now source.now keyboard.now trace code.now outcome out.old out.new }
+    ensures fault { UntoldPlay result W.contents options.now source.now keyboard.now trace code.now outcome out.old out.new }
 {
     let (played, bytes) = told(options, alloc, source, keyboard, code, outcome, trace)?;
     match write_answer(bytes.as_slice(), out) {

@@ -1,9 +1,9 @@
 //! Plays a program by several threads.
 ghost use Rattle.std.specs.Prelude.{◌<◌, ◌-◌, ◌^◌, IfOk, IfErr};
 ghost use Rattle.occ_shown.specs.Counting.{failures_of};
-ghost use Rattle.occ_play.specs.Playing.{AfterFault, Wrote, plain};
+ghost use Rattle.occ_play.specs.Playing.{plain};
 ghost use Rattle.occ_choices.specs.Crews.{IsCrew};
-ghost use Rattle.occ_play.specs.Working.{IsAnswerWithin, IsSomeCrewsAnswer, WorkersRefuse};
+ghost use Rattle.occ_play.specs.Working.{FailsBy, IsAnswerWithin, PlaysWithin, WorkersRefuse, FaultBy};
 
 use crate::fault::PlayFault;
 use crate::playing::{Options, Played, code_of, told};
@@ -33,12 +33,11 @@ pub fn play_workers<R: Threads + Wait + Sync, G: Gate + Sync, W: Write>(
     out: &mut Counted<W>,
 ) -> Result<Played, PlayFault>
     requires room { failures_of out.old < 2 ^ 64 - 1 }
-    ensures played { IfOk result (λ played. Wrote W.contents
-        (IsAnswerWithin plain source.now keyboard.now limit trace played) out.old out.new) }
+    ensures played { IfOk result
+        (PlaysWithin W.contents plain source.now keyboard.now limit trace out.old out.new) }
     ensures crew { IfOk result (λ _. IsCrew workers) }
-    ensures fault { IfErr result (AfterFault W.contents
-        (IsSomeCrewsAnswer workers plain source.now keyboard.now limit trace)
-        (WorkersRefuse workers plain source.now) out.old out.new) }
+    ensures fault { IfErr result
+        (FailsBy W.contents workers plain source.now keyboard.now limit trace out.old out.new) }
 {
     let options = Options::plain();
     play_workers_in(
@@ -64,12 +63,10 @@ pub fn play_workers_in<R: Threads + Wait + Sync, G: Gate + Sync, W: Write>(
     out: &mut Counted<W>,
 ) -> Result<Played, PlayFault>
     requires room { failures_of out.old < 2 ^ 64 - 1 }
-    ensures played { IfOk result (λ played. Wrote W.contents
-        (IsAnswerWithin options.now source.now keyboard.now limit trace played) out.old out.new) }
+    ensures played { IfOk result
+        (PlaysWithin W.contents options.now source.now keyboard.now limit trace out.old out.new) }
     ensures crew { IfOk result (λ _. IsCrew workers) }
-    ensures fault { IfErr result (AfterFault W.contents
-        (IsSomeCrewsAnswer workers options.now source.now keyboard.now limit trace)
-        (WorkersRefuse workers options.now source.now) out.old out.new) }
+    ensures fault { FaultBy result W.contents workers options.now source.now keyboard.now limit trace out.old out.new }
 {
     let (played, bytes) = gathered(
         rt, options, alloc, source, keyboard, workers, limit, trace, gate,

@@ -1,6 +1,9 @@
 -- Exit statuses of a program that played nothing, or could not write what it played; and what failed.
 -- Manual: nothing; this is (own).
-use Rattle.std.specs.Prelude.{ℕ, ⊤, ◌≡◌}
+use Rattle.std.specs.Prelude.{ℕ, ⊤, ◌≡◌, ◌≢◌}
+use Rattle.clap.specs.Values.{kind_of}
+use Rattle.clap.specs.declared.error.Error.{Error}
+use Rattle.clap.specs.declared.error.kind.ErrorKind.TheVariants.{DisplayHelp, DisplayVersion, OutOfMemory}
 use Rattle.occ_choices.specs.declared.fault.ChoiceFault.TheVariants as choice
 use Rattle.occ_files.specs.declared.fault.InputFault.{InputFault}
 use Rattle.occ_files.specs.declared.fault.InputFault.TheVariants as input
@@ -21,6 +24,11 @@ failure_status (Write trouble) = 6
 failure_status (Words error) = 7
 failure_status Arguments = 7
 failure_status Paths = 7
+
+-- where neither help nor the version is asked for, and memory did not run out, the words are wrong
+abbrev pub TellsWrongWords : Error → Failure → Type 0
+TellsWrongWords error failure =
+    kind_of error ≢ DisplayHelp → kind_of error ≢ DisplayVersion → kind_of error ≢ OutOfMemory → failure ≡ Words error
 
 -- a file or a stream, and why the system could not read or write it
 abbrev pub trouble : Stream → Reason → Trouble

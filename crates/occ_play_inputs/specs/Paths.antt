@@ -14,10 +14,10 @@ AreTextsApart file choices written drawn traced =
     × Differ traced file × Differ traced choices × Differ traced written × Differ traced drawn
 
 -- the turns
-abbrev pub DiffersFromAll : (stepped file choices written drawn traced : Option (Bor (List ℕ))) → Type 0
-DiffersFromAll stepped file choices written drawn traced =
-    Differ stepped file × Differ stepped choices × Differ stepped written × Differ stepped drawn × Differ stepped traced
+abbrev pub IsNoneOf : (turns file choices written drawn traced : Option (Bor (List ℕ))) → Type 0
+IsNoneOf turns file choices written drawn traced =
+    Differ turns file × Differ turns choices × Differ turns written × Differ turns drawn × Differ turns traced
 
 -- and all four
-abbrev pub AreApart : (file choices written drawn traced stepped : Option (Bor (List ℕ))) → Type 0
-AreApart file choices written drawn traced stepped = AreTextsApart file choices written drawn traced × DiffersFromAll stepped file choices written drawn traced
+abbrev pub AreApart : (file choices written drawn traced turns : Option (Bor (List ℕ))) → Type 0
+AreApart file choices written drawn traced turns = AreTextsApart file choices written drawn traced × IsNoneOf turns file choices written drawn traced

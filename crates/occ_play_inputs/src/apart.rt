@@ -1,6 +1,6 @@
 //! That a file which is written is none that is read, and not the other one.
 ghost use Rattle.std.specs.Prelude.{IsTrue};
-ghost use Rattle.occ_play_inputs.specs.Paths.{AreApart, AreTextsApart, Differ, DiffersFromAll};
+ghost use Rattle.occ_play_inputs.specs.Paths.{AreApart, AreTextsApart, Differ, IsNoneOf};
 
 use crate::failure::Failure;
 use crate::words::Words;
@@ -21,21 +21,21 @@ fn differ(one: Option<&str>, other: Option<&str>) -> bool
 fn texts_are_apart(
     file: Option<&str>,
     choices: Option<&str>,
-    recorded: Option<&str>,
+    written: Option<&str>,
     drawn: Option<&str>,
     traced: Option<&str>,
 ) -> bool
-    ensures { IsTrue result → AreTextsApart file.entry choices.entry recorded.entry drawn.entry
+    ensures { IsTrue result → AreTextsApart file.entry choices.entry written.entry drawn.entry
         traced.entry }
 {
-    differ(recorded, file)
-        && differ(recorded, choices)
+    differ(written, file)
+        && differ(written, choices)
         && differ(drawn, file)
         && differ(drawn, choices)
-        && differ(drawn, recorded)
+        && differ(drawn, written)
         && differ(traced, file)
         && differ(traced, choices)
-        && differ(traced, recorded)
+        && differ(traced, written)
         && differ(traced, drawn)
 }
 
@@ -43,19 +43,19 @@ fn texts_are_apart(
 fn are_beside(
     file: Option<&str>,
     choices: Option<&str>,
-    recorded: Option<&str>,
+    written: Option<&str>,
     drawn: Option<&str>,
     traced: Option<&str>,
-    stepped: Option<&str>,
+    turns: Option<&str>,
 ) -> bool
-    ensures { IsTrue result → DiffersFromAll stepped.entry file.entry choices.entry recorded.entry
+    ensures { IsTrue result → IsNoneOf turns.entry file.entry choices.entry written.entry
         drawn.entry traced.entry }
 {
-    differ(stepped, file)
-        && differ(stepped, choices)
-        && differ(stepped, recorded)
-        && differ(stepped, drawn)
-        && differ(stepped, traced)
+    differ(turns, file)
+        && differ(turns, choices)
+        && differ(turns, written)
+        && differ(turns, drawn)
+        && differ(turns, traced)
 }
 
 /// Whether the paths of the record, of the chart, of the trace and of the turns are not those of the source and of the choices, and
@@ -63,16 +63,16 @@ fn are_beside(
 pub(crate) fn are_apart(
     file: Option<&str>,
     choices: Option<&str>,
-    recorded: Option<&str>,
+    written: Option<&str>,
     drawn: Option<&str>,
     traced: Option<&str>,
-    stepped: Option<&str>,
+    turns: Option<&str>,
 ) -> bool
-    ensures { IsTrue result → AreApart file.entry choices.entry recorded.entry drawn.entry
-        traced.entry stepped.entry }
+    ensures { IsTrue result → AreApart file.entry choices.entry written.entry drawn.entry
+        traced.entry turns.entry }
 {
-    texts_are_apart(file, choices, recorded, drawn, traced)
-        && are_beside(file, choices, recorded, drawn, traced, stepped)
+    texts_are_apart(file, choices, written, drawn, traced)
+        && are_beside(file, choices, written, drawn, traced, turns)
 }
 
 /// Whether both words name one plain file that there is, by whatever path.

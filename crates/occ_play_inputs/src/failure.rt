@@ -3,7 +3,7 @@ ghost use Rattle.std.specs.Prelude.{◌≡◌, ◌≢◌};
 ghost use Rattle.std.specs.IoError.{error_kind};
 ghost use Rattle.clap.specs.Values.{kind_of};
 ghost use Rattle.occ_files.specs.Reasons.{reason_of};
-ghost use Rattle.occ_play_inputs.specs.Failures.{failure_status, read_failure, trouble};
+ghost use Rattle.occ_play_inputs.specs.Failures.{TellsWrongWords, failure_status, read_failure, trouble};
 
 use clap::error::ErrorKind as WordsErrorKind;
 use occ_choices::ChoiceFault;
@@ -113,9 +113,7 @@ pub fn of_words(error: clap::Error) -> Failure
     ensures help { kind_of error ≡ WordsErrorKind.DisplayHelp → result ≡ Failure.Help error }
     ensures version { kind_of error ≡ WordsErrorKind.DisplayVersion → result ≡ Failure.Help error }
     ensures memory { kind_of error ≡ WordsErrorKind.OutOfMemory → result ≡ Failure.Memory }
-    ensures wrong { kind_of error ≢ WordsErrorKind.DisplayHelp
-        → kind_of error ≢ WordsErrorKind.DisplayVersion → kind_of error ≢ WordsErrorKind.OutOfMemory
-        → result ≡ Failure.Words error }
+    ensures wrong { TellsWrongWords error result }
 {
     match error.kind() {
         WordsErrorKind::DisplayHelp | WordsErrorKind::DisplayVersion => Failure::Help(error),

@@ -5,6 +5,7 @@ use Rattle.std.specs.Prelude.{Err, IfOk, Ok, Result}
 use Rattle.occ_explore.specs.declared.exploration.Answer.{Answer}
 use Rattle.occ_term.specs.declared.ending.Ending.{Ending}
 use Rattle.occ_term.specs.declared.ending.Ending.TheVariants.{Ended}
+use Rattle.occ_play_inputs.specs.declared.inputs.Inputs.{Inputs}
 use Rattle.occ_play_inputs.specs.declared.words.Words.{Words}
 use Rattle.occ_program.specs.Explained.{IsReported, NoneEnds, SomeEnds, TellsAt, TellsFirst}
 
@@ -28,23 +29,23 @@ pub none_left : (xs : List Answer) (i : ℕ) (ending : Ending) → length xs ≤
 none_left xs i ending end = subst (λ l. NoneEnds l ending) (sym (drop_of_length-le xs end)) tt
 
 -- one answer more is told
-pub tells_more : (words : Words) (source keyboard : List ℕ) (answers : List Answer) (place : ℕ) (above part text : List ℕ)
-    → TellsFirst words source keyboard answers place above → TellsAt words source keyboard answers place part → text ≡ above ++ part
-    → TellsFirst words source keyboard answers (place + 1) text
-tells_more words source keyboard answers place above part text told one grown =
-    subst (λ n. TellsFirst words source keyboard answers n text) (sym (add-one place)) (above, part, told, one, grown)
+pub tells_more : (words : Words) (inputs : Inputs) (answers : List Answer) (place : ℕ) (above part text : List ℕ)
+    → TellsFirst words inputs answers place above → TellsAt words inputs answers place part → text ≡ above ++ part
+    → TellsFirst words inputs answers (place + 1) text
+tells_more words inputs answers place above part text told one grown =
+    subst (λ n. TellsFirst words inputs answers n text) (sym (add-one place)) (above, part, told, one, grown)
 
 -- an answer with a new ending is told by its report
-pub told_new : (words : Words) (source keyboard : List ℕ) (answers : List Answer) (place : ℕ) (a : Answer) (text : List ℕ) → place < length answers → a ≡ get_or answers place a
-    → (a.ending ≢ Ended) × NoneEnds (take place answers) a.ending → IsReported words source keyboard (place + 1) a text → TellsAt words source keyboard answers place text
-told_new words source keyboard answers place a text within is new report =
+pub told_new : (words : Words) (inputs : Inputs) (answers : List Answer) (place : ℕ) (a : Answer) (text : List ℕ) → place < length answers → a ≡ get_or answers place a
+    → (a.ending ≢ Ended) × NoneEnds (take place answers) a.ending → IsReported words inputs (place + 1) a text → TellsAt words inputs answers place text
+told_new words inputs answers place a text within is new report =
     let number : place + 1 ≡ suc (length (take place answers)) = add-one place ∙ ap suc (sym (length-take-le place answers (le_of_lt within))) in
-    (a, within, is, inl (new.0, new.1, subst (λ n. IsReported words source keyboard n a text) number report))
+    (a, within, is, inl (new.0, new.1, subst (λ n. IsReported words inputs n a text) number report))
 
 -- and of any other nothing is told
-pub told_old : (words : Words) (source keyboard : List ℕ) (answers : List Answer) (place : ℕ) (a : Answer) (text : List ℕ) → place < length answers → a ≡ get_or answers place a
-    → (a.ending ≡ Ended) ⊎ SomeEnds (take place answers) a.ending → text ≡ [] → TellsAt words source keyboard answers place text
-told_old words source keyboard answers place a text within is old none = (a, within, is, inr (old, none))
+pub told_old : (words : Words) (inputs : Inputs) (answers : List Answer) (place : ℕ) (a : Answer) (text : List ℕ) → place < length answers → a ≡ get_or answers place a
+    → (a.ending ≡ Ended) ⊎ SomeEnds (take place answers) a.ending → text ≡ [] → TellsAt words inputs answers place text
+told_old words inputs answers place a text within is old none = (a, within, is, inr (old, none))
 
 pub ok_map : {X E : Type 0} {P Q : X → Type 0} (r : Result X E) → ((x : X) → P x → Q x) → IfOk r P → IfOk r Q
 ok_map (Ok x) f h = f x h

@@ -1,6 +1,6 @@
 -- What an exit status says of the source, the keyboard and the choices that were played.
 -- Manual: nothing; this is (own).
-use Rattle.std.specs.Prelude.{Bool, false, true, unwrap_or, List, None, Option, Some, Result, ℕ, ◌≡◌, Ok, Err, ⊤}
+use Rattle.std.specs.Prelude.{Bool, IsTrue, false, true, unwrap_or, List, None, Option, Some, Result, ℕ, ◌≡◌, Ok, Err, ⊤}
 use Rattle.occ_net_replay.specs.declared.choice.Choice.{Choice}
 use Rattle.occ_play_inputs.specs.declared.failure.Failure.{Failure}
 use Rattle.occ_choices.specs.declared.plan.Plan.{Plan}
@@ -8,6 +8,7 @@ use Rattle.occ_play.specs.declared.playing.Options.{Options}
 use Rattle.occ_play.specs.declared.playing.Played.{Played}
 use Rattle.occ_play.specs.declared.fault.PlayFault.{PlayFault}
 use Rattle.occ_play.specs.Playing.{HasCode, IsAnswer, Refuses, RefusesCode}
+use Rattle.occ_play_inputs.specs.declared.inputs.Inputs.{Inputs}
 use Rattle.occ_play_inputs.specs.declared.words.Words.{Words}
 use Rattle.occ_play_inputs.specs.Asked.{IsAskedBy}
 use Rattle.occ_play_inputs.specs.Failures.{failure_status}
@@ -19,7 +20,9 @@ use Rattle.occ_explore.specs.declared.exploration.Answer.{Answer}
 use Rattle.occ_exploring.specs.Alone.{IsOnlyFor, only_status}
 use Rattle.occ_exploring.specs.Explored.{IsExplored}
 use Rattle.occ_exploring.specs.Statuses.{search_status}
-use Rattle.occ_watching.specs.Coming.{CameByWorkers, CameTo}
+use Rattle.occ_shown.specs.Counting.{AppendsTo}
+use Rattle.occ_shown.specs.declared.counted.Counted.{Counted}
+use Rattle.occ_watching.specs.Coming.{CameByCrew, CameTo}
 
 -- so many workers take the turns, where the words say so and name no file of choices; one, where the words say no more than that the run
 -- is watched
@@ -28,6 +31,9 @@ workers_asked watch workers (Some path) = None
 workers_asked true workers None = Some (unwrap_or workers 1)
 workers_asked false workers None = workers
 
+abbrev pub workers_in : Words → Option ℕ
+workers_in words = workers_asked words.watch words.workers words.choices
+
 -- the length of turns and what a fault does, as the words say
 abbrev pub options_in : Words → Options
 options_in words = record { quantum = words.quantum; errors = words.errors }
@@ -35,7 +41,15 @@ options_in words = record { quantum = words.quantum; errors = words.errors }
 -- what playing a source came to: by these choices, or by workers within the limit
 abbrev pub CameToBy : Option ℕ → Words → (source keyboard : List ℕ) → List Choice → Result Played PlayFault → Type 0
 CameToBy None words source keyboard list played = CameTo (IsAnswer (options_in words) source keyboard list words.trace) (Refuses (options_in words) source) played
-CameToBy (Some workers) words source keyboard list played = CameByWorkers workers (options_in words) source keyboard words.limit words.trace played
+CameToBy (Some workers) words source keyboard list played = CameByCrew workers (options_in words) source keyboard words.limit words.trace played
+
+-- what playing the inputs came to
+abbrev pub PlayedTo : Option ℕ → Words → Inputs → Result Played PlayFault → Type 0
+PlayedTo workers words inputs played = CameToBy workers words inputs.source.items inputs.keyboard.items (choices_of inputs.plan) played
+
+-- the fault refuses their source
+abbrev pub RefusesSource : Words → Inputs → PlayFault → Type 0
+RefusesSource words inputs fault = Refuses (options_in words) inputs.source.items fault
 
 -- the status of what a source came to, by the choices or the workers and with the trace that the words ask for
 pub record IsStatusFor (words : Words) (s : ℕ) : Type 0 where
@@ -44,7 +58,7 @@ pub record IsStatusFor (words : Words) (s : ℕ) : Type 0 where
   pub plan : Plan
   pub asked : IsAskedBy words plan
   pub played : Result Played PlayFault
-  pub came : CameToBy (workers_asked words.watch words.workers words.choices) words source keyboard (choices_of plan) played
+  pub came : CameToBy (workers_in words) words source keyboard (choices_of plan) played
   pub is : s ≡ status played
 
 -- ---- a search of all lists of choices
@@ -69,6 +83,10 @@ pub data IsSearchStatus (words : Words) (asked : Asked) (s : ℕ) : Type 0 where
   by_search : (source keyboard : List ℕ) (found : Result Exploration PlayFault) → SearchedTo words source keyboard asked found → s ≡ found_status found → IsSearchStatus words asked s
   by_one_run : (source keyboard : List ℕ) (a : Answer) → IsOnlyFor (options_in words) source keyboard a → s ≡ only_status a → IsSearchStatus words asked s
   by_refusal : (source : List ℕ) (fault : PlayFault) → Refuses (options_in words) source fault → s ≡ fault_status fault → IsSearchStatus words asked s
+
+-- the text was written, where that is said
+abbrev pub Prints : {W : Type 0} → (W → Option (List ℕ)) → List ℕ → (old new : Counted W) → Bool → Type 0
+Prints contents text old new printed = IsTrue printed → AppendsTo contents old new text
 
 -- ---- a source that is only looked at
 

@@ -5,6 +5,7 @@ use Rattle.std.specs.Fmt.{decimal}
 use Rattle.occ_explaining.specs.Explaining.{ReportsOn, TellsRefusal, refusal_in}
 use Rattle.occ_explore.specs.declared.exploration.Answer.{Answer}
 use Rattle.occ_files.specs.declared.reason.Reason.{Reason}
+use Rattle.occ_net_replay.specs.declared.choice.Choice.{Choice}
 use Rattle.occ_term.specs.Endings.{ending_text}
 use Rattle.occ_term.specs.declared.ending.Ending.{Ending}
 use Rattle.occ_term.specs.declared.ending.Ending.TheVariants.{Ended}
@@ -13,6 +14,7 @@ use Rattle.occ_play.specs.declared.fault.PlayFault.TheVariants as play
 use Rattle.occ_play.specs.declared.playing.Played.{Played}
 use Rattle.occ_play_inputs.specs.Failures.{trouble}
 use Rattle.occ_play_inputs.specs.declared.failure.Stream.TheVariants.{Output}
+use Rattle.occ_play_inputs.specs.declared.inputs.Inputs.{Inputs}
 use Rattle.occ_play_inputs.specs.declared.words.Words.{Words}
 use Rattle.occ_program.specs.Coming.{options_in}
 use Rattle.occ_program.specs.Troubles.{path_or, trouble_text}
@@ -30,10 +32,14 @@ abbrev pub TellsWhy : Words → (source : List ℕ) → Reason → PlayFault →
 TellsWhy words source reason (play.Write written) text = text ≡ trouble_text words (trouble Output reason)
 TellsWhy words source reason fault text = TellsOf words source fault text
 
+-- the report of the run of the inputs by these choices
+abbrev pub ReportsRun : Words → Inputs → List Choice → List ℕ → Type 0
+ReportsRun words inputs choices text = ReportsOn (options_in words) inputs.source.items inputs.keyboard.items choices text
+
 -- of a fault that, and of a run the report by its choices
-abbrev pub Explains : Words → (source keyboard : List ℕ) → Reason → Result Played PlayFault → List ℕ → Type 0
-Explains words source keyboard reason (Ok played) text = ReportsOn (options_in words) source keyboard played.choices.items text
-Explains words source keyboard reason (Err fault) text = TellsWhy words source reason fault text
+abbrev pub Explains : Words → Inputs → Reason → Result Played PlayFault → List ℕ → Type 0
+Explains words inputs reason (Ok played) text = ReportsRun words inputs played.choices.items text
+Explains words inputs reason (Err fault) text = TellsWhy words inputs.source.items reason fault text
 
 -- ---- the answers of a search
 
@@ -52,26 +58,26 @@ abbrev pub answer_head : ℕ → Ending → List ℕ
 answer_head number ending = decimal number ++ 32 ∷ ending_text ending ++ codes ":\n"
 
 -- those, and the report by the answer's choices
-abbrev pub IsReported : Words → (source keyboard : List ℕ) → (number : ℕ) → Answer → List ℕ → Type 0
-IsReported words source keyboard number a text =
-    (report : List ℕ) × ReportsOn (options_in words) source keyboard a.choices.items report × (text ≡ answer_head number a.ending ++ report)
+abbrev pub IsReported : Words → Inputs → (number : ℕ) → Answer → List ℕ → Type 0
+IsReported words inputs number a text =
+    (report : List ℕ) × ReportsRun words inputs a.choices.items report × (text ≡ answer_head number a.ending ++ report)
 
 -- What is told of an answer behind these: its report, where it has not ended and none of them has its ending; else nothing.
-abbrev pub TellsAnswer : Words → (source keyboard : List ℕ) → (before : List Answer) → Answer → List ℕ → Type 0
-TellsAnswer words source keyboard before a text =
-    ((a.ending ≢ Ended) × NoneEnds before a.ending × IsReported words source keyboard (suc (length before)) a text)
+abbrev pub TellsAnswer : Words → Inputs → (before : List Answer) → Answer → List ℕ → Type 0
+TellsAnswer words inputs before a text =
+    ((a.ending ≢ Ended) × NoneEnds before a.ending × IsReported words inputs (suc (length before)) a text)
     ⊎ (((a.ending ≡ Ended) ⊎ SomeEnds before a.ending) × (text ≡ []))
 
 -- of the answer at a place, from 0
-abbrev pub TellsAt : Words → (source keyboard : List ℕ) → List Answer → ℕ → List ℕ → Type 0
-TellsAt words source keyboard answers place text =
-    (a : Answer) × (place < length answers) × (a ≡ get_or answers place a) × TellsAnswer words source keyboard (take place answers) a text
+abbrev pub TellsAt : Words → Inputs → List Answer → ℕ → List ℕ → Type 0
+TellsAt words inputs answers place text =
+    (a : Answer) × (place < length answers) × (a ≡ get_or answers place a) × TellsAnswer words inputs (take place answers) a text
 
 -- of the first so many answers, one behind the other
-abbrev pub TellsFirst : Words → (source keyboard : List ℕ) → List Answer → ℕ → List ℕ → Type 0
-TellsFirst words source keyboard answers zero text = text ≡ []
-TellsFirst words source keyboard answers (suc n) text =
-    (above : List ℕ) × (part : List ℕ) × TellsFirst words source keyboard answers n above × TellsAt words source keyboard answers n part × (text ≡ above ++ part)
+abbrev pub TellsFirst : Words → Inputs → List Answer → ℕ → List ℕ → Type 0
+TellsFirst words inputs answers zero text = text ≡ []
+TellsFirst words inputs answers (suc n) text =
+    (above : List ℕ) × (part : List ℕ) × TellsFirst words inputs answers n above × TellsAt words inputs answers n part × (text ≡ above ++ part)
 
-abbrev pub TellsAnswers : Words → (source keyboard : List ℕ) → List Answer → List ℕ → Type 0
-TellsAnswers words source keyboard answers text = TellsFirst words source keyboard answers (length answers) text
+abbrev pub TellsAnswers : Words → Inputs → List Answer → List ℕ → Type 0
+TellsAnswers words inputs answers text = TellsFirst words inputs answers (length answers) text

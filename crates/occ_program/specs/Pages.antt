@@ -4,16 +4,18 @@ use Rattle.std.specs.Prelude.{Bool, List, Some, None, Ok, Err, Option, Result, [
 use Rattle.std.specs.Fmt.{decimal}
 use Rattle.std.specs.Borrow.{Bor}
 use Rattle.occ_choices.specs.Lines.{choice_text}
-use Rattle.occ_play.specs.declared.playing.Options.{Options}
 use Rattle.occ_play.specs.declared.playing.Played.{Played}
 use Rattle.occ_play.specs.declared.fault.PlayFault.{PlayFault}
 use Rattle.occ_chart.specs.declared.part.Part.{Part}
 use Rattle.occ_chart.specs.declared.part.Part.TheVariants.{First, Last}
 use Rattle.occ_explaining.specs.Explaining.{IsNamedChart, StepsOf}
-use Rattle.occ_play.specs.Playing.{Refuses}
+use Rattle.occ_net_replay.specs.declared.choice.Choice.{Choice}
 use Rattle.occ_explore.specs.declared.exploration.Answer.{Answer}
 use Rattle.occ_files.specs.Leaving.{LeavesOne, LeavesAll, LeavesNothing, Written}
 use Rattle.occ_play_inputs.specs.declared.failure.Failure.{Failure}
+use Rattle.occ_play_inputs.specs.declared.inputs.Inputs.{Inputs}
+use Rattle.occ_play_inputs.specs.declared.words.Words.{Words}
+use Rattle.occ_program.specs.Coming.{RefusesSource, options_in}
 use Rattle.occ_program.specs.declared.page.Page.{Page}
 use Rattle.occ_tracing.specs.declared.tracing.Form.{Form}
 use Rattle.occ_tracing.specs.declared.tracing.Form.TheVariants.{Lines, Json}
@@ -24,11 +26,20 @@ abbrev pub HasText : (List ℕ → Type 0) → Bor (List ℕ) → Option Page �
 HasText Is path None = ⊥
 HasText Is path (Some page) = (page.path.now ≡ path.now) × Is page.text.items
 
+-- such a text of the run
+abbrev pub HasPage : (Played → List ℕ → Type 0) → Option (Bor (List ℕ)) → Result Played PlayFault → Option Page → Type 0
+HasPage Is None played page = page ≡ None
+HasPage Is (Some path) (Err fault) page = page ≡ None
+HasPage Is (Some path) (Ok played) page = HasText (Is played) path page
+
 -- the choices that the run used, all of them
 abbrev pub Records : Option (Bor (List ℕ)) → Result Played PlayFault → Option Page → Type 0
-Records None played page = page ≡ None
-Records (Some path) (Err fault) page = page ≡ None
-Records (Some path) (Ok played) page = HasText (λ text. text ≡ choice_text played.choices.items) path page
+Records path played page = HasPage (λ p text. text ≡ choice_text p.choices.items) path played page
+
+-- such a page, or the source was refused
+abbrev pub HasOrRefuses : (Option Page → Type 0) → Words → Inputs → Result (Option Page) PlayFault → Type 0
+HasOrRefuses Is words inputs (Ok page) = Is page
+HasOrRefuses Is words inputs (Err fault) = RefusesSource words inputs fault
 
 -- which communications are drawn, as the words say
 abbrev pub part_in : ℕ → Option ℕ → Part
@@ -36,26 +47,25 @@ part_in most None = First most
 part_in most (Some n) = Last n
 
 -- a chart of the run by those choices
-abbrev pub Charts : Options → (source keyboard : List ℕ) → Part → Option (Bor (List ℕ)) → Result Played PlayFault → Option Page → Type 0
-Charts options source keyboard part None played page = page ≡ None
-Charts options source keyboard part (Some path) (Err fault) page = page ≡ None
-Charts options source keyboard part (Some path) (Ok played) page = HasText (IsNamedChart options source keyboard played.choices.items part) path page
+abbrev pub ChartsRun : Words → Inputs → Played → List ℕ → Type 0
+ChartsRun words inputs p text =
+    IsNamedChart (options_in words) inputs.source.items inputs.keyboard.items p.choices.items (part_in words.arrows words.last) text
 
--- or the text was refused
-abbrev pub Draws : Options → (source keyboard : List ℕ) → Part → Option (Bor (List ℕ)) → Result Played PlayFault → Result (Option Page) PlayFault → Type 0
-Draws options source keyboard part path played (Ok page) = Charts options source keyboard part path played page
-Draws options source keyboard part path played (Err fault) = Refuses options source fault
+abbrev pub Charts : Words → Inputs → Result Played PlayFault → Option Page → Type 0
+Charts words inputs played page = HasPage (ChartsRun words inputs) words.chart played page
+
+abbrev pub Draws : Words → Inputs → Result Played PlayFault → Result (Option Page) PlayFault → Type 0
+Draws words inputs played drawn = HasOrRefuses (Charts words inputs played) words inputs drawn
 
 -- the turns of the run by those choices
-abbrev pub StepsPage : Options → (source keyboard : List ℕ) → Option (Bor (List ℕ)) → Result Played PlayFault → Option Page → Type 0
-StepsPage options source keyboard None played page = page ≡ None
-StepsPage options source keyboard (Some path) (Err fault) page = page ≡ None
-StepsPage options source keyboard (Some path) (Ok played) page = HasText (StepsOf options source keyboard played.choices.items) path page
+abbrev pub StepsRun : Words → Inputs → Played → List ℕ → Type 0
+StepsRun words inputs p text = StepsOf (options_in words) inputs.source.items inputs.keyboard.items p.choices.items text
 
--- or the text was refused
-abbrev pub TellsSteps : Options → (source keyboard : List ℕ) → Option (Bor (List ℕ)) → Result Played PlayFault → Result (Option Page) PlayFault → Type 0
-TellsSteps options source keyboard path played (Ok page) = StepsPage options source keyboard path played page
-TellsSteps options source keyboard path played (Err fault) = Refuses options source fault
+abbrev pub StepsPage : Words → Inputs → Result Played PlayFault → Option Page → Type 0
+StepsPage words inputs played page = HasPage (StepsRun words inputs) words.steps played page
+
+abbrev pub TellsSteps : Words → Inputs → Result Played PlayFault → Result (Option Page) PlayFault → Type 0
+TellsSteps words inputs played told = HasOrRefuses (StepsPage words inputs played) words inputs told
 
 -- how a trace is written, as the words say
 abbrev pub form_in : Bool → Form
@@ -63,15 +73,15 @@ form_in true = Json
 form_in false = Lines
 
 -- the trace of the run by those choices
-abbrev pub TracePage : Options → (source keyboard : List ℕ) → Form → Option (Bor (List ℕ)) → Result Played PlayFault → Option Page → Type 0
-TracePage options source keyboard form None played page = page ≡ None
-TracePage options source keyboard form (Some path) (Err fault) page = page ≡ None
-TracePage options source keyboard form (Some path) (Ok played) page = HasText (IsTraced options source keyboard played.choices.items form) path page
+abbrev pub TracesRun : Words → Inputs → Played → List ℕ → Type 0
+TracesRun words inputs p text =
+    IsTraced (options_in words) inputs.source.items inputs.keyboard.items p.choices.items (form_in words.json) text
 
--- or the text was refused
-abbrev pub Traces : Options → (source keyboard : List ℕ) → Form → Option (Bor (List ℕ)) → Result Played PlayFault → Result (Option Page) PlayFault → Type 0
-Traces options source keyboard form path played (Ok page) = TracePage options source keyboard form path played page
-Traces options source keyboard form path played (Err fault) = Refuses options source fault
+abbrev pub TracePage : Words → Inputs → Result Played PlayFault → Option Page → Type 0
+TracePage words inputs played page = HasPage (TracesRun words inputs) words.trace_to played page
+
+abbrev pub Traces : Words → Inputs → Result Played PlayFault → Result (Option Page) PlayFault → Type 0
+Traces words inputs played traced = HasOrRefuses (TracePage words inputs played) words inputs traced
 
 -- ---- what is then in the folder
 
@@ -86,16 +96,16 @@ pub record WritesPage (Is : Option Page → Type 0) (old new : Option (List Writ
   pub is : Is page
   pub left : LeavesPage old new page
 
--- where that failed, no file was touched, or the whole text stood before the file was
-abbrev pub IsLeft : (Option Page → Type 0) → Option (List Written) → Option (List Written) → Result ⊤ Failure → Type 0
-IsLeft Is old new (Ok done) = WritesPage Is old new
-IsLeft Is old new (Err failure) = LeavesNothing old new ⊎ WritesPage Is old new
+-- where that failed, no file of the folder was touched, or the whole text stood before the file was
+abbrev pub IsLeft : {F : Type 0} → (F → Option (List Written)) → (old new : F) → (Option Page → Type 0) → Result ⊤ Failure → Type 0
+IsLeft left old new Is (Ok done) = WritesPage Is (left old) (left new)
+IsLeft left old new Is (Err failure) = LeavesNothing (left old) (left new) ⊎ WritesPage Is (left old) (left new)
 
--- a refused text leaves none
-abbrev pub LeavesOrRefuses : (Option Page → Type 0) → Option (List Written) → Option (List Written) → Result (Result ⊤ PlayFault) Failure → Type 0
-LeavesOrRefuses Is old new (Ok (Ok done)) = WritesPage Is old new
-LeavesOrRefuses Is old new (Ok (Err fault)) = LeavesNothing old new
-LeavesOrRefuses Is old new (Err failure) = LeavesNothing old new ⊎ WritesPage Is old new
+-- a refused source leaves none
+abbrev pub LeavesOrRefuses : {F : Type 0} → (F → Option (List Written)) → (old new : F) → (Option Page → Type 0) → Result (Result ⊤ PlayFault) Failure → Type 0
+LeavesOrRefuses left old new Is (Ok (Ok done)) = WritesPage Is (left old) (left new)
+LeavesOrRefuses left old new Is (Ok (Err fault)) = LeavesNothing (left old) (left new)
+LeavesOrRefuses left old new Is (Err failure) = LeavesNothing (left old) (left new) ⊎ WritesPage Is (left old) (left new)
 
 -- ---- the files of a search
 
@@ -103,10 +113,14 @@ LeavesOrRefuses Is old new (Err failure) = LeavesNothing old new ⊎ WritesPage 
 abbrev pub answer_path : List ℕ → ℕ → List ℕ
 answer_path stem number = stem ++ codes "." ++ decimal number ++ codes ".choices"
 
+-- the file of the choices of that answer
+abbrev pub answer_file : List ℕ → ℕ → List Choice → Written
+answer_file stem number choices = (answer_path stem number, choice_text choices)
+
 -- of each answer its choices, all of them
 abbrev pub answer_files : List ℕ → ℕ → List Answer → List Written
 answer_files stem number [] = []
-answer_files stem number (a ∷ others) = (answer_path stem number, choice_text a.choices.items) ∷ answer_files stem (suc number) others
+answer_files stem number (a ∷ others) = answer_file stem number a.choices.items ∷ answer_files stem (suc number) others
 
 -- those of the answers that have a line, where the words name a file
 abbrev pub search_files : Option (Bor (List ℕ)) → List Answer → List Written

@@ -3,10 +3,8 @@ ghost use Rattle.std.specs.Prelude.{◌≡◌, IfErr, IfOk};
 ghost use Rattle.occ_choices.specs.Plans.{choices_of};
 ghost use Rattle.occ_play_inputs.specs.Failures.{FailsToWrite};
 ghost use Rattle.occ_play_inputs.specs.declared.failure.Stream.TheVariants.{Chart};
-ghost use Rattle.occ_program.specs.Coming.{options_in};
-ghost use Rattle.occ_program.specs.Pages.{Charts, Draws, LeavesOrRefuses, part_in};
-ghost use Rattle.occ_explaining.specs.Explaining.{IsNamedChart};
-ghost use Rattle.occ_play.specs.Playing.{Refuses};
+ghost use Rattle.occ_program.specs.Coming.{RefusesSource};
+ghost use Rattle.occ_program.specs.Pages.{Charts, ChartsRun, Draws, LeavesOrRefuses, part_in};
 
 use crate::page::{Page, write_page};
 use crate::program::options_of;
@@ -25,11 +23,9 @@ pub(crate) fn draw<F: Folder>(
     inputs: &Inputs,
     played: &Result<Played, PlayFault>,
 ) -> Result<Result<(), PlayFault>, Failure>
-    ensures refused { IfOk result (λ drawn.
-        IfErr drawn (Refuses (options_in words.now) inputs.now.source.items)) }
-    ensures left { LeavesOrRefuses (Charts (options_in words.now) inputs.now.source.items
-        inputs.now.keyboard.items (part_in words.now.arrows words.now.last) words.now.chart
-        played.now) (F.left folder.old) (F.left folder.new) result }
+    ensures refused { IfOk result (λ drawn. IfErr drawn (RefusesSource words.now inputs.now)) }
+    ensures left { LeavesOrRefuses F.left folder.old folder.new
+        (Charts words.now inputs.now played.now) result }
     ensures failed { IfErr result (FailsToWrite Chart) }
 {
     match drawn(alloc, words, inputs, played)? {
@@ -48,9 +44,7 @@ fn drawn<'a>(
     inputs: &Inputs,
     played: &Result<Played, PlayFault>,
 ) -> Result<Result<Option<Page<'a>>, PlayFault>, Failure>
-    ensures drawn { IfOk result (Draws (options_in words.now) inputs.now.source.items
-        inputs.now.keyboard.items (part_in words.now.arrows words.now.last) words.now.chart
-        played.now) }
+    ensures drawn { IfOk result (Draws words.now inputs.now played.now) }
     ensures failed { IfErr result (FailsToWrite Chart) }
 {
     match (words.chart, played) {
@@ -80,11 +74,8 @@ fn chart_of(
     played: &Played,
 ) -> Result<Result<Vec<u8>, PlayFault>, Failure>
     ensures drawn { IfOk result (λ chart.
-        IfOk chart (λ bytes. IsNamedChart (options_in words.now) inputs.now.source.items
-        inputs.now.keyboard.items played.now.choices.items (part_in words.now.arrows words.now.last)
-        bytes.items)) }
-    ensures refused { IfOk result (λ chart.
-        IfErr chart (Refuses (options_in words.now) inputs.now.source.items)) }
+        IfOk chart (λ bytes. ChartsRun words.now inputs.now played.now bytes.items)) }
+    ensures refused { IfOk result (λ chart. IfErr chart (RefusesSource words.now inputs.now)) }
     ensures failed { IfErr result (FailsToWrite Chart) }
 {
     let plan = plan_of(alloc, played.choices.as_slice())?;

@@ -2,9 +2,7 @@
 ghost use Rattle.std.specs.Prelude.{◌≡◌, IfSome};
 ghost use Rattle.occ_play_inputs.specs.Failures.{trouble};
 ghost use Rattle.occ_play_inputs.specs.declared.failure.Stream.TheVariants.{Output};
-ghost use Rattle.occ_explaining.specs.Explaining.{ReportsOn};
-ghost use Rattle.occ_program.specs.Coming.{options_in};
-ghost use Rattle.occ_program.specs.Explained.{Explains, TellsOf, TellsWhy, file_in};
+ghost use Rattle.occ_program.specs.Explained.{Explains, ReportsRun, TellsOf, TellsWhy, file_in};
 ghost use Rattle.occ_program.specs.Troubles.{trouble_text};
 
 use crate::program::options_of;
@@ -102,8 +100,7 @@ fn explanation(
     reason: Reason,
 ) -> Option<Vec<u8>>
     ensures { IfSome result (λ text.
-        Explains words.now inputs.now.source.items inputs.now.keyboard.items reason came.now
-        text.items) }
+        Explains words.now inputs.now reason came.now text.items) }
 {
     match came {
         Ok(played) => reported(alloc, words, inputs, played),
@@ -114,8 +111,7 @@ fn explanation(
 /// What each process stands at where a run has not ended.
 fn reported(alloc: Global, words: &Words<'_>, inputs: &Inputs, played: &Played) -> Option<Vec<u8>>
     ensures { IfSome result (λ text.
-        ReportsOn (options_in words.now) inputs.now.source.items inputs.now.keyboard.items
-        played.now.choices.items text.items) }
+        ReportsRun words.now inputs.now played.now.choices.items text.items) }
 {
     if let Ending::Ended = played.ending {
         return None;

@@ -1,18 +1,16 @@
 //! Tells what all lists of choices of a source come to.
-ghost use Rattle.std.specs.Prelude.{ℕ, [], ◌≡◌, ◌∷◌, ◌≤◌, ◌<◌, ◌-◌, ◌^◌, ◌⊎◌, IfErr, IfOk, IsTrue, OnErr, OnOk, length, take};
-ghost use Rattle.std.specs.Io.KnownBytes.{Appends};
-ghost use Rattle.occ_choices.specs.Lines.{choice_text};
+ghost use Rattle.std.specs.Prelude.{[], ◌≡◌, ◌∷◌, ◌≤◌, ◌<◌, ◌-◌, ◌^◌, IfErr, IfOk, IsTrue, OnErr, OnOk, length, take};
 ghost use Rattle.occ_exploring.specs.Alone.{only_status, only_text};
 ghost use Rattle.occ_exploring.specs.Texts.{exploration_text};
-ghost use Rattle.occ_files.specs.Leaving.{LeavesOne, LeavesAll, LeavesNothing};
+ghost use Rattle.occ_files.specs.Leaving.{AddsFiles, AddsSome, MayAdd};
 ghost use Rattle.occ_files.specs.declared.reason.Reason.{Reason};
 ghost use Rattle.occ_play_inputs.specs.Failures.{FailsToWrite, trouble};
 ghost use Rattle.occ_play_inputs.specs.declared.failure.Failure.{Failure};
 ghost use Rattle.occ_play_inputs.specs.declared.failure.Stream.TheVariants as stream;
-ghost use Rattle.occ_program.specs.Coming.{IsSearchStatus, OnlyTo, SearchedTo, found_status};
-ghost use Rattle.occ_program.specs.Pages.{AreRecorded, answer_files, answer_path};
+ghost use Rattle.occ_program.specs.Coming.{IsSearchStatus, OnlyTo, Prints, SearchedTo, found_status};
+ghost use Rattle.occ_program.specs.Pages.{AreRecorded, answer_file, answer_files};
 ghost use Rattle.occ_play.specs.Status.{fault_status};
-ghost use Rattle.occ_shown.specs.Counting.{failures_of, writer_of};
+ghost use Rattle.occ_shown.specs.Counting.{failures_of};
 
 use crate::counting::Counter;
 use crate::explaining::explain_fault;
@@ -173,9 +171,7 @@ fn print_only<W: Write>(
     answer: &Answer,
 ) -> Result<bool, AllocError>
     requires room { failures_of out.old < 2 ^ 64 - 1 }
-    ensures { IfOk result (λ printed. IsTrue printed
-        → Appends (W.contents (writer_of out.old)) (W.contents (writer_of out.new))
-        (only_text asked answer.now)) }
+    ensures { IfOk result (Prints W.contents (only_text asked answer.now) out.old out.new) }
 {
     let text = only_text(alloc, asked, answer)?;
     Ok(write_answer(text.as_slice(), out).is_ok())
@@ -291,14 +287,13 @@ fn print_answers<W: Write>(
     alloc: Global,
     words: &Words<'_>,
     asked: Asked,
-    exploration: &Exploration,
+    found: &Exploration,
 ) -> Result<bool, AllocError>
     requires room { failures_of out.old < 2 ^ 64 - 1 }
-    ensures { IfOk result (λ printed. IsTrue printed
-        → Appends (W.contents (writer_of out.old)) (W.contents (writer_of out.new))
-        (exploration_text asked words.now.states exploration.now)) }
+    ensures { IfOk result
+        (Prints W.contents (exploration_text asked words.now.states found.now) out.old out.new) }
 {
-    let text = exploration_text(alloc, exploration, asked, words.states)?;
+    let text = exploration_text(alloc, found, asked, words.states)?;
     Ok(write_answer(text.as_slice(), out).is_ok())
 }
 
@@ -338,11 +333,10 @@ fn record_each<F: Folder>(
     answers: &[Answer],
 ) -> Result<(), Failure>
     requires { length answers.now ≤ 100 }
-    ensures ok { OnOk result (LeavesAll (F.left folder.old) (F.left folder.new)
-        (answer_files stem.now 1 answers.now)) }
-    ensures err { OnErr result ((n : ℕ)
-        × LeavesAll (F.left folder.old) (F.left folder.new)
-        (take n (answer_files stem.now 1 answers.now))) }
+    ensures ok { OnOk result
+        (AddsFiles F.left folder.old folder.new (answer_files stem.now 1 answers.now)) }
+    ensures err { OnErr result
+        (AddsSome F.left folder.old folder.new (answer_files stem.now 1 answers.now)) }
 {
     let mut number = 1;
     for answer in answers {
@@ -359,12 +353,11 @@ fn record_answer<F: Folder>(
     number: usize,
     choices: &[Choice],
 ) -> Result<(), Failure>
-    ensures ok { OnOk result (LeavesOne (F.left folder.old) (F.left folder.new)
-        (answer_path stem.now number) (choice_text choices.now)) }
+    ensures ok { OnOk result
+        (AddsFiles F.left folder.old folder.new (answer_file stem.now number choices.now ∷ [])) }
     ensures failed { IfErr result (FailsToWrite (stream.Answer number)) }
-    ensures err { OnErr result (LeavesNothing (F.left folder.old) (F.left folder.new)
-        ⊎ LeavesOne (F.left folder.old) (F.left folder.new) (answer_path stem.now number)
-        (choice_text choices.now)) }
+    ensures err { OnErr result
+        (MayAdd F.left folder.old folder.new (answer_file stem.now number choices.now)) }
 {
     let path = answer_path(alloc, stem, number)?;
     let text = choices_text(alloc, choices)?;

@@ -1,12 +1,10 @@
 //! The program around `play`: what it reads and prints, and its exit status.
 ghost use Rattle.std.specs.Prelude.{◌≡◌, ◌≤◌, ◌<◌, ◌-◌, ◌^◌, ◌⊎◌, IfErr, IfOk, IfSome, None, Some, false, true};
-ghost use Rattle.occ_program.specs.Coming.{CameToBy, IsLookStatus, IsStatusFor, ProgramStatus, options_in, workers_asked};
+ghost use Rattle.occ_program.specs.Coming.{IsLookStatus, IsStatusFor, PlayedTo, ProgramStatus, RefusesSource, options_in, workers_in};
 ghost use Rattle.occ_shown.specs.Counting.{failures_of};
-ghost use Rattle.occ_play.specs.Playing.{Refuses};
 ghost use Rattle.occ_play.specs.Status.{status};
 ghost use Rattle.occ_play_inputs.specs.Failures.{failure_status};
 ghost use Rattle.occ_program.specs.Lines.{run_line};
-ghost use Rattle.occ_choices.specs.Plans.{choices_of};
 
 use crate::drawing::draw;
 use crate::explaining::explain;
@@ -169,8 +167,7 @@ fn leave<F: Folder>(
     inputs: &Inputs,
     played: &Result<Played, PlayFault>,
 ) -> Result<Result<(), PlayFault>, Failure>
-    ensures { IfOk result (λ left. IfErr left
-        (Refuses (options_in words.now) inputs.now.source.items)) }
+    ensures { IfOk result (λ left. IfErr left (RefusesSource words.now inputs.now)) }
 {
     record(folder, alloc, words, played)?;
     if let Err(fault) = draw(folder, alloc, words, inputs, played)? {
@@ -233,7 +230,7 @@ pub(crate) fn options_of(words: &Words<'_>) -> Options
 /// How many workers take the turns, where the words say so and name no file of choices; a run that is watched has one at
 /// least.
 fn workers_of(words: &Words<'_>) -> Option<u32>
-    ensures { result ≡ workers_asked words.now.watch words.now.workers words.now.choices }
+    ensures { result ≡ workers_in words.now }
 {
     match words.choices {
         None if words.watch => Some(words.workers.unwrap_or(1)),
@@ -250,9 +247,7 @@ fn play_on<R: Eprint + Threads + Wait + Sync, W: Write>(
     inputs: &Inputs,
     screen: &mut W,
 ) -> Result<Result<Played, PlayFault>, Failure>
-    ensures { IfOk result (CameToBy
-        (workers_asked words.now.watch words.now.workers words.now.choices) words.now
-        inputs.now.source.items inputs.now.keyboard.items (choices_of inputs.now.plan)) }
+    ensures { IfOk result (PlayedTo (workers_in words.now) words.now inputs.now) }
 {
     let mut out = Counted::new(screen);
     play_inputs(rt, alloc, words, inputs, &mut out)
@@ -267,9 +262,7 @@ fn play_inputs<R: Eprint + Threads + Wait + Sync, W: Write>(
     out: &mut Counted<W>,
 ) -> Result<Result<Played, PlayFault>, Failure>
     requires room { failures_of out.old < 2 ^ 64 - 1 }
-    ensures { IfOk result (CameToBy
-        (workers_asked words.now.watch words.now.workers words.now.choices) words.now
-        inputs.now.source.items inputs.now.keyboard.items (choices_of inputs.now.plan)) }
+    ensures { IfOk result (PlayedTo (workers_in words.now) words.now inputs.now) }
 {
     match workers_of(words) {
         None => Ok(play_plan(alloc, words, inputs, out)),
@@ -288,8 +281,7 @@ fn play_plan<W: Write>(
     out: &mut Counted<W>,
 ) -> Result<Played, PlayFault>
     requires room { failures_of out.old < 2 ^ 64 - 1 }
-    ensures { CameToBy None words.now inputs.now.source.items inputs.now.keyboard.items
-        (choices_of inputs.now.plan) result }
+    ensures { PlayedTo None words.now inputs.now result }
 {
     play_in(
         &options_of(words),
@@ -312,8 +304,7 @@ fn play_by<R: Threads + Wait + Sync, W: Write>(
     out: &mut Counted<W>,
 ) -> Result<Played, PlayFault>
     requires room { failures_of out.old < 2 ^ 64 - 1 }
-    ensures { CameToBy (Some workers) words.now inputs.now.source.items inputs.now.keyboard.items
-        (choices_of inputs.now.plan) result }
+    ensures { PlayedTo (Some workers) words.now inputs.now result }
 {
     let (limit, trace) = (words.limit, words.trace);
     play_workers_in(
@@ -340,8 +331,7 @@ fn play_looking<R: Eprint + Threads + Wait + Sync, W: Write>(
     out: &mut Counted<W>,
 ) -> Option<Result<Played, PlayFault>>
     requires room { failures_of out.old < 2 ^ 64 - 1 }
-    ensures { IfSome result (CameToBy (Some workers) words.now inputs.now.source.items
-        inputs.now.keyboard.items (choices_of inputs.now.plan)) }
+    ensures { IfSome result (PlayedTo (Some workers) words.now inputs.now) }
 {
     let (limit, trace) = (words.limit, words.trace);
     play_watching::<Brand, R, W>(

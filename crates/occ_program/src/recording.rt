@@ -19,8 +19,8 @@ pub(crate) fn record<F: Folder>(
     words: &Words<'_>,
     played: &Result<Played, PlayFault>,
 ) -> Result<(), Failure>
-    ensures left { IsLeft (Records words.now.«record» played.now) (F.left folder.old)
-        (F.left folder.new) result }
+    ensures left { IsLeft F.left folder.old folder.new
+        (Records words.now.«record» played.now) result }
     ensures failed { IfErr result (FailsToWrite Record) }
 {
     let page = recorded(alloc, words, played)?;

@@ -34,8 +34,7 @@ fn answers_told(
     inputs: &Inputs,
     answers: &[Answer],
 ) -> Result<Vec<u8>, PlayFault>
-    ensures { IfOk result (λ text. TellsAnswers words.now inputs.now.source.items
-        inputs.now.keyboard.items answers.now text.items) }
+    ensures { IfOk result (λ text. TellsAnswers words.now inputs.now answers.now text.items) }
 {
     let mut text = Vec::new(alloc);
     for place in 0..answers.len() {
@@ -54,8 +53,7 @@ fn told_at(
     place: usize,
 ) -> Result<Vec<u8>, PlayFault>
     requires { place < length answers.now }
-    ensures { IfOk result (λ text. TellsAt words.now inputs.now.source.items
-        inputs.now.keyboard.items answers.now place text.items) }
+    ensures { IfOk result (λ text. TellsAt words.now inputs.now answers.now place text.items) }
 {
     let answer = &answers[place];
     if is_new(&answers[..place], answer.ending) {
@@ -94,8 +92,7 @@ fn reported(
     number: usize,
     answer: &Answer,
 ) -> Result<Vec<u8>, PlayFault>
-    ensures { IfOk result (λ text. IsReported words.now inputs.now.source.items
-        inputs.now.keyboard.items number answer.now text.items) }
+    ensures { IfOk result (λ text. IsReported words.now inputs.now number answer.now text.items) }
 {
     let mut text = answer_head(alloc, number, answer.ending)?;
     let report = report_of(

@@ -89,9 +89,9 @@ fn ends_by(
     limit: u32,
     seed: u32,
 ) -> Result<bool, AllocError>
-    ensures ends { IfOk result (λ ends. IsTrue ends
+    ensures ends { IfOk result (λ is. IsTrue is
         → RunEnds options.now source.now keyboard.now (seeded seed limit)) }
-    ensures not { IfOk result (λ ends. IsFalse ends
+    ensures not { IfOk result (λ is. IsFalse is
         → RunEndsNot options.now source.now keyboard.now (seeded seed limit)) }
 {
     let plan = seeded_plan(alloc, seed, limit)?;

@@ -2,9 +2,8 @@
 ghost use Rattle.std.specs.Prelude.{IfErr, IfOk};
 ghost use Rattle.occ_play_inputs.specs.Failures.{FailsToWrite};
 ghost use Rattle.occ_play_inputs.specs.declared.failure.Stream.TheVariants.{Turns};
-ghost use Rattle.occ_program.specs.Coming.{options_in};
+ghost use Rattle.occ_program.specs.Coming.{RefusesSource};
 ghost use Rattle.occ_program.specs.Pages.{LeavesOrRefuses, TellsSteps, StepsPage};
-ghost use Rattle.occ_play.specs.Playing.{Refuses};
 
 use crate::page::{Page, write_page};
 use crate::program::options_of;
@@ -23,11 +22,9 @@ pub(crate) fn step<F: Folder>(
     inputs: &Inputs,
     played: &Result<Played, PlayFault>,
 ) -> Result<Result<(), PlayFault>, Failure>
-    ensures refused { IfOk result (λ stepped.
-        IfErr stepped (Refuses (options_in words.now) inputs.now.source.items)) }
-    ensures left { LeavesOrRefuses (StepsPage (options_in words.now) inputs.now.source.items
-        inputs.now.keyboard.items words.now.steps played.now) (F.left folder.old)
-        (F.left folder.new) result }
+    ensures refused { IfOk result (λ stepped. IfErr stepped (RefusesSource words.now inputs.now)) }
+    ensures left { LeavesOrRefuses F.left folder.old folder.new
+        (StepsPage words.now inputs.now played.now) result }
     ensures failed { IfErr result (FailsToWrite Turns) }
 {
     match page_of(alloc, words, inputs, played) {
@@ -46,8 +43,7 @@ fn page_of<'a>(
     inputs: &Inputs,
     played: &Result<Played, PlayFault>,
 ) -> Result<Option<Page<'a>>, PlayFault>
-    ensures { TellsSteps (options_in words.now) inputs.now.source.items inputs.now.keyboard.items
-        words.now.steps played.now result }
+    ensures { TellsSteps words.now inputs.now played.now result }
 {
     match (words.steps, played) {
         (Some(path), Ok(played)) => {

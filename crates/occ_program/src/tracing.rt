@@ -2,10 +2,8 @@
 ghost use Rattle.std.specs.Prelude.{◌≡◌, IfErr, IfOk};
 ghost use Rattle.occ_play_inputs.specs.Failures.{FailsToWrite};
 ghost use Rattle.occ_play_inputs.specs.declared.failure.Stream.TheVariants.{Trace};
-ghost use Rattle.occ_program.specs.Coming.{options_in};
-ghost use Rattle.occ_program.specs.Pages.{LeavesOrRefuses, TracePage, Traces, form_in};
-ghost use Rattle.occ_play.specs.Playing.{Refuses};
-ghost use Rattle.occ_tracing.specs.Traced.{IsTraced};
+ghost use Rattle.occ_program.specs.Coming.{RefusesSource};
+ghost use Rattle.occ_program.specs.Pages.{LeavesOrRefuses, TracePage, Traces, TracesRun, form_in};
 
 use crate::drawing::plan_of;
 use crate::page::{Page, write_page};
@@ -25,11 +23,9 @@ pub(crate) fn trace<F: Folder>(
     inputs: &Inputs,
     played: &Result<Played, PlayFault>,
 ) -> Result<Result<(), PlayFault>, Failure>
-    ensures refused { IfOk result (λ traced.
-        IfErr traced (Refuses (options_in words.now) inputs.now.source.items)) }
-    ensures left { LeavesOrRefuses (TracePage (options_in words.now) inputs.now.source.items
-        inputs.now.keyboard.items (form_in words.now.json) words.now.trace_to played.now)
-        (F.left folder.old) (F.left folder.new) result }
+    ensures refused { IfOk result (λ traced. IfErr traced (RefusesSource words.now inputs.now)) }
+    ensures left { LeavesOrRefuses F.left folder.old folder.new
+        (TracePage words.now inputs.now played.now) result }
     ensures failed { IfErr result (FailsToWrite Trace) }
 {
     match page_of(alloc, words, inputs, played)? {
@@ -48,8 +44,7 @@ fn page_of<'a>(
     inputs: &Inputs,
     played: &Result<Played, PlayFault>,
 ) -> Result<Result<Option<Page<'a>>, PlayFault>, Failure>
-    ensures written { IfOk result (Traces (options_in words.now) inputs.now.source.items
-        inputs.now.keyboard.items (form_in words.now.json) words.now.trace_to played.now) }
+    ensures written { IfOk result (Traces words.now inputs.now played.now) }
     ensures failed { IfErr result (FailsToWrite Trace) }
 {
     match (words.trace_to, played) {
@@ -76,10 +71,8 @@ fn text_of(
     played: &Played,
 ) -> Result<Result<Vec<u8>, PlayFault>, Failure>
     ensures traced { IfOk result (λ text.
-        IfOk text (λ bytes. IsTraced (options_in words.now) inputs.now.source.items
-        inputs.now.keyboard.items played.now.choices.items (form_in words.now.json) bytes.items)) }
-    ensures refused { IfOk result (λ text.
-        IfErr text (Refuses (options_in words.now) inputs.now.source.items)) }
+        IfOk text (λ bytes. TracesRun words.now inputs.now played.now bytes.items)) }
+    ensures refused { IfOk result (λ text. IfErr text (RefusesSource words.now inputs.now)) }
     ensures failed { IfErr result (FailsToWrite Trace) }
 {
     let plan = plan_of(alloc, played.choices.as_slice())?;

@@ -1,6 +1,6 @@
 -- What is told of each process that is left.
 -- Manual: nothing; this is (own).
-use Rattle.std.specs.Prelude.{List, None, Option, Some, [], codes, if◌then◌else◌, length, min, slice_get, zero, suc, ℕ, ◌++◌, ◌==◌, ◌≡◌, ◌∷◌, Vec, map}
+use Rattle.std.specs.Prelude.{List, None, Option, Some, [], codes, if◌then◌else◌, length, min, slice_get, zero, suc, ℕ, ◌++◌, ◌==◌, ◌≡◌, ◌∷◌, Vec, map, option_map}
 use Rattle.std.specs.Fmt.{decimal}
 use Rattle.occ_term.specs.Runs.{Names, tag_shown}
 use Rattle.occ_term.specs.Terms.{Term}
@@ -9,6 +9,8 @@ use Rattle.occ_machine.specs.declared.task.Arm.{Arm}
 use Rattle.occ_machine.specs.declared.task.Task.{Task}
 use Rattle.occ_machine.specs.declared.task.Wait.{Wait}
 use Rattle.occ_machine.specs.declared.task.Wait.TheVariants.{Ready, Took, Offers, Awaits, Chooses, Joins, Halted, Done, Faulted}
+use Rattle.occ_choices.specs.Plans.{choices_of}
+use Rattle.occ_choices.specs.declared.plan.Plan.{Plan}
 use Rattle.occ_machine.specs.Compiled.{Program}
 use Rattle.occ_net_replay.specs.declared.choice.Choice.{Choice}
 use Rattle.occ_term.specs.declared.ending.Ending.{Ending}
@@ -16,7 +18,7 @@ use Rattle.occ_term.specs.declared.ending.Ending.TheVariants as endings
 use Rattle.occ_net_replay.specs.Following.{or_limit}
 use Rattle.occ_term.specs.Endings.{ending_text}
 use Rattle.occ_net_replay.specs.Replay.{Net, Replays, Tasks, ending_of}
-use Rattle.occ_shown.specs.Answers.{items_text, names_of}
+use Rattle.occ_shown.specs.Answers.{AddsText, items_text, names_of}
 use Rattle.occ_net_tables.specs.Outcomes.{Begins}
 use Rattle.occ_ends.specs.declared.ends.Ends.{Ends}
 use Rattle.occ_ends.specs.Ends.{AreEnds, IsCircle, next_noted, all_using, noted_for}
@@ -187,8 +189,21 @@ reader_at readers c = reader_text (slice_get readers c)
 abbrev pub writer_at : Noted → ℕ → List ℕ
 writer_at writers c = writer_text c (slice_get writers c)
 
-abbrev pub choosing_text : Names → Noted → List Arm → List ℕ
-choosing_text names writers arms = codes "chooses" ++ arms_text names writers arms
+-- by the declared names
+abbrev pub offer_told : List Channel → Noted → ℕ → Message → List ℕ
+offer_told cs readers c m = offer_text (names_of cs) readers c m
+
+abbrev pub awaited_told : List Channel → Noted → ℕ → List ℕ
+awaited_told cs writers c = awaited_text (names_of cs) writers c
+
+abbrev pub arm_told : List Channel → Noted → Option ℕ → List ℕ
+arm_told cs writers chan = arm_channel_text (names_of cs) writers chan
+
+abbrev pub arms_told : List Channel → Noted → List Arm → List ℕ
+arms_told cs writers arms = arms_text (names_of cs) writers arms
+
+abbrev pub choosing_told : List Channel → Noted → List Arm → List ℕ
+choosing_told cs writers arms = codes "chooses" ++ arms_told cs writers arms
 
 abbrev pub joining_text : List ℕ → List ℕ
 joining_text ns = codes "waits for" ++ branches_text ns
@@ -197,8 +212,12 @@ joining_text ns = codes "waits for" ++ branches_text ns
 abbrev pub standing_told : List Channel → Sides → Option Stop → Wait → Option (List ℕ)
 standing_told cs ends stop w = standing_text (names_of cs) ends.readers.now ends.writers.now stop w
 
-abbrev pub line_by : List Channel → Sides → (name : List ℕ) → Option Stop → ℕ → Wait → List ℕ
-line_by cs ends name stop n w = process_line (names_of cs) ends.readers.now ends.writers.now name stop n w
+-- the line of a process, of the text that there is for it, and of what it stands at
+abbrev pub AddsOnLine : {A B : Type 0} → ℕ → (name : List ℕ) → Option Stop → Option (Vec ℕ A) → (old new : Vec ℕ B) → Type 0
+AddsOnLine n name stop text old new = AddsText old new (on_line n name stop (option_map (λ v. v.items) text))
+
+abbrev pub AddsLine : {A : Type 0} → List Channel → Sides → (name : List ℕ) → Option Stop → ℕ → Wait → (old new : Vec ℕ A) → Type 0
+AddsLine cs ends name stop n w old new = AddsText old new (process_line (names_of cs) ends.readers.now ends.writers.now name stop n w)
 
 -- of whatever network the tables hold, the line of one process, and the lines of the first so many
 abbrev pub AddsTaskLine : {A : Type 0} → List Channel → Sides → List Known → Tables → ℕ → (old new : Vec ℕ A) → Type 0
@@ -210,8 +229,10 @@ AddsTaskLines cs ends known tables n old new =
     HeldBy tables (λ net. new.items ≡ old.items ++ task_lines (names_of cs) ends.readers.now ends.writers.now known net.tasks n)
 
 -- by any term whose uses these are
-abbrev pub IsReportBy : {A : Type 0} → List ProcessUses → Program → List ℕ → List Choice → List Known → Vec ℕ A → Type 0
-IsReportBy uses p keyboard list known bytes = (t : Term) → map noted_for uses ≡ all_using t → IsReport t p keyboard list known bytes.items
+abbrev pub IsReportBy : {A : Type 0} → List ProcessUses → Program → List ℕ → Plan → List Known → Vec ℕ A → Type 0
+IsReportBy uses p keyboard plan known bytes =
+    (t : Term) → map noted_for uses ≡ all_using t → IsReport t p keyboard (choices_of plan) known bytes.items
 
-abbrev pub IsCircleBy : {A : Type 0} → List ProcessUses → Program → List ℕ → List Choice → Vec ℕ A → Type 0
-IsCircleBy uses p keyboard list circle = (t : Term) → map noted_for uses ≡ all_using t → IsCircleOf t p keyboard list circle.items
+abbrev pub IsCircleBy : {A : Type 0} → List ProcessUses → Program → List ℕ → Plan → Vec ℕ A → Type 0
+IsCircleBy uses p keyboard plan circle =
+    (t : Term) → map noted_for uses ≡ all_using t → IsCircleOf t p keyboard (choices_of plan) circle.items

@@ -1,6 +1,5 @@
 //! Reports of runs.
 ghost use Rattle.std.specs.Prelude.{◌≡◌, IfOk, OnOk};
-ghost use Rattle.occ_choices.specs.Plans.{choices_of};
 ghost use Rattle.occ_report.specs.Reports.{IsCircleBy, IsReportBy, count_text, report_head, report_tail};
 ghost use Rattle.occ_shown.specs.Answers.{AddsText};
 
@@ -67,8 +66,7 @@ pub fn report(
     plan: &Plan,
     places: &Places,
 ) -> Result<Vec<u8>, AllocError>
-    ensures { IfOk result (IsReportBy
-        uses.now code.now keyboard.now (choices_of plan.now) places.now) }
+    ensures { IfOk result (IsReportBy uses.now code.now keyboard.now plan.now places.now) }
 {
     let Ran {
         ending,
@@ -109,7 +107,7 @@ pub fn circle_of(
     keyboard: &[u8],
     plan: &Plan,
 ) -> Result<Vec<u32>, AllocError>
-    ensures { IfOk result (IsCircleBy uses.now code.now keyboard.now (choices_of plan.now)) }
+    ensures { IfOk result (IsCircleBy uses.now code.now keyboard.now plan.now) }
 {
     let Ran {
         ending: _,

@@ -1,9 +1,9 @@
 //! What a process stands at, in bytes.
-ghost use Rattle.std.specs.Prelude.{◌≡◌, IfOk, OnOk, Some, codes, option_map};
+ghost use Rattle.std.specs.Prelude.{◌≡◌, IfOk, OnOk, Some, codes};
 ghost use Rattle.occ_term.specs.Endings.{ending_text};
 ghost use Rattle.occ_places.specs.Places.{name_of, stop_of};
-ghost use Rattle.occ_shown.specs.Answers.{names_of, AddsText, HasWords};
-ghost use Rattle.occ_report.specs.Reports.{arm_channel_text, arms_text, awaited_text, branches_text, circle_text, halted_text, halting_text, line_told, name_text, offer_text, on_line, process_text, AddsTaskLine, AddsTaskLines, choosing_text, joining_text, line_by, reader_at, standing_told, writer_at};
+ghost use Rattle.occ_shown.specs.Answers.{AddsText, HasWords};
+ghost use Rattle.occ_report.specs.Reports.{arm_told, arms_told, awaited_told, branches_text, circle_text, halted_text, halting_text, line_told, name_text, offer_told, on_line, process_text, AddsLine, AddsOnLine, AddsTaskLine, AddsTaskLines, choosing_told, joining_text, reader_at, standing_told, writer_at};
 
 use occ_machine::{Arm, Wait};
 use occ_net_tables::Tables;
@@ -74,7 +74,7 @@ fn write_awaited(
     chan: u32,
 ) -> Result<(), AllocError>
     ensures { OnOk result
-        (AddsText out.old out.new (awaited_text (names_of channels.now) writers.now chan)) }
+        (AddsText out.old out.new (awaited_told channels.now writers.now chan)) }
 {
     out.extend_from_slice(b"awaits ")?;
     write_name(alloc, out, channels, chan)?;
@@ -89,8 +89,7 @@ fn write_arm(
     writers: &[Option<u32>],
     chan: Option<u32>,
 ) -> Result<(), AllocError>
-    ensures { OnOk result
-        (AddsText out.old out.new (arm_channel_text (names_of channels.now) writers.now chan)) }
+    ensures { OnOk result (AddsText out.old out.new (arm_told channels.now writers.now chan)) }
 {
     match chan {
         Some(chan) => {
@@ -109,7 +108,7 @@ fn write_arms(
     arms: &[Arm],
 ) -> Result<(), AllocError>
     ensures { OnOk result
-        (AddsText out.old out.new (arms_text (names_of channels.now) writers.now arms.now)) }
+        (AddsText out.old out.new (arms_told channels.now writers.now arms.now)) }
 {
     let mut rest = arms;
     while let Some((arm, others)) = rest.split_first() {
@@ -155,8 +154,8 @@ fn write_offer(
     chan: u32,
     message: &Message,
 ) -> Result<(), AllocError>
-    ensures { OnOk result (AddsText out.old out.new
-        (offer_text (names_of channels.now) readers.now chan message.now)) }
+    ensures { OnOk result
+        (AddsText out.old out.new (offer_told channels.now readers.now chan message.now)) }
 {
     out.extend_from_slice(b"offers ")?;
     write_message(alloc, out, message, chan, channels)?;
@@ -241,7 +240,7 @@ fn write_choosing(
     arms: &[Arm],
 ) -> Result<(), AllocError>
     ensures { OnOk result
-        (AddsText out.old out.new (choosing_text (names_of channels.now) writers.now arms.now)) }
+        (AddsText out.old out.new (choosing_told channels.now writers.now arms.now)) }
 {
     out.extend_from_slice(b"chooses")?;
     write_arms(alloc, out, channels, writers, arms)
@@ -309,8 +308,7 @@ fn write_on_line(
     stop: Option<Stop>,
     text: Option<Vec<u8>>,
 ) -> Result<(), AllocError>
-    ensures { OnOk result
-        (AddsText out.old out.new (on_line number name.now stop (option_map (λ v. v.items) text))) }
+    ensures { OnOk result (AddsOnLine number name.now stop text out.old out.new) }
 {
     match text {
         Some(text) => write_text(alloc, out, number, name, stop, text.as_slice()),
@@ -330,7 +328,7 @@ fn write_standing(
     wait: &Wait,
 ) -> Result<(), AllocError>
     ensures { OnOk result
-        (AddsText out.old out.new (line_by channels.now ends.entry name.now stop number wait.now)) }
+        (AddsLine channels.now ends.entry name.now stop number wait.now out.old out.new) }
 {
     let text = standing(alloc, channels, ends, stop, wait)?;
     write_on_line(alloc, out, number, name, stop, text)

@@ -1,6 +1,6 @@
 -- What the workers of a run gather.
 -- Manual: nothing; this is (own).
-use Rattle.std.specs.Prelude.{List, None, Some, false, length, replicate, ℕ, ◌≡◌, ◌≤◌}
+use Rattle.std.specs.Prelude.{IfOk, List, None, Result, Some, false, length, replicate, ℕ, ◌≡◌, ◌≤◌}
 use Rattle.occ_machine.specs.Compiled.{Program}
 use Rattle.occ_net_replay.specs.Replay.{Net, Replays, ending_of}
 use Rattle.occ_net.specs.Networks.{Past}
@@ -29,6 +29,10 @@ pub record IsRunOf (p : Program) (keyboard : List ℕ) (limit : ℕ) (o : Outcom
   pub network : IsGathered p keyboard limit o.network
   pub choices : o.choices.items ≡ o.network.choices
   pub shows : Shows network.net o
+
+-- whatever run's workers gathered this network, what is given is the outcome of that run
+abbrev pub GivesOutcome : {E : Type 0} → Past → Result Outcome E → Type 0
+GivesOutcome n r = (p : Program) (keyboard : List ℕ) (limit : ℕ) → IsGathered p keyboard limit n → IfOk r (IsRunOf p keyboard limit)
 
 -- the network was made of this code and this keyboard, and has at most `limit` choices
 pub record IsOfRun (p : Program) (keyboard : List ℕ) (limit : ℕ) (n : Past) : Type 0 where

@@ -2,4 +2,5 @@ pub mod Gathered
 pub mod Steps
 pub mod Tokens
 pub mod Held
+pub mod Telling
 pub mod FaultTexts

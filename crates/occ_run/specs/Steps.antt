@@ -4,13 +4,14 @@ use Rattle.std.specs.Prelude.{IsSome, None, Option, Some, false, if◌then◌els
 use Rattle.occ_net_replay.specs.Replay.{Net, ending_of}
 use Rattle.occ_net.specs.declared.leasing.Lease.{Lease}
 use Rattle.occ_net.specs.Leases.{CanTakeTurn, Leases, LeasesOne}
-use Rattle.occ_net.specs.Networks.{IsState, ready_in, with_out}
-use Rattle.occ_net.specs.Stretches.{CanGoOn, SettlesAll}
+use Rattle.occ_net.specs.Networks.{InState, IsState, Past, ready_in, with_out}
+use Rattle.occ_net.specs.Stretches.{AreOwn, CanGoOn, SettlesAll}
 use Rattle.occ_run.specs.declared.progress.Next.{Next}
 use Rattle.occ_run.specs.declared.progress.Next.TheVariants as next
 use Rattle.occ_run.specs.declared.progress.Progress.{Progress}
 use Rattle.occ_run.specs.declared.progress.Stop.{Stop}
 use Rattle.occ_run.specs.declared.progress.Stop.TheVariants.{Memory}
+use Rattle.occ_run.specs.declared.stretch.Stretch.{Stretch}
 use Rattle.occ_run.specs.declared.progress.Wake.{Wake}
 use Rattle.occ_run.specs.declared.progress.Wake.TheVariants.{Nobody, One, All}
 
@@ -70,6 +71,10 @@ IsStep old new (next.Run lease most) = Runs old lease new
 IsStep old new next.Rest = Rests old new
 IsStep old new next.Leave = LeavesRun old new
 
+-- turns in a row are the network's own
+abbrev pub AreTurnsOf : Past → Stretch → Type 0
+AreTurnsOf n s = InState n (λ net. AreOwn n net s.number s.count s.after)
+
 -- turns of an open run are settled, each with the number of choices so far as its pick
 pub record TakesThem (old new : Progress) (number count : ℕ) : Type 0 where
   pub going : IsOpen old
@@ -89,6 +94,10 @@ pub record StopsAt (old new : Progress) (number : ℕ) : Type 0 where
   pub going : IsOpen old
   pub released : new.network ≡ with_out old.network number false
   pub stop : new.stop ≡ Some Memory
+
+-- a process that was refused a turn is in again, and the run stops, if it has not stopped
+abbrev pub GivesBack : Progress → Progress → (number : ℕ) → Type 0
+GivesBack old new number = (new.network ≡ with_out old.network number false) × (new.stop ≡ first_stop old.stop Memory)
 
 abbrev pub TakesIn : Progress → Progress → ℕ → ℕ → Type 0
 TakesIn old new number count = TakesThem old new number count ⊎ Drops old new number count ⊎ StopsAt old new number

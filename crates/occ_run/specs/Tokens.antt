@@ -37,6 +37,10 @@ opening = keeper [] false
 abbrev pub IsKeeper : Known → Type 0
 IsKeeper v = v ≡ keeper v.out v.over
 
+-- when one more turn is out
+abbrev pub keeper_with : Task → Known → Known
+keeper_with t v = keeper (t ∷ v.out) v.over
+
 -- of one turn that is out
 abbrev pub holder : Task → Known
 holder t = record { keeps = false; out = []; over = false; has = Some t; ended = false }

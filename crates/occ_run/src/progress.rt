@@ -1,9 +1,7 @@
 //! How far the workers have come: what lies under the lock, and the steps that they take there.
 ghost use Rattle.std.specs.Prelude.{◌≡◌, ◌-◌, IfErr, IfNone, IfOk, IfSome, None, false, length};
-ghost use Rattle.occ_net_replay.specs.Replay.{Net};
-ghost use Rattle.occ_net.specs.Networks.{IsState, with_out};
-ghost use Rattle.occ_net.specs.Stretches.{AreOwn};
-ghost use Rattle.occ_run.specs.Steps.{IsOpen, IsOver, IsStep, IsWake, KeepsCounts, TakesIn, first_stop};
+ghost use Rattle.occ_net.specs.Networks.{with_out};
+ghost use Rattle.occ_run.specs.Steps.{AreTurnsOf, GivesBack, IsOpen, IsOver, IsStep, IsWake, KeepsCounts, TakesIn, first_stop};
 
 use crate::stretch::{Stretch, most_turns};
 use occ_machine::Task;
@@ -154,13 +152,10 @@ impl Progress {
     /// Takes in turns that were taken in a row, which are the network's own, or gives their process back. The task that
     /// the network had, where they were settled, is handed out.
     pub fn take_in(&mut self, alloc: Global, done: Done) -> Option<Task>
-        requires { IfOk done (λ s. (net : Net) → IsState self.old.network net
-            → AreOwn self.old.network net s.number s.count s.after) }
+        requires { IfOk done (AreTurnsOf self.old.network) }
         ensures limit { self.new.limit ≡ self.old.limit }
         ensures ran { IfOk done (λ s. TakesIn self.old self.new s.number s.count) }
-        ensures refused { IfErr done (λ number.
-            (self.new.network ≡ with_out self.old.network number false)
-            × (self.new.stop ≡ first_stop self.old.stop Stop.Memory)) }
+        ensures refused { IfErr done (GivesBack self.old self.new) }
         ensures out { self.new.out ≡ self.old.out - 1 }
         ensures resting { self.new.resting ≡ self.old.resting }
     {
@@ -175,8 +170,7 @@ impl Progress {
     }
 
     fn take_stretch(&mut self, alloc: Global, stretch: Stretch) -> Option<Task>
-        requires { (net : Net) → IsState self.old.network net
-            → AreOwn self.old.network net stretch.number stretch.count stretch.after }
+        requires { AreTurnsOf self.old.network stretch }
         ensures limit { self.new.limit ≡ self.old.limit }
         ensures takes { TakesIn self.old self.new stretch.number stretch.count }
         ensures counts { KeepsCounts self.old self.new }

@@ -1,9 +1,8 @@
 //! A run of a program's code by several threads.
-ghost use Rattle.std.specs.Prelude.{◌≡◌, ◌≢◌, ◌<◌, ◌↔◌, ◌⊎◌, IfOk, IfErr, IsErrOf, List, None, ℕ};
+ghost use Rattle.std.specs.Prelude.{◌≡◌, ◌≢◌, ◌<◌, ◌↔◌, ◌⊎◌, IfOk, IfErr, IsErrOf, None};
 ghost use Rattle.occ_choices.specs.Crews.{most_workers};
-ghost use Rattle.occ_machine.specs.Compiled.{Program};
 ghost use Rattle.occ_net.specs.Networks.{fresh};
-ghost use Rattle.occ_run.specs.Gathered.{IsGathered, IsNoRun, IsRunOf, stop_fault};
+ghost use Rattle.occ_run.specs.Gathered.{GivesOutcome, IsGathered, IsNoRun, IsRunOf, stop_fault};
 ghost use Rattle.occ_run.specs.Held.{IsConcluded};
 
 use crate::fault::RunFault;
@@ -96,8 +95,7 @@ pub(crate) fn beginning(
 
 /// The outcome of a network that workers gathered.
 pub(crate) fn outcome_of(alloc: Global, network: Network) -> Result<Outcome, RunFault>
-    ensures run { (p : Program) (keyboard : List ℕ) (limit : ℕ)
-        → IsGathered p keyboard limit network → IfOk result (IsRunOf p keyboard limit) }
+    ensures run { GivesOutcome network result }
     ensures network { IfOk result (λ o. o.network ≡ network) }
     ensures refused { IfErr result (λ fault. fault ≡ RunFault.Memory) }
 {

@@ -1,7 +1,7 @@
 //! What ties a turn that is out to the network under the lock: tokens, which have no bytes.
-ghost use Rattle.std.specs.Prelude.{◌≡◌, [], ◌∷◌, true, IfOk};
+ghost use Rattle.std.specs.Prelude.{◌≡◌, [], true, IfOk};
 ghost use Rattle.crossbeam_utils.specs.Seq.{cell_view};
-ghost use Rattle.occ_run.specs.Tokens.{AreOthers, Checked, IsKeeper, holder, keeper, opening, shown_beside, teller};
+ghost use Rattle.occ_run.specs.Tokens.{AreOthers, Checked, IsKeeper, holder, keeper, keeper_with, opening, shown_beside, teller};
 
 use atomic_table::{Join, Split};
 use crossbeam_utils::atomic::seq_cell::{Pass, RuledSeqCell};
@@ -109,9 +109,8 @@ fn go_out_as<O: Named>(tokens: &Tokens, all: &mut Token, task: &Task) -> Token
     requires own { all.old.table_id ≡ tokens.now.table.shared.table_id }
     requires keeps { IsKeeper (cell_view all.old) }
     requires other { AreOthers task.now.number (cell_view all.old).out }
-    ensures kept { (all.new.table_id ≡ all.old.table_id)
-        × (cell_view all.new ≡ keeper (task.now ∷ (cell_view all.old).out)
-        (cell_view all.old).over) }
+    ensures same { all.new.table_id ≡ all.old.table_id }
+    ensures kept { cell_view all.new ≡ keeper_with task.now (cell_view all.old) }
     ensures given { (result.table_id ≡ all.old.table_id) × (result.me.1 ≡ [])
         × (cell_view result ≡ holder task.now) }
 {
@@ -124,9 +123,8 @@ pub fn go_out(tokens: &Tokens, all: &mut Token, task: &Task) -> Token
     requires own { all.old.table_id ≡ tokens.now.table.shared.table_id }
     requires keeps { IsKeeper (cell_view all.old) }
     requires other { AreOthers task.now.number (cell_view all.old).out }
-    ensures kept { (all.new.table_id ≡ all.old.table_id)
-        × (cell_view all.new ≡ keeper (task.now ∷ (cell_view all.old).out)
-        (cell_view all.old).over) }
+    ensures same { all.new.table_id ≡ all.old.table_id }
+    ensures kept { cell_view all.new ≡ keeper_with task.now (cell_view all.old) }
     ensures given { (result.table_id ≡ all.old.table_id) × (result.me.1 ≡ [])
         × (cell_view result ≡ holder task.now) }
 {
@@ -147,8 +145,8 @@ pub fn end(tokens: &Tokens, all: &mut Token) -> Token
 
 /// A token comes back. What it says is so.
 pub fn come_back<R: Wait>(rt: &R, tokens: &Tokens, all: &mut Token, token: Token)
-    requires own { (all.old.table_id ≡ tokens.now.table.shared.table_id)
-        × (token.table_id ≡ all.old.table_id) × (token.me.1 ≡ []) }
+    requires own { all.old.table_id ≡ tokens.now.table.shared.table_id }
+    requires other { (token.table_id ≡ all.old.table_id) × (token.me.1 ≡ []) }
     requires keeps { IsKeeper (cell_view all.old) }
     ensures kept { all.new.table_id ≡ all.old.table_id }
     ensures checked { Checked (shown_beside (cell_view all.old) (cell_view token)) [] []

@@ -1,16 +1,14 @@
 //! A run by several threads, at whose communications others look while it goes on.
-ghost use Rattle.std.specs.Prelude.{◌≡◌, ◌<◌, ◌↔◌, ◌⊎◌, ◌≢◌, ◌++◌, [], drop, false, true, IfErr, IfOk, IfSome, IsErrOf, None};
+ghost use Rattle.std.specs.Prelude.{◌≡◌, ◌<◌, ◌↔◌, ◌⊎◌, ◌≢◌, [], drop, false, true, IfErr, IfOk, IfSome, IsErrOf, None};
 ghost use mathlib.Core.List.{IsPrefix};
-ghost use Rattle.occ_term.specs.Runs.{entries};
 ghost use Rattle.occ_board.specs.Editions.{edition};
-ghost use Rattle.occ_board.specs.Traces.{publishing};
+ghost use Rattle.occ_board.specs.Traces.{held_by, publishing};
 ghost use Rattle.occ_choices.specs.Crews.{most_workers};
-ghost use Rattle.occ_net_replay.specs.Replay.{Net};
 ghost use Rattle.crossbeam_utils.specs.Seq.{cell_view};
-ghost use Rattle.occ_net.specs.Networks.{IsState, fresh};
-ghost use Rattle.occ_shown.specs.Answers.{names_of};
+ghost use Rattle.occ_net.specs.Networks.{fresh};
 ghost use Rattle.occ_run.specs.Gathered.{IsGathered, IsRunOf};
 ghost use Rattle.occ_run.specs.Held.{IsConcluded};
+ghost use Rattle.occ_run.specs.Telling.{TellsTrace};
 ghost use Rattle.occ_run.specs.Tokens.{opening};
 
 use crate::desk::OneRun;
@@ -55,9 +53,8 @@ pub fn run_watched<J: Naming, R: Threads + Wait + Sync, G: Gate + Sync>(
 ) -> Result<(Outcome, Publisher<J>, Note<J>), RunFault>
     requires going { publisher.closed ≡ false }
     ensures run { IfOk result (λ r. IsRunOf code.now keyboard.now limit r.0) }
-    ensures shown { IfOk result (λ r. (net : Net) → IsState r.0.network net
-        → r.1 ≡ publishing ((publisher.published ++ publisher.pending)
-        ++ entries (names_of code.now.channels) 1 net.trace) [] true) }
+    ensures shown { IfOk result
+        (λ r. TellsTrace code.now.channels (held_by publisher) r.0.network r.1) }
     ensures note { IfOk result (λ r. r.2 ≡ edition r.1.published true) }
     ensures workers { IsErrOf result RunFault.BadWorkers
         ↔ ((workers ≡ 0) ⊎ (most_workers < workers)) }
@@ -91,9 +88,7 @@ pub fn watch_network<J: Naming, R: Threads + Wait + Sync, G: Gate + Sync>(
 ) -> Result<(Network, Publisher<J>, Note<J>), RunFault>
     requires going { publisher.closed ≡ false }
     ensures run { IfOk result (λ r. IsGathered code.now keyboard.now limit r.0) }
-    ensures shown { IfOk result (λ r. (net : Net) → IsState r.0 net
-        → r.1 ≡ publishing ((publisher.published ++ publisher.pending)
-        ++ entries (names_of code.now.channels) 1 net.trace) [] true) }
+    ensures shown { IfOk result (λ r. TellsTrace code.now.channels (held_by publisher) r.0 r.1) }
     ensures note { IfOk result (λ r. r.2 ≡ edition r.1.published true) }
     ensures workers { IsErrOf result RunFault.BadWorkers
         ↔ ((workers ≡ 0) ⊎ (most_workers < workers)) }
@@ -123,9 +118,7 @@ fn watched<J: Naming, R: Threads + Wait + Sync, G: Gate + Sync>(
 ) -> Result<(Network, Publisher<J>, Note<J>), RunFault>
     requires going { (publisher.pending ≡ []) × (publisher.closed ≡ false) }
     ensures run { IfOk result (λ r. IsGathered code.now keyboard.now limit r.0) }
-    ensures shown { IfOk result (λ r. (net : Net) → IsState r.0 net
-        → r.1 ≡ publishing (publisher.published
-        ++ entries (names_of code.now.channels) 1 net.trace) [] true) }
+    ensures shown { IfOk result (λ r. TellsTrace code.now.channels publisher.published r.0 r.1) }
     ensures note { IfOk result (λ r. r.2 ≡ edition r.1.published true) }
     ensures fault { IfErr result (λ fault. fault ≢ RunFault.BadWorkers) }
 {
@@ -161,9 +154,8 @@ fn lent<J: Naming, R: Threads + Wait + Sync, G: Gate + Sync>(
 ) -> Result<(Network, Note<J>), RunFault>
     requires going { (publisher.old.pending ≡ []) × (publisher.old.closed ≡ false) }
     ensures run { IfOk result (λ r. IsGathered code.now keyboard.now limit r.0) }
-    ensures shown { IfOk result (λ r. (net : Net) → IsState r.0 net
-        → publisher.new ≡ publishing (publisher.old.published
-        ++ entries (names_of code.now.channels) 1 net.trace) [] true) }
+    ensures shown { IfOk result
+        (λ r. TellsTrace code.now.channels publisher.old.published r.0 publisher.new) }
     ensures note { IfOk result (λ r. r.1 ≡ edition publisher.new.published true) }
     ensures fault { IfErr result (λ fault. fault ≢ RunFault.BadWorkers) }
 {
@@ -199,8 +191,8 @@ fn told_behind<'a, J: Naming>(
     held: usize,
 ) -> Option<&'a [Shown]>
     requires { note.now.last ≡ true }
-    ensures { IfSome result (λ told. (publisher.now ≡ publishing note.now.entries [] true)
-        × (told.now ≡ drop held note.now.entries)) }
+    ensures closed { IfSome result (λ _. publisher.now ≡ publishing note.now.entries [] true) }
+    ensures told { IfSome result (λ told. told.now ≡ drop held note.now.entries) }
 {
     if !publisher.is_closed_by(note) {
         return None;
@@ -342,8 +334,8 @@ fn append_news<J: Naming>(
     publisher: &mut Publisher<J>,
 ) -> Result<u64, AllocError>
     requires { publisher.old.closed ≡ false }
-    ensures { IfOk result (λ _. (publisher.new.published ≡ publisher.old.published)
-        × (publisher.new.closed ≡ false)) }
+    ensures published { IfOk result (λ _. publisher.new.published ≡ publisher.old.published) }
+    ensures going { IfOk result (λ _. publisher.new.closed ≡ false) }
 {
     let mut number = number;
     for communication in news.entries() {
@@ -364,8 +356,9 @@ fn append<J: Naming>(shown: Shown, publisher: &mut Publisher<J>) -> Result<(), A
 /// Publishes what is pending.
 fn publish<J: Naming, R: Wait>(rt: &R, publisher: &mut Publisher<J>) -> Result<(), AllocError>
     requires { publisher.old.closed ≡ false }
-    ensures { IfOk result (λ _. (publisher.new.pending ≡ []) × (publisher.new.closed ≡ false)
-        × IsPrefix publisher.old.published publisher.new.published) }
+    ensures going { IfOk result
+        (λ _. (publisher.new.pending ≡ []) × (publisher.new.closed ≡ false)) }
+    ensures more { IfOk result (λ _. IsPrefix publisher.old.published publisher.new.published) }
 {
     replace_with(publisher, rt, |publisher, rt| publisher.publish(rt)).map_err(|_| AllocError)
 }
@@ -373,8 +366,8 @@ fn publish<J: Naming, R: Wait>(rt: &R, publisher: &mut Publisher<J>) -> Result<(
 /// Publishes what is pending for the last time.
 fn shut<J: Naming, R: Wait>(rt: &R, publisher: &mut Publisher<J>) -> Result<(), AllocError>
     requires { publisher.old.closed ≡ false }
-    ensures { IfOk result (λ _. (publisher.new.closed ≡ true)
-        × IsPrefix publisher.old.published publisher.new.published) }
+    ensures closed { IfOk result (λ _. publisher.new.closed ≡ true) }
+    ensures more { IfOk result (λ _. IsPrefix publisher.old.published publisher.new.published) }
 {
     replace_with(publisher, rt, |publisher, rt| publisher.close(rt)).map_err(|_| AllocError)
 }

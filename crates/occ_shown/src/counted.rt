@@ -32,11 +32,13 @@ impl<W: Write> Counted<W> {
     pub fn write_some(&mut self, bytes: &[u8]) -> Option<usize>
         requires room { failures_of self.old < 2 ^ 64 - 1 }
         requires some { 0 < length bytes.now }
-        ensures taken { IfSome result (λ n. (0 < n) × (n ≤ length bytes.now)
-            × AppendsTo W.contents self.old self.new (take n bytes.now)
-            × (failures_of self.new ≡ failures_of self.old)) }
-        ensures failed { IfNone result ((failures_of self.new ≡ failures_of self.old + 1)
-            × Keeps (W.contents (writer_of self.old)) (W.contents (writer_of self.new))) }
+        ensures some { IfSome result (λ n. (0 < n) × (n ≤ length bytes.now)) }
+        ensures taken { IfSome result
+            (λ n. AppendsTo W.contents self.old self.new (take n bytes.now)) }
+        ensures none_failed { IfSome result (λ n. failures_of self.new ≡ failures_of self.old) }
+        ensures failed { IfNone result (failures_of self.new ≡ failures_of self.old + 1) }
+        ensures kept { IfNone result
+            (Keeps (W.contents (writer_of self.old)) (W.contents (writer_of self.new))) }
     {
         match self.writer.write(bytes) {
             Ok(n) if n > 0 => Some(n),
@@ -54,8 +56,9 @@ pub fn write_answer<W: Write>(answer: &[u8], out: &mut Counted<W>) -> Result<(),
     ensures whole { OnOk result (AppendsTo W.contents out.old out.new answer.now) }
     ensures none_failed { OnOk result (failures_of out.new ≡ failures_of out.old) }
     ensures failed { OnErr result (failures_of out.old < failures_of out.new) }
-    ensures beginning { IfErr result (λ written. (written < length answer.now)
-        × AppendsTo W.contents out.old out.new (take written answer.now)) }
+    ensures less { IfErr result (λ written. written < length answer.now) }
+    ensures beginning { IfErr result
+        (λ written. AppendsTo W.contents out.old out.new (take written answer.now)) }
 {
     let mut written = 0;
     while written < answer.len() {

@@ -1,6 +1,6 @@
 -- The lines of a run's turns.
 -- Manual: nothing; this is (own).
-use Rattle.std.specs.Prelude.{List, None, Option, Some, [], codes, drop, length, slice_get, ℕ, ◌+◌, ◌++◌, ◌≡◌, ◌∷◌, Vec, map, ◌-◌}
+use Rattle.std.specs.Prelude.{List, None, OnOk, Option, Result, Some, [], codes, drop, length, slice_get, ℕ, ◌+◌, ◌++◌, ◌≡◌, ◌∷◌, Vec, ◌-◌}
 use Rattle.std.specs.Fmt.{decimal}
 use Rattle.occ_chart.specs.Labels.{arrow_words, message_text}
 use Rattle.occ_machine.specs.declared.task.Arm.{Arm}
@@ -136,17 +136,20 @@ chooses_text cs arms = codes "chooses" ++ arm_channels (names_of cs) arms
 abbrev pub joins_text : List ℕ → List ℕ
 joins_text ns = codes "waits for" ++ numbers_text ns
 
+abbrev pub stopped_told : List Channel → List Known → ℕ → Task → List ℕ
+stopped_told cs known n t = stopped_text (names_of cs) known n t
+
 -- communications that are the last of so many
 abbrev pub last_made : List Channel → ℕ → List Communication → List Entry
 last_made cs made xs = entries (names_of cs) (made - length xs + 1) xs
 
-abbrev pub AddsTail : {A : Type 0} → List Channel → List Known → ℕ → Task → List Entry → (old new : Vec ℕ A) → Type 0
-AddsTail cs known n t made old new = new.items ≡ old.items ++ turn_tail (names_of cs) known n t made
+abbrev pub AddsTail : {A : Type 0} → List Channel → List Known → ℕ → Task → (made : ℕ) → List Communication → (old new : Vec ℕ A) → Type 0
+AddsTail cs known n t made xs old new = new.items ≡ old.items ++ turn_tail (names_of cs) known n t (last_made cs made xs)
 
 -- of the network that the tables held
-abbrev pub AddsStep : {A : Type 0} → List Known → Program → List ℕ → ℕ → Choice → Vec ℕ A → Tables → Vec ℕ A → Tables → Type 0
-AddsStep known p keyboard turn c before old after new =
-    (net : Net) → Holds p keyboard old net → StepsTo known p keyboard turn c net before.items new after.items
+abbrev pub AddsStep : {X E A : Type 0} → Result X E → List Known → Program → List ℕ → ℕ → Choice → Vec ℕ A → Tables → Vec ℕ A → Tables → Type 0
+AddsStep done known p keyboard turn c before old after new =
+    OnOk done ((net : Net) → Holds p keyboard old net → StepsTo known p keyboard turn c net before.items new after.items)
 
 abbrev pub TakesNext : Program → List ℕ → Tables → ℕ → ℕ × Task → Type 0
 TakesNext p keyboard tables which r = (net : Net) → Holds p keyboard tables net → NextTurn p which net r.0 r.1

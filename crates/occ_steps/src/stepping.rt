@@ -1,7 +1,5 @@
 //! Runs, turn by turn.
-ghost use Rattle.std.specs.Prelude.{◌≡◌, ◌+◌, ◌<◌, ◌^◌, IfOk, None, OnOk, length};
-ghost use Rattle.occ_machine.specs.Compiled.{Program};
-ghost use Rattle.occ_net_replay.specs.Replay.{ending_of};
+ghost use Rattle.std.specs.Prelude.{◌+◌, ◌<◌, IfOk};
 ghost use Rattle.occ_net_tables.specs.Settling.{Standing};
 ghost use Rattle.occ_steps.specs.Steps.{AddsStep, IsSteps};
 
@@ -30,8 +28,7 @@ fn step(
     out: &mut Vec<u8>,
 ) -> Result<(), AllocError>
     requires { Standing code.now keyboard.now tables.old }
-    ensures { OnOk result (AddsStep
-        places.now code.now keyboard.now turn choice out.old tables.old out.new tables.new) }
+    ensures { AddsStep result places.now code.now keyboard.now turn choice out.old tables.old out.new tables.new }
 {
     let (taken, after) = next_turn(alloc, code, scratch, keyboard, tables, choice.which)?;
     write_head(alloc, out, turn, tables.ready(), taken, choice.pick)?;

@@ -2,7 +2,7 @@
 ghost use Rattle.std.specs.Prelude.{◌-◌, ◌≤◌, OnOk, length};
 ghost use Rattle.occ_term.specs.Endings.{ending_text};
 ghost use Rattle.occ_shown.specs.Answers.{ends_text, names_of, AddsText};
-ghost use Rattle.occ_steps.specs.Steps.{all_made_text, arm_text, arm_channels, stop_line, made_text, stop_text, stopped_text, AddsTail, awaits_text, chooses_text, joins_text, last_made, offers_text};
+ghost use Rattle.occ_steps.specs.Steps.{all_made_text, arm_text, arm_channels, stop_line, made_text, stop_text, stopped_told, AddsTail, awaits_text, chooses_text, joins_text, last_made, offers_text};
 ghost use Rattle.occ_term.specs.Runs.{entries};
 
 use occ_board::Shown;
@@ -149,8 +149,8 @@ fn write_stopped(
     number: u32,
     after: &Task,
 ) -> Result<(), AllocError>
-    ensures { OnOk result (AddsText out.old out.new
-        (stopped_text (names_of channels.now) places.now number after.now)) }
+    ensures { OnOk result
+        (AddsText out.old out.new (stopped_told channels.now places.now number after.now)) }
 {
     let stop = places.stop(number, &after.wait, after.pc);
     write_line(alloc, out, stop)?;
@@ -215,9 +215,8 @@ pub(crate) fn write_tail(
     news: &News,
 ) -> Result<(), AllocError>
     requires within { length news.now ≤ made }
-    ensures { OnOk result (AddsTail
-        channels.now places.now number after.now (last_made channels.now made news.now)
-        out.old out.new) }
+    ensures { OnOk result
+        (AddsTail channels.now places.now number after.now made news.now out.old out.new) }
 {
     write_stopped(alloc, out, channels, places, number, after)?;
     write_all_made(alloc, out, channels, made, news)?;

@@ -1,10 +1,9 @@
 //! The trace of a run as a text of its own.
 ghost use Rattle.std.specs.Prelude.{◌≡◌, IfErr, IfOk};
-ghost use Rattle.occ_choices.specs.Plans.{choices_of};
 ghost use Rattle.occ_play.specs.Playing.{Refuses};
 ghost use Rattle.occ_shown.specs.Answers.{entries_in};
 ghost use Rattle.occ_term.specs.Runs.{entries};
-ghost use Rattle.occ_tracing.specs.Traced.{IsTraced, form_text};
+ghost use Rattle.occ_tracing.specs.Traced.{IsTracedBy, form_text};
 
 use occ_board::Shown;
 use occ_choices::Plan;
@@ -71,8 +70,7 @@ pub fn traced(
     plan: &Plan,
     form: Form,
 ) -> Result<Vec<u8>, PlayFault>
-    ensures traced { IfOk result (λ bytes.
-        IsTraced options.now source.now keyboard.now (choices_of plan.now) form bytes.items) }
+    ensures traced { IfOk result (IsTracedBy options.now source.now keyboard.now plan.now form) }
     ensures refused { IfErr result (Refuses options.now source.now) }
 {
     let code = code_of(options, alloc, source)?;

@@ -14,6 +14,6 @@ CameTo Answers Refusal (Err (play.Write written)) = (bytes : List ℕ) × ((play
 CameTo Answers Refusal (Err fault) = Refusal fault
 
 -- what it came to by so many workers, within the limit
-abbrev pub CameByWorkers : ℕ → Options → (source keyboard : List ℕ) → ℕ → Bool → Result Played PlayFault → Type 0
-CameByWorkers workers options source keyboard limit trace played =
+abbrev pub CameByCrew : ℕ → Options → (source keyboard : List ℕ) → ℕ → Bool → Result Played PlayFault → Type 0
+CameByCrew workers options source keyboard limit trace played =
     CameTo (IsAnswerWithin options source keyboard limit trace) (WorkersRefuse workers options source) played

@@ -1,7 +1,7 @@
 //! Plays a program while a thread of its own looks at its communications.
 ghost use Rattle.std.specs.Prelude.{◌≡◌, ◌<◌, ◌-◌, ◌^◌, IfSome, false};
 ghost use Rattle.occ_shown.specs.Counting.{failures_of};
-ghost use Rattle.occ_watching.specs.Coming.{CameByWorkers};
+ghost use Rattle.occ_watching.specs.Coming.{CameByCrew};
 
 use crate::looking::{look_on, tell_last};
 use occ_play::{
@@ -31,7 +31,7 @@ pub fn play_watching<J: Naming + Send + Sync, R: Eprint + Threads + Wait + Sync,
 ) -> Option<Result<Played, PlayFault>>
     requires book { opened ≡ J.book }
     requires room { failures_of out.old < 2 ^ 64 - 1 }
-    ensures { IfSome result (CameByWorkers workers options.now source.now keyboard.now limit
+    ensures { IfSome result (CameByCrew workers options.now source.now keyboard.now limit
         trace) }
 {
     match Board::new::<J>(opened, alloc, 1) {
@@ -65,7 +65,7 @@ fn play_beside<J: Naming + Send + Sync, R: Eprint + Threads + Wait + Sync, W: Wr
 ) -> Option<Result<Played, PlayFault>>
     requires going { publisher.closed ≡ false }
     requires room { failures_of out.old < 2 ^ 64 - 1 }
-    ensures { IfSome result (CameByWorkers workers options.now source.now keyboard.now limit
+    ensures { IfSome result (CameByCrew workers options.now source.now keyboard.now limit
         trace) }
 {
     let mut slot = Some(publisher);
@@ -76,7 +76,7 @@ fn play_beside<J: Naming + Send + Sync, R: Eprint + Threads + Wait + Sync, W: Wr
         || -> Option<Result<Played, PlayFault>>
             requires going { IfSome lent.now (λ p. p.closed ≡ false) }
             requires room { failures_of out.now < 2 ^ 64 - 1 }
-            ensures { IfSome result (CameByWorkers workers options.entry.now source.entry.now
+            ensures { IfSome result (CameByCrew workers options.entry.now source.entry.now
                 keyboard.entry.now limit trace) }
         {
             play_slot(
@@ -105,7 +105,7 @@ fn play_slot<J: Naming, R: Threads + Wait + Sync, W: Write>(
 ) -> Option<Result<Played, PlayFault>>
     requires going { IfSome slot.old (λ p. p.closed ≡ false) }
     requires room { failures_of out.old < 2 ^ 64 - 1 }
-    ensures { IfSome result (CameByWorkers workers options.now source.now keyboard.now limit
+    ensures { IfSome result (CameByCrew workers options.now source.now keyboard.now limit
         trace) }
 {
     let Some(publisher) = slot.take() else {

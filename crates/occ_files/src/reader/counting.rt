@@ -1,7 +1,7 @@
 //! Reads that are counted where they fail.
 ghost use Rattle.std.specs.Prelude.{◌≡◌, ◌-◌, ◌^◌, ◌<◌, ◌≤◌, IfSome, IfNone, length, take};
-ghost use Rattle.std.specs.Io.KnownBytes.{Consumes, IsAtEnd, Keeps};
-ghost use Rattle.occ_files.specs.Reading.{breaks_of, failures_of, interruptions_of, reader_of, reason_kept};
+ghost use Rattle.std.specs.Io.KnownBytes.{IsAtEnd, Keeps};
+ghost use Rattle.occ_files.specs.Reading.{ReadsNext, breaks_of, failures_of, interruptions_of, reader_of, reason_kept};
 
 use crate::reader::CountedReader;
 use crate::reason::{Reason, reason_of};
@@ -48,15 +48,13 @@ impl<R: Read> CountedReader<R> {
     pub fn read_some(&mut self, bytes: &mut [u8]) -> Option<usize>
         requires room { failures_of self.old < 2 ^ 64 - 1 }
         ensures within { IfSome result (λ n. n ≤ length bytes.new) }
-        ensures read { IfSome result (λ n.
-            Consumes (R.remaining (reader_of self.old)) (R.remaining (reader_of self.new))
-            (take n bytes.new)) }
+        ensures read { IfSome result
+            (λ n. ReadsNext R.remaining self.old self.new (take n bytes.new)) }
         ensures end { IfSome result (λ n. n ≡ 0 → 0 < length bytes.new
             → IsAtEnd (R.remaining (reader_of self.new))) }
         ensures unbroken { IfSome result (λ n. breaks_of self.new ≡ breaks_of self.old) }
-        ensures room_left { IfSome result
-            (λ n. (failures_of self.old ≤ failures_of self.new)
-            × (failures_of self.new < 2 ^ 64 - 1)) }
+        ensures counted { IfSome result (λ n. failures_of self.old ≤ failures_of self.new) }
+        ensures room_left { IfSome result (λ n. failures_of self.new < 2 ^ 64 - 1) }
         ensures kept { IfNone result (Keeps (R.remaining (reader_of self.old))
             (R.remaining (reader_of self.new))) }
         ensures failed { IfNone result (failures_of self.old < failures_of self.new) }

@@ -1,7 +1,7 @@
 //! Input that is read whole.
 ghost use Rattle.std.specs.Prelude.{◌≡◌, ◌+◌, ◌-◌, ◌^◌, ◌<◌, ◌≤◌, IfOk, OnOk, IfErr, IfSome, length, take};
-ghost use Rattle.std.specs.Io.KnownBytes.{Consumes, IsAtEnd};
-ghost use Rattle.occ_files.specs.Reading.{Grows, breaks_of, failures_of, reader_of, TellsReason};
+ghost use Rattle.std.specs.Io.KnownBytes.{IsAtEnd};
+ghost use Rattle.occ_files.specs.Reading.{Grows, ReadsNext, breaks_of, failures_of, reader_of, TellsReason};
 
 use crate::fault::InputFault;
 use crate::reader::CountedReader;
@@ -50,11 +50,9 @@ pub fn read_input<R: Read>(
 ) -> Result<Vec<u8>, InputFault>
     requires room { failures_of reader.old < 2 ^ 64 - 1 }
     ensures bytes { IfSome (R.remaining (reader_of reader.old))
-        (λ xs. IfOk result (λ bytes. bytes.items ≡ take most xs)) }
+        (λ all. IfOk result (λ v. v.items ≡ take most all)) }
     ensures few { IfOk result (λ bytes. length bytes.items ≤ most) }
-    ensures rest { IfOk result (λ bytes.
-        Consumes (R.remaining (reader_of reader.old)) (R.remaining (reader_of reader.new))
-        bytes.items) }
+    ensures rest { IfOk result (λ v. ReadsNext R.remaining reader.old reader.new v.items) }
     ensures unbroken { OnOk result (breaks_of reader.new ≡ breaks_of reader.old) }
     ensures told { IfErr result (TellsReason reader.old reader.new) }
 {

@@ -21,9 +21,11 @@ publish_as-writer-requires g c next is views k at =
 
 pub returns-in_default-published-clause-kept : goal.returns-in_default-published-clause-kept
 returns-in_default-published-clause-kept g c failed =
+    let kept = at_err _ _ _ _ c.in_default-published.is c.publish_as-writer.ensures.values in kept.0 ∙ ap (λ d. d.shown.value) c.append.ensures.desk
+
+pub returns-in_default-published-clause-pending : goal.returns-in_default-published-clause-pending
+returns-in_default-published-clause-pending g c failed =
     let old = c.args.writer in
     let pending : List Change = drop old.behind old.log.items in
-    let kept = at_err _ _ _ _ c.in_default-published.is c.publish_as-writer.ensures.values in (
-      kept.0 ∙ ap (λ d. d.shown.value) c.append.ensures.desk,
-      ap added kept.1 ∙ (ap added c.in-Ok.ensures.pending ∙ (added_append pending (Reach c.args.next ∷ []) ∙ append-nil (added pending))),
-    )
+    let kept = at_err _ _ _ _ c.in_default-published.is c.publish_as-writer.ensures.values in
+    ap added kept.1 ∙ (ap added c.in-Ok.ensures.pending ∙ (added_append pending (Reach c.args.next ∷ []) ∙ append-nil (added pending)))

@@ -12,4 +12,4 @@ pub returns-in-Err-clause-fault : goal.returns-in-Err-clause-fault
 returns-in-Err-clause-fault g c =
     let told = c.in_ok-played.ensures in
     let tells = subst (λ b. TellsOutcome c.args.options.now c.args.source.now c.args.keyboard.now c.args.trace c.args.code.now c.args.outcome c.in_ok-played.played b) (sym c.as_slice.ensures.value) (record { answers = told.answer; choices = told.choices; ending = told.ending }) in
-    (c.in-Err.ensures.failed, (c.as_slice.result.now, (c.in_ok-played.played, tells), c.in-Err.ensures.beginning.0, c.in-Err.ensures.beginning.1))
+    (c.in-Err.ensures.failed, (c.as_slice.result.now, (c.in_ok-played.played, tells), c.in-Err.ensures.less, c.in-Err.ensures.beginning))

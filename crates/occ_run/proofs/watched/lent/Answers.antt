@@ -14,4 +14,4 @@ returns-then-branch-clause-shown g c = λ net at.
     let told = c.in_ok-is_shown.ensures.0 c.if-branch.true in
     let named = ap (λ cs. entries (names_of cs) 1 c.trace.result.now) c.channels-2.ensures in
     let traced = ap (λ xs. entries (names_of c.args.code.now.channels) 1 xs) (sym (c.trace.ensures net at)) in
-    c.in-Some.ensures.0 ∙ ap (λ (l : List Entry). publishing l [] true) (told_is held all c.in-Some.told.now _ _ begins (ap length c.published-held.ensures) c.in-Some.ensures.1 (told ∙ named ∙ traced))
+    c.in-Some.ensures.closed ∙ ap (λ (l : List Entry). publishing l [] true) (told_is held all c.in-Some.told.now _ _ begins (ap length c.published-held.ensures) c.in-Some.ensures.told (told ∙ named ∙ traced))

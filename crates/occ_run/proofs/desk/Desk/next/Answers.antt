@@ -9,10 +9,10 @@ go_out-token-requires-clause-other g c = out_apart _ _ _ _ c.next.new.self _ c.s
 
 pub invariant_of-self : goal.invariant_of-self
 invariant_of-self g c =
-    let kept = c.go_out-token.ensures.kept in
+    let kept = c.go_out-token.ensures in
     let u = g.U.OneRun in (
-      kept.0 ∙ c.self.invariant.0,
-      subst (λ (v : Known). IsHeld u.program u.keyboard u.limit c.next.new.self v) (sym kept.1)
+      kept.same ∙ c.self.invariant.0,
+      subst (λ (v : Known). IsHeld u.program u.keyboard u.limit c.next.new.self v) (sym kept.kept)
           (out_held _ _ _ _ c.next.new.self _ c.self.invariant.1 c.replayed.ensures c.in-Run.ensures.limit c.in-Run.lease c.in-Run.ensures.step),
     )
 
