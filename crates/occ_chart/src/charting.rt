@@ -127,7 +127,8 @@ fn write_below(
 ) -> Result<(), AllocError>
     requires few { length columns.now ≤ 2 ^ 40 }
     requires near { count ≤ 990 }
-    ensures { PutsFoot result out.old out.new names.now columns.now count after is_cut stubs.now circle.now ending }
+    ensures { PutsFoot result out.old out.new names.now columns.now count after is_cut stubs.now
+        circle.now ending }
 {
     let bottom = row(count);
     write_feet(alloc, out, columns, bottom, stubs)?;

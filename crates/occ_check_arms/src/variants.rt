@@ -155,7 +155,8 @@ fn tagged_opened<'t>(
     targets: &[TargetTree],
     body: &'t Process,
 ) -> Result<OpenedVariant<'t>, CheckFault>
-    ensures opens { OpensTargets result unfolder.old unfolder.new at depth line targets.now declarations.now body.now protocol.now tag }
+    ensures opens { OpensTargets result unfolder.old unfolder.new at depth line targets.now declarations.now
+        body.now protocol.now tag }
     ensures kept { KeepsOpen result unfolder.old unfolder.new }
     ensures weight { Within variant_weight result unfolder.new
         (weight_behind unfolder.old at declarations.now body.now) }

@@ -67,7 +67,8 @@ fn emit_before(
     last: Instr<u32>,
     code: &mut Vec<Instr<u32>>,
 ) -> Result<(), AllocError>
-    ensures { AddsPiece result code.old code.new (expression_code (expression_of e.now) ++ last ∷ []) }
+    ensures { AddsPiece result code.old code.new
+        (expression_code (expression_of e.now) ++ last ∷ []) }
 {
     put(code, last)?;
     emit_expression(alloc, e, code)?;
@@ -185,7 +186,8 @@ fn emit_value(
     value: &TermExpr,
     code: &mut Vec<Instr<u32>>,
 ) -> Result<(), AllocError>
-    ensures { AddsPiece result code.old code.new (item_code (OfOne primitive (expression_of value.now))) }
+    ensures { AddsPiece result code.old code.new
+        (item_code (OfOne primitive (expression_of value.now))) }
 {
     put(code, Instr::PartOne(primitive))?;
     emit_expression(alloc, value, code)?;
@@ -198,7 +200,8 @@ fn emit_array(
     array: &Array,
     code: &mut Vec<Instr<u32>>,
 ) -> Result<(), AllocError>
-    ensures { AddsPiece result code.old code.new (item_code (OfMany primitive (array_of array.now))) }
+    ensures { AddsPiece result code.old code.new
+        (item_code (OfMany primitive (array_of array.now))) }
 {
     match array {
         Array::Cells(place) => {
@@ -275,7 +278,8 @@ fn emit_both_places(
     array: &Place,
     code: &mut Vec<Instr<u32>>,
 ) -> Result<(), AllocError>
-    ensures { AddsPiece result code.old code.new (target_code (target_of_counted line count.now array.now)) }
+    ensures { AddsPiece result code.old code.new
+        (target_code (target_of_counted line count.now array.now)) }
 {
     let counts = components(count);
     let all = components(array);
@@ -319,7 +323,8 @@ pub(crate) fn emit_naming(
     value: &Item,
     code: &mut Vec<Instr<u32>>,
 ) -> Result<(), AllocError>
-    ensures { AddsPiece result code.old code.new (declaration_code (Naming first (item_of value.now))) }
+    ensures { AddsPiece result code.old code.new
+        (declaration_code (Naming first (item_of value.now))) }
 {
     put(code, Instr::StoreNamed(first))?;
     emit_item(alloc, value, code)?;
@@ -332,7 +337,8 @@ pub(crate) fn emit_declaration(
     declaration: &Declaration,
     code: &mut Vec<Instr<u32>>,
 ) -> Result<(), AllocError>
-    ensures { AddsPiece result code.old code.new (declaration_code (declaration_of declaration.now)) }
+    ensures { AddsPiece result code.old code.new
+        (declaration_code (declaration_of declaration.now)) }
 {
     match declaration {
         Declaration::Clearing(_, first, count) => put(code, Instr::ClearCells(*first, *count)),
@@ -346,7 +352,8 @@ pub(crate) fn emit_declarations(
     declarations: &[Declaration],
     code: &mut Vec<Instr<u32>>,
 ) -> Result<(), AllocError>
-    ensures { AddsPiece result code.old code.new (declarations_code (declarations_of declarations.now)) }
+    ensures { AddsPiece result code.old code.new
+        (declarations_code (declarations_of declarations.now)) }
 {
     let mut count = declarations.len();
     while count > 0 {

@@ -111,7 +111,8 @@ fn add_in_terms(
     parts: &[Term],
     bodies: &mut Vec<Arc<Body, Global>>,
 ) -> Result<(), AllocError>
-    ensures { AddsAll result quantum bodies.old bodies.new (branches_in_terms (terms_of parts.now)) }
+    ensures { AddsAll result quantum bodies.old bodies.new
+        (branches_in_terms (terms_of parts.now)) }
 {
     let mut count = parts.len();
     while count > 0 {

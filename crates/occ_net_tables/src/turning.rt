@@ -69,7 +69,8 @@ impl Tables {
         requires some { 0 < most }
         requires within { from + most ≤ length (choices_of plan.now) }
         requires fits { length (choices_of plan.now) < 2 ^ 64 }
-        ensures row { IfOk result (TakesRowOf code.now keyboard.now plan.now from self.old self.new) }
+        ensures row { IfOk result
+            (TakesRowOf code.now keyboard.now plan.now from self.old self.new) }
         ensures some { IfOk result (λ row. (0 < row.0) × (row.0 ≤ most)) }
         ensures going { IfOk result (λ row. IsTrue row.1 → GoesOn code.now self.new) }
     {
@@ -102,7 +103,8 @@ impl Tables {
         requires { HasTakenTurn code.now keyboard.now self.old place number end
             (left_message scratch.old) }
         ensures turn { OnOk result
-            (SettlesTurn code.now keyboard.now place number end scratch.old pick self.old self.new) }
+            (SettlesTurn code.now keyboard.now place number end scratch.old pick self.old
+            self.new) }
         ensures going { IfOk result (λ going. IsTrue going → GoesOn code.now self.new) }
     {
         code.compiled();

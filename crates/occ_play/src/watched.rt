@@ -41,10 +41,12 @@ pub fn play_watched<J: Naming, R: Threads + Wait + Sync, G: Gate + Sync, W: Writ
 ) -> Result<(Played, Publisher<J>, Note<J>), PlayFault>
     requires room { failures_of out.old < 2 ^ 64 - 1 }
     requires going { publisher.closed ≡ false }
-    ensures played { WatchedPlay result W.contents options.now source.now keyboard.now limit trace publisher out.old out.new }
+    ensures played { WatchedPlay result W.contents options.now source.now keyboard.now limit trace publisher
+        out.old out.new }
     ensures note { IfOk result (λ r. r.2 ≡ edition r.1.published true) }
     ensures crew { IfOk result (λ _. IsCrew workers) }
-    ensures fault { FaultBy result W.contents workers options.now source.now keyboard.now limit trace out.old out.new }
+    ensures fault { FaultBy result W.contents workers options.now source.now keyboard.now limit trace out.old
+        out.new }
 {
     let code = match code_of(options, alloc, source) {
         Ok(code) => code,
@@ -82,8 +84,10 @@ fn written<W: Write>(
 ) -> Result<Played, PlayFault>
     requires room { failures_of out.old < 2 ^ 64 - 1 }
     requires ran { Ran options.now source.now keyboard.now outcome.choices.items code.now outcome }
-    ensures played { ToldPlay result W.contents options.now source.now keyboard.now trace code.now outcome out.old out.new }
-    ensures fault { UntoldPlay result W.contents options.now source.now keyboard.now trace code.now outcome out.old out.new }
+    ensures played { ToldPlay result W.contents options.now source.now keyboard.now trace code.now outcome
+        out.old out.new }
+    ensures fault { UntoldPlay result W.contents options.now source.now keyboard.now trace code.now outcome
+        out.old out.new }
 {
     let (played, bytes) = told(options, alloc, source, keyboard, code, outcome, trace)?;
     match write_answer(bytes.as_slice(), out) {

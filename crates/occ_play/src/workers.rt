@@ -66,7 +66,8 @@ pub fn play_workers_in<R: Threads + Wait + Sync, G: Gate + Sync, W: Write>(
     ensures played { IfOk result
         (PlaysWithin W.contents options.now source.now keyboard.now limit trace out.old out.new) }
     ensures crew { IfOk result (λ _. IsCrew workers) }
-    ensures fault { FaultBy result W.contents workers options.now source.now keyboard.now limit trace out.old out.new }
+    ensures fault { FaultBy result W.contents workers options.now source.now keyboard.now limit trace out.old
+        out.new }
 {
     let (played, bytes) = gathered(
         rt, options, alloc, source, keyboard, workers, limit, trace, gate,

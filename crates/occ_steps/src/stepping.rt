@@ -28,7 +28,8 @@ fn step(
     out: &mut Vec<u8>,
 ) -> Result<(), AllocError>
     requires { Standing code.now keyboard.now tables.old }
-    ensures { AddsStep result places.now code.now keyboard.now turn choice out.old tables.old out.new tables.new }
+    ensures { AddsStep result places.now code.now keyboard.now turn choice out.old tables.old
+        out.new tables.new }
 {
     let (taken, after) = next_turn(alloc, code, scratch, keyboard, tables, choice.which)?;
     write_head(alloc, out, turn, tables.ready(), taken, choice.pick)?;

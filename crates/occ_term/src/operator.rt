@@ -34,25 +34,16 @@ pub fn binary(
         Operator::ShiftLeft => shift_left(primitive, line, a, b),
         Operator::ShiftRight => shift_right(primitive, line, a, b),
         Operator::After => Ok(truth(0 < wrapped(Primitive::Int, x - y))),
-        Operator::Add
-        | Operator::Subtract
-        | Operator::Multiply
-        | Operator::Divide
-        | Operator::Remainder
-        | Operator::Equal
-        | Operator::Unequal
-        | Operator::Less
-        | Operator::Greater
-        | Operator::AtMost
-        | Operator::AtLeast => match common_value(operator, primitive, line, a, b) {
+        // a common operator
+        _ => match common_value(operator, primitive, line, a, b) {
             Some(value) => Ok(value),
             None => Err(fault(FaultKind::Arith, line)),
         },
     }
 }
 
-/// The value of a common operator: a comparison, or arithmetic whose result has to be one of the type. Where there is none, a
-/// common operator fails; of the others none has one here.
+/// The value of a common operator: a comparison, or arithmetic whose result has to be one of the type. Where there is none, it
+/// fails. For any other operator there is none here.
 #[inline(always)]
 pub fn common_value(
     operator: Operator,

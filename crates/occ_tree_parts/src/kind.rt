@@ -73,7 +73,7 @@ pub fn carried(
     ensures { ReadsWords carried_of result (carried_at brackets) tokens.now }
 {
     match tokens {
-        [Token::Name(name), rest @ ..] => { Ok((Carried::Named(name.copy()?), rest)) }
+        [Token::Name(name), rest @ ..] => Ok((Carried::Named(name.copy()?), rest)),
         _ => {
             let (part, rest) = part(alloc, line, tokens)?;
             Ok((Carried::Part(part), rest))

@@ -119,7 +119,8 @@ fn operands(
     logic: Logic,
     tokens: &[Token],
 ) -> Result<(Vec<Operand>, &[Token]), ParseFault>
-    ensures { ReadsWords (each_as operand_of) result (operands_behind logic left (length tokens.now)) tokens.now }
+    ensures { ReadsWords (each_as operand_of) result
+        (operands_behind logic left (length tokens.now)) tokens.now }
 {
     let mut all = Vec::new(alloc);
     let mut rest = tokens;
