@@ -15,6 +15,7 @@ pub mod KeptSteps
 pub mod RestOnReads
 pub mod FrameWrites
 pub mod RowsOfCells
+pub mod FirstRows
 pub mod GatheredRows
 pub mod FrameRows
 pub mod AllOpened

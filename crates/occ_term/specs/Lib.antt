@@ -14,6 +14,7 @@ pub mod Typing
 pub mod TermTyping
 pub mod Frames
 pub mod CellRows
+pub mod FirstRow
 pub mod Evaluation
 pub mod TypedSteps
 pub mod StepUses

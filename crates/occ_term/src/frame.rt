@@ -80,6 +80,7 @@ impl Frame {
     }
 
     /// The same of a cell whose number was computed.
+    #[inline(always)]
     pub fn value_at(&self, cell: u64) -> i64
         ensures { result ≡ at self.now cell }
     {
@@ -105,6 +106,7 @@ impl Frame {
     }
 
     /// Gives a cell this value. A cell that the frame doesn't hold has none.
+    #[inline(always)]
     pub fn set(&mut self, cell: u64, value: i64)
         ensures { self.new ≡ frame_with self.old cell value }
     {
@@ -222,6 +224,7 @@ fn add_each(values: &mut Vec<i64>, row: &CellRow, from: &Frame) -> Result<(), Al
     Ok(())
 }
 
+#[inline(always)]
 fn value_at(cells: &FrameCells, values: &[i64], cell: u64) -> i64
     ensures { result ≡ value_at cells.now values.now cell }
 {
@@ -231,6 +234,7 @@ fn value_at(cells: &FrameCells, values: &[i64], cell: u64) -> i64
     }
 }
 
+#[inline(always)]
 fn value_in(values: &[i64], place: usize) -> i64
     ensures { result ≡ slice_index_or values.now place (pos 0) }
 {
@@ -240,6 +244,7 @@ fn value_in(values: &[i64], place: usize) -> i64
     }
 }
 
+#[inline(always)]
 fn set_value(cells: &FrameCells, values: &mut [i64], cell: u64, value: i64)
     ensures { values.new ≡ values_with cells.now values.old cell value }
 {
@@ -248,6 +253,7 @@ fn set_value(cells: &FrameCells, values: &mut [i64], cell: u64, value: i64)
     }
 }
 
+#[inline(always)]
 fn set_in(values: &mut [i64], place: usize, value: i64)
     ensures { values.new ≡ slice_set values.old place value }
 {

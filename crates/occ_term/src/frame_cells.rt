@@ -2,6 +2,7 @@
 ghost use Rattle.std.specs.Prelude.{◌≡◌, ◌↔◌, ◌<◌, ◌≤◌, ◌+◌, ◌-◌, ◌^◌, ℕ, IfNone, IfOk, IfSome, IsTrue, None, Some, length, slice_index};
 ghost use Rattle.std.specs.Arc.{arc_value};
 ghost use Rattle.occ_term.specs.CellRows.{AreRows, Kept, Rise, StandsIn, cells_in};
+ghost use Rattle.occ_term.specs.FirstRow.{HasFirstRow};
 ghost use Rattle.occ_term.specs.Frames.{place_among, place_in};
 
 use crate::cell_rows::{CellRow, CellRows, same_rows};
@@ -13,9 +14,13 @@ use std::sync::Arc;
 /// The cells of a frame. Contracts see their numbers. Copies share them.
 ///
 /// They are kept as rows, each as long as it can be, so a large array takes no more than a single cell. The place of a cell
-/// in the first row is found at once, and else by halving the rows, if they are rising.
+/// in the first row, whose bounds stand beside them, is found at once, and else by halving the rows, if they are rising.
 pub struct FrameCells {
     rows: Arc<Items<CellRow>, Global>,
+    /// The first cell of the first row.
+    first: u64,
+    /// The number after the last cell of the first row.
+    end: u64,
     count: usize,
     rising: bool,
 }
@@ -24,6 +29,8 @@ impl Drop for FrameCells {
     fn drop(self) {
         let FrameCells {
             rows: _,
+            first: _,
+            end: _,
             count: _,
             rising: _,
         } = self;
@@ -33,13 +40,14 @@ impl Drop for FrameCells {
 impl Model for FrameCells {
     ghost use Rattle.std.specs.Prelude.{List, ℕ};
     ghost use Rattle.std.specs.Arc.{arc_value};
-    ghost use Rattle.occ_term.specs.CellRows.{Counted, cells_in};
+    ghost use Rattle.occ_term.specs.CellRows.{cells_in};
+    ghost use Rattle.occ_term.specs.FirstRow.{HeldRows};
 
     ghost Value = { List ℕ };
 
     ghost view = { λ h. cells_in (arc_value h.rows) };
 
-    ghost invariant = { λ h. Counted (arc_value h.rows) h.rising h.count };
+    ghost invariant = { λ h. HeldRows (arc_value h.rows) h.rising h.count h.first h.end };
 }
 
 impl FrameCells {
@@ -66,9 +74,12 @@ impl FrameCells {
         requires count { count ≡ length (cells_in rows.items) }
         ensures { IfOk result (λ h. h ≡ cells_in rows.items) }
     {
+        let (first, end) = first_bounds(&rows);
         let rows = Arc::new(alloc, Items::from_vec(rows))?;
         Ok(FrameCells {
             rows,
+            first,
+            end,
             count,
             rising,
         })
@@ -81,6 +92,8 @@ impl FrameCells {
         let rows = Arc::try_clone(&self.rows)?;
         Ok(FrameCells {
             rows,
+            first: self.first,
+            end: self.end,
             count: self.count,
             rising: self.rising,
         })
@@ -126,7 +139,19 @@ impl FrameCells {
     }
 
     /// The first place that holds a cell.
+    #[inline(always)]
     pub(crate) fn place_of(&self, cell: u64) -> Option<usize>
+        ensures { result ≡ place_in self.now cell }
+    {
+        if self.first <= cell && cell < self.end {
+            return Some((cell - self.first) as usize);
+        }
+        self.place_in_rows(cell)
+    }
+
+    /// The same, where the rows are looked through.
+    #[inline(never)]
+    fn place_in_rows(&self, cell: u64) -> Option<usize>
         ensures { result ≡ place_in self.now cell }
     {
         let rows = self.rows.as_slice();
@@ -155,6 +180,16 @@ impl FrameCells {
         } else {
             None
         }
+    }
+}
+
+/// The first cell of the first row, and the number after its last one.
+fn first_bounds(rows: &[CellRow]) -> (u64, u64)
+    ensures { HasFirstRow result.0 result.1 rows.now }
+{
+    match rows {
+        [row, ..] => (row.first, row.end),
+        [] => (0, 0),
     }
 }
 

@@ -10,5 +10,5 @@ returns c =
     let others : c.as_slice-2.result.now ≡ arc_value c.other.inside.rows = c.as_slice-2.ensures ∙ c.deref-2.ensures in (
       λ t. sym c.self.view_is ∙ ap cells_in (sym own ∙ c.same_rows.ensures.0 t ∙ others) ∙ c.other.view_is,
       λ e. c.same_rows.ensures.1
-          (own ∙ same_kept (arc_value c.self.inside.rows) (arc_value c.other.inside.rows) _ _ c.self.invariant.kept c.other.invariant.kept (c.self.view_is ∙ e ∙ sym c.other.view_is) ∙ sym others),
+          (own ∙ same_kept (arc_value c.self.inside.rows) (arc_value c.other.inside.rows) _ _ c.self.invariant.counted.kept c.other.invariant.counted.kept (c.self.view_is ∙ e ∙ sym c.other.view_is) ∙ sym others),
     )

@@ -8,7 +8,7 @@ overflow_add-result c =
     let within = c.in_ok-row.ensures.some.within in
     let begun = c.in_ok-row.ensures.some.begun in
     let short = c.in_ok-row.ensures.some.before_end in
-    record { fits = omega (arith, long, within, begun, short, c.self.invariant.count_is, c.self.invariant.few) }
+    record { fits = omega (arith, long, within, begun, short, c.self.invariant.counted.count_is, c.self.invariant.counted.few) }
 
 pub returns-then-count-begin-clause-few : goal.returns-then-count-begin-clause-few
 returns-then-count-begin-clause-few c =
@@ -16,4 +16,4 @@ returns-then-count-begin-clause-few c =
     let within = c.in_ok-row.ensures.some.within in
     let begun = c.in_ok-row.ensures.some.begun in
     let short = c.in_ok-row.ensures.some.before_end in
-    omega (arith, long, within, begun, short, c.count.ensures, c.if-count-begin.true, c.self.invariant.count_is, c.self.invariant.few)
+    omega (arith, long, within, begun, short, c.count.ensures, c.if-count-begin.true, c.self.invariant.counted.count_is, c.self.invariant.counted.few)

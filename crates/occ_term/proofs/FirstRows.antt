@@ -1,0 +1,15 @@
+-- A cell of the first row stands as far from the beginning as it stands behind the row's first cell.
+use Rattle.std.proofs.Common.{◌≡◌, ◌∙◌, ap, ℕ, ◌+◌, ◌-◌, ◌<◌, ◌≤◌, Some, List, [], ◌∷◌, arith}
+use Rattle.occ_term.specs.Frames.{place_in}
+use Rattle.occ_term.specs.CellRows.{AreRows, cells_in}
+use Rattle.occ_term.specs.FirstRow.{HasFirstRow}
+use Rattle.occ_term.specs.declared.cell_rows.CellRow.{CellRow}
+use Rattle.occ_term.proofs.RowsOfCells.{first_holds, no_row}
+
+pub in_first_row : (rows : List CellRow) (first end c : ℕ) → HasFirstRow first end rows → AreRows 0 rows → first ≤ c → c < end → place_in (cells_in rows) c ≡ Some (c - first)
+in_first_row [] first end c begins h low high = absurd (omega (arith, begins, low, high))
+in_first_row (r ∷ rs) first end c begins h low high =
+    let from : r.first ≤ c = omega (arith, begins.0, low) in
+    let short : c < r.end = omega (arith, begins.1, high) in
+    let place : r.place + (c - r.first) ≡ c - first = omega (arith, h.0, begins.0) in
+    first_holds (r ∷ rs) 0 c no_row h (omega (arith)) from short (λ j k. absurd (omega (arith, k))) ∙ ap Some place
