@@ -1,6 +1,6 @@
 -- Whole programs of the code, as the definitions have them.
 -- Manual: scope; procedures.
-use Rattle.std.specs.Prelude.{List, None, Option, Some, [], map, ℕ}
+use Rattle.std.specs.Prelude.{List, None, Option, Result, Some, [], map, ℕ}
 use Rattle.occ_tree_grammar.specs.Lines.Views.{formals_of}
 use Rattle.occ_tree_grammar.specs.Many.{◌>>=◌}
 use Rattle.occ_tree_grammar.specs.Processes.Trees.{Item, value_item, protocol_item, proc_item}
@@ -18,11 +18,15 @@ use Rattle.occ_check_meaning.specs.Numbers.{Numbers}
 use Rattle.occ_check_meaning.specs.Programs.{items_declared}
 use Rattle.occ_check_meaning.specs.Scope.{Known, Pairs, stretch_from, some_channels, within}
 use Rattle.occ_check_meaning.specs.Types.{unnamed}
-use Rattle.occ_check_names.specs.View.{numbers_of}
+use Rattle.occ_check_names.specs.View.{Unfolds, numbers_of}
+use Rattle.occ_check_names.specs.declared.fault.CheckFault.{CheckFault}
 use Rattle.occ_check_names.specs.declared.numbers.Numbers.{Numbers as NumbersCode}
+use Rattle.occ_check_names.specs.declared.scope.Position.{Position}
 use Rattle.occ_check_typing.specs.Declaration.{pairs_of}
 use Rattle.occ_check_typing.specs.declared.declaration.Named.{Named}
 use Rattle.occ_check_opened.specs.Opened.{body_unfolded}
+use Rattle.occ_check_opened.specs.Progress.{counted, meant_at}
+use Rattle.occ_check_opened.specs.declared.unfolder.Unfolder.{Unfolder}
 use Rattle.occ_check.specs.declared.program.Main.{Main}
 
 abbrev pub main_in : Main → P.Main
@@ -44,6 +48,10 @@ items_and_names items names = items_within (map item_of items) (pairs_of names)
 
 abbrev pub body_behind : List ItemCode → List Named → Process → Under Term
 body_behind items names p = behind (items_and_names items names) (body_unfolded p)
+
+-- what the main process unfolds to at a position, behind the items before it and names inside of them
+abbrev pub ReadsMain : Result TermCode CheckFault → (old new : Unfolder) → Position → Main → List Named → Type 0
+ReadsMain result old new at m names = Unfolds term_of result new.numbers (body_behind m.before.now names m.body.now (meant_at old at) 0 (counted old))
 
 -- the term of a program, with the numbers that it gives out
 abbrev pub with_numbers : TermCode × NumbersCode → Term × Numbers

@@ -19,7 +19,7 @@ use occ_check_choices::choices::{choices_opened, each_choice_opened, listed_choi
 use occ_check_choices::options::{listed_selections, options_opened};
 use occ_check_copies::copies::copies_opened;
 use occ_check_names::fault::CheckFault;
-use occ_check_names::scope::Position;
+use occ_check_opened::here::Here;
 use occ_check_opened::opened::{Around, Left, Opened, Step};
 use occ_check_opened::unfolder::{Call, Unfolder};
 use occ_held::letters::Letters;
@@ -33,25 +33,24 @@ use std::alloc::Global;
 pub fn process_opened<'t>(
     unfolder: &mut Unfolder<'t>,
     alloc: Global,
-    at: Position,
-    depth: u32,
+    here: Here,
     process: &'t Process,
 ) -> Result<Step<'t>, CheckFault>
-    requires { depth ≤ 200 }
-    ensures step { OpensAt step_left result unfolder.old unfolder.new at depth
+    requires { here.depth ≤ 200 }
+    ensures step { OpensAt step_left result unfolder.old unfolder.new here
         (body_unfolded process.now) }
     ensures kept { KeepsOpen result unfolder.old unfolder.new }
     ensures weight { IfOk result (λ s. step_weight unfolder.new s + 2
-        ≤ body_weight unfolder.old at process.now) }
+        ≤ body_weight unfolder.old here.at process.now) }
     ensures ready { IfOk result IsStepReady }
 {
     let line = line_of(process);
     let statement = statement_of(process);
-    unfolder.blocks.open(alloc, at)?;
-    let heads = unfolder.declared(alloc, depth + 1, declarations_of(process))?;
-    let inside = unfolder.blocks.end();
-    let deep = unfolder.opened(depth, heads.as_slice())?;
-    let opened = statement_opened(unfolder, alloc, inside, deep, line, statement)?;
+    unfolder.blocks.open(alloc, here.at)?;
+    let heads = unfolder.declared(alloc, here.depth + 1, declarations_of(process))?;
+    let at = unfolder.blocks.end();
+    let depth = unfolder.opened(here.depth, heads.as_slice())?;
+    let opened = statement_opened(unfolder, alloc, Here { at, depth, line }, statement)?;
     Ok(opened.behind(heads))
 }
 
@@ -59,64 +58,37 @@ pub fn process_opened<'t>(
 fn statement_opened<'t>(
     unfolder: &mut Unfolder<'t>,
     alloc: Global,
-    at: Position,
-    depth: u32,
-    line: u32,
+    here: Here,
     statement: &'t Stmt,
 ) -> Result<Opened<'t>, CheckFault>
-    requires { depth ≤ 200 }
-    ensures opens { Begins result unfolder.old unfolder.new at depth
-        (statement_unfolded line statement.now) }
+    requires { here.depth ≤ 200 }
+    ensures opens { Begins result unfolder.old unfolder.new here
+        (statement_unfolded here.line statement.now) }
     ensures kept { KeepsOpen result unfolder.old unfolder.new }
     ensures weight { LeavesWithin result unfolder.new
-        (statement_size statement.now + weight_at unfolder.old at) }
+        (statement_size statement.now + weight_at unfolder.old here.at) }
     ensures ready { IfOk result IsReady }
 {
     match statement {
-        Stmt::Action(action) => action_opened(unfolder, alloc, at, depth, line, action),
-        Stmt::Seq(processes) => in_turn_opened(unfolder, at, depth, listed_processes(processes)),
-        Stmt::SeqFor(replicator, body) => {
-            each_opened(unfolder, alloc, at, depth, line, replicator, body)
-        }
-        Stmt::Par(processes) => beside_opened(unfolder, at, depth, listed_processes(processes)),
-        Stmt::ParFor(replicator, body) => {
-            copies_opened(unfolder, alloc, at, depth, line, replicator, body)
-        }
-        Stmt::While(condition, body) => {
-            loop_opened(unfolder, alloc, at, depth, line, condition, body)
-        }
-        Stmt::If(choices) => choices_opened(unfolder, at, depth, listed_choices(choices)),
+        Stmt::Action(action) => action_opened(unfolder, alloc, here, action),
+        Stmt::Seq(processes) => in_turn_opened(unfolder, here, listed_processes(processes)),
+        Stmt::SeqFor(replicator, body) => each_opened(unfolder, alloc, here, replicator, body),
+        Stmt::Par(processes) => beside_opened(unfolder, here, listed_processes(processes)),
+        Stmt::ParFor(replicator, body) => copies_opened(unfolder, alloc, here, replicator, body),
+        Stmt::While(condition, body) => loop_opened(unfolder, alloc, here, condition, body),
+        Stmt::If(choices) => choices_opened(unfolder, here, listed_choices(choices)),
         Stmt::IfFor(replicator, choice) => {
-            each_choice_opened(unfolder, alloc, at, depth, line, replicator, choice)
+            each_choice_opened(unfolder, alloc, here, replicator, choice)
         }
-        Stmt::Case(e, list) => {
-            options_opened(unfolder, alloc, at, depth, line, e, listed_selections(list))
-        }
+        Stmt::Case(e, list) => options_opened(unfolder, alloc, here, e, listed_selections(list)),
         Stmt::Variants(channel, list) => {
-            variants_opened(
-                unfolder,
-                alloc,
-                at,
-                depth,
-                line,
-                channel,
-                listed_variants(list),
-            )
+            variants_opened(unfolder, alloc, here, channel, listed_variants(list))
         }
         Stmt::Alt(by_priority, arms) => {
-            arms_opened(unfolder, at, depth, *by_priority, listed_arms(arms))
+            arms_opened(unfolder, here, *by_priority, listed_arms(arms))
         }
         Stmt::AltFor(by_priority, replicator, arm) => {
-            each_arm_opened(
-                unfolder,
-                alloc,
-                at,
-                depth,
-                line,
-                *by_priority,
-                replicator,
-                arm,
-            )
+            each_arm_opened(unfolder, alloc, here, *by_priority, replicator, arm)
         }
     }
 }
@@ -125,33 +97,31 @@ fn statement_opened<'t>(
 fn action_opened<'t>(
     unfolder: &mut Unfolder<'t>,
     alloc: Global,
-    at: Position,
-    depth: u32,
-    line: u32,
+    here: Here,
     action: &Action,
 ) -> Result<Opened<'t>, CheckFault>
-    requires { depth ≤ 200 }
-    ensures opens { Begins result unfolder.old unfolder.new at depth
-        (acted line (action_of action.now)) }
+    requires { here.depth ≤ 200 }
+    ensures opens { Begins result unfolder.old unfolder.new here
+        (acted here.line (action_of action.now)) }
     ensures kept { KeepsOpen result unfolder.old unfolder.new }
-    ensures weight { LeavesWithin result unfolder.new (weight_at unfolder.old at) }
+    ensures weight { LeavesWithin result unfolder.new (weight_at unfolder.old here.at) }
     ensures ready { IfOk result IsReady }
 {
     match action {
-        Action::Call(name, actuals) => call_opened(unfolder, alloc, at, depth, line, name, actuals),
-        Action::Skip => Ok(done(at, depth, unfolder.skipped(depth)?)),
-        Action::Stop => Ok(done(at, depth, unfolder.stopped(depth)?)),
+        Action::Call(name, actuals) => call_opened(unfolder, alloc, here, name, actuals),
+        Action::Skip => Ok(done(here, unfolder.skipped(here.depth)?)),
+        Action::Stop => Ok(done(here, unfolder.stopped(here.depth)?)),
         Action::Assign(variables, values) => {
-            let term = unfolder.assigned(alloc, at, depth, line, variables, values)?;
-            Ok(done(at, depth, term))
+            let term = unfolder.assigned(alloc, here, variables, values)?;
+            Ok(done(here, term))
         }
         Action::Input(input) => {
-            let term = unfolder.received(alloc, at, depth, line, input)?;
-            Ok(done(at, depth, term))
+            let term = unfolder.received(alloc, here, input)?;
+            Ok(done(here, term))
         }
         Action::Output(channel, outs) => {
-            let term = unfolder.output(alloc, at, depth, line, channel, outs)?;
-            Ok(done(at, depth, term))
+            let term = unfolder.output(alloc, here, channel, outs)?;
+            Ok(done(here, term))
         }
     }
 }
@@ -160,72 +130,67 @@ fn action_opened<'t>(
 fn call_opened<'t>(
     unfolder: &mut Unfolder<'t>,
     alloc: Global,
-    at: Position,
-    depth: u32,
-    line: u32,
+    here: Here,
     name: &Letters,
     actuals: &Option<OneOrMore<Expr>>,
 ) -> Result<Opened<'t>, CheckFault>
-    requires { depth ≤ 200 }
-    ensures opens { Begins result unfolder.old unfolder.new at depth
-        (acted line (call_action name.now actuals.now)) }
+    requires { here.depth ≤ 200 }
+    ensures opens { Begins result unfolder.old unfolder.new here
+        (acted here.line (call_action name.now actuals.now)) }
     ensures kept { KeepsOpen result unfolder.old unfolder.new }
-    ensures weight { LeavesWithin result unfolder.new (weight_at unfolder.old at) }
+    ensures weight { LeavesWithin result unfolder.new (weight_at unfolder.old here.at) }
     ensures ready { IfOk result IsReady }
 {
-    let call = unfolder.bound(alloc, at, depth, line, name, actuals)?;
-    let deep = unfolder.opened(depth, call.heads.as_slice())?;
+    let call = unfolder.bound(alloc, here, name, actuals)?;
+    let depth = unfolder.opened(here.depth, call.heads.as_slice())?;
     let Call {
         heads,
         body,
-        inside,
+        inside: at,
     } = call;
     Ok(Opened {
         left: Left::Body(Around::Called(heads), body),
-        at: inside,
-        depth: deep,
+        here: Here { at, depth, ..here },
     })
 }
 
 /// Opens a SEQ.
 fn in_turn_opened<'t>(
     unfolder: &mut Unfolder<'t>,
-    at: Position,
-    depth: u32,
+    here: Here,
     processes: &'t [Process],
 ) -> Result<Opened<'t>, CheckFault>
-    ensures opens { Begins result unfolder.old unfolder.new at depth (seq_of processes.now) }
+    ensures opens { Begins result unfolder.old unfolder.new here (seq_of processes.now) }
     ensures kept { KeepsOpen result unfolder.old unfolder.new }
     ensures weight { LeavesWithin result unfolder.new
-        (nodes_weight unfolder.old at (process_nodes processes.now)) }
+        (nodes_weight unfolder.old here.at (process_nodes processes.now)) }
     ensures ready { IfOk result IsReady }
 {
-    unfolder.numbers.node(depth)?;
+    unfolder.numbers.node(here.depth)?;
+    let depth = here.depth + 1;
     Ok(Opened {
         left: Left::InTurn(processes),
-        at,
-        depth: depth + 1,
+        here: Here { depth, ..here },
     })
 }
 
 /// Opens a PAR.
 fn beside_opened<'t>(
     unfolder: &mut Unfolder<'t>,
-    at: Position,
-    depth: u32,
+    here: Here,
     processes: &'t [Process],
 ) -> Result<Opened<'t>, CheckFault>
-    ensures opens { Begins result unfolder.old unfolder.new at depth (par_of processes.now) }
+    ensures opens { Begins result unfolder.old unfolder.new here (par_of processes.now) }
     ensures kept { KeepsOpen result unfolder.old unfolder.new }
     ensures weight { LeavesWithin result unfolder.new
-        (nodes_weight unfolder.old at (process_nodes processes.now)) }
+        (nodes_weight unfolder.old here.at (process_nodes processes.now)) }
     ensures ready { IfOk result IsReady }
 {
-    unfolder.numbers.node(depth)?;
+    unfolder.numbers.node(here.depth)?;
+    let depth = here.depth + 1;
     Ok(Opened {
         left: Left::Beside(processes),
-        at,
-        depth: depth + 1,
+        here: Here { depth, ..here },
     })
 }
 
@@ -233,24 +198,22 @@ fn beside_opened<'t>(
 fn each_opened<'t>(
     unfolder: &mut Unfolder<'t>,
     alloc: Global,
-    at: Position,
-    depth: u32,
-    line: u32,
+    here: Here,
     replicator: &ReplicatorTree,
     body: &'t Process,
 ) -> Result<Opened<'t>, CheckFault>
-    ensures opens { Begins result unfolder.old unfolder.new at depth
-        (seq_for line replicator.now body.now) }
+    ensures opens { Begins result unfolder.old unfolder.new here
+        (seq_for here.line replicator.now body.now) }
     ensures kept { KeepsOpen result unfolder.old unfolder.new }
-    ensures weight { LeavesWithin result unfolder.new (body_weight unfolder.old at body.now) }
+    ensures weight { LeavesWithin result unfolder.new (body_weight unfolder.old here.at body.now) }
     ensures ready { IfOk result IsReady }
 {
-    unfolder.numbers.node(depth)?;
-    let (over, inside) = unfolder.indexed(alloc, at, depth + 1, line, replicator)?;
+    unfolder.numbers.node(here.depth)?;
+    let depth = here.depth + 1;
+    let (over, at) = unfolder.indexed(alloc, Here { depth, ..here }, replicator)?;
     Ok(Opened {
         left: Left::Body(Around::Each(over), body),
-        at: inside,
-        depth: depth + 1,
+        here: Here { at, depth, ..here },
     })
 }
 
@@ -258,36 +221,33 @@ fn each_opened<'t>(
 fn loop_opened<'t>(
     unfolder: &mut Unfolder<'t>,
     alloc: Global,
-    at: Position,
-    depth: u32,
-    line: u32,
+    here: Here,
     condition: &Expr,
     body: &'t Process,
 ) -> Result<Opened<'t>, CheckFault>
-    ensures opens { Begins result unfolder.old unfolder.new at depth
-        (while_of line condition.now body.now) }
+    ensures opens { Begins result unfolder.old unfolder.new here
+        (while_of here.line condition.now body.now) }
     ensures kept { KeepsOpen result unfolder.old unfolder.new }
-    ensures weight { LeavesWithin result unfolder.new (body_weight unfolder.old at body.now) }
+    ensures weight { LeavesWithin result unfolder.new (body_weight unfolder.old here.at body.now) }
     ensures ready { IfOk result IsReady }
 {
-    let test = unfolder.tested(alloc, at, depth, line, condition)?;
+    let test = unfolder.tested(alloc, here, condition)?;
+    let depth = here.depth + 1;
     Ok(Opened {
         left: Left::Body(Around::While(test), body),
-        at,
-        depth: depth + 1,
+        here: Here { depth, ..here },
     })
 }
 
 /// A statement of which nothing is left but its term.
-fn done<'t>(at: Position, depth: u32, term: Term) -> Opened<'t>
+fn done<'t>(here: Here, term: Term) -> Opened<'t>
     ensures left { (u : UnfolderState) → statement_left u result ≡ Some (term_of term, counted u) }
     ensures weight { (u : UnfolderState) → left_weight u result ≡ 0 }
-    ensures ready { depth ≤ 200 → IsReady result }
+    ensures ready { here.depth ≤ 200 → IsReady result }
 {
     Opened {
         left: Left::Done(term),
-        at,
-        depth,
+        here,
     }
 }
 

@@ -16,8 +16,8 @@ use occ_check_choices::options::{OpenedOption, none_chosen, option_opened};
 use occ_check_clashes::tags::Tags;
 use occ_check_copies::copies::{OpenedCopy, copy_opened, next_value};
 use occ_check_names::fault::CheckFault;
-use occ_check_names::scope::Position;
 use occ_check_opened::entering::headed;
+use occ_check_opened::here::Here;
 use occ_check_opened::opened::{Left, Opened, Step};
 use occ_check_opened::unfolder::Unfolder;
 use occ_held::Held;
@@ -30,26 +30,23 @@ use occ_tree_grammar::tree::process::{Arm, Choice, Process, Selection, Variant};
 use sqlite_items::Items;
 use std::alloc::Global;
 
-/// What a process unfolds to at a position, under so many nodes.
+/// What a process unfolds to.
 #[cycle(unfolding)]
 pub(crate) fn process_unfolded<'t>(
     unfolder: &mut Unfolder<'t>,
     alloc: Global,
-    at: Position,
-    depth: u32,
+    here: Here,
     process: &'t Process,
 ) -> Result<Term, CheckFault>
-    requires { depth ≤ 200 }
-    ensures term { Reads term_of result unfolder.old unfolder.new at depth
-        (body_unfolded process.now) }
+    requires { here.depth ≤ 200 }
+    ensures term { Reads term_of result unfolder.old unfolder.new here (body_unfolded process.now) }
     ensures kept { OnOk result (Restores unfolder.old.blocks unfolder.new.blocks) }
 {
     let base = unfolder.blocks.len();
     let mut body = process;
-    let mut place = at;
-    let mut deep = depth;
+    let mut place = here;
     'calls: loop {
-        let step = process_opened(unfolder, alloc, place, deep, body)?;
+        let step = process_opened(unfolder, alloc, place, body)?;
         match step {
             Step::Behind(heads, opened) => {
                 let heads = Held::new(heads);
@@ -57,10 +54,9 @@ pub(crate) fn process_unfolded<'t>(
                 unfolder.blocks.close(base);
                 return headed(alloc, heads.into_inner(), term);
             }
-            Step::Call(called, inside, under) => {
+            Step::Call(called, inside) => {
                 body = called;
                 place = inside;
-                deep = under;
             }
         }
     }
@@ -78,42 +74,40 @@ fn performed<'t>(
         (statement_left unfolder.old opened.entry) }
     ensures kept { OnOk result (Restores unfolder.old.blocks unfolder.new.blocks) }
 {
-    let Opened { left, at, depth } = opened;
+    let Opened { left, here } = opened;
     match left {
         Left::Done(term) => Ok(term),
         Left::Body(around, body) => {
-            let body = process_unfolded(unfolder, alloc, at, depth, body)?;
+            let body = process_unfolded(unfolder, alloc, here, body)?;
             around.with_process(alloc, body)
         }
         Left::InTurn(processes) => {
-            let terms = in_turn(unfolder, alloc, at, depth, processes)?;
+            let terms = in_turn(unfolder, alloc, here, processes)?;
             Ok(Term::Seq(terms))
         }
         Left::Beside(processes) => {
-            let branches = beside(unfolder, alloc, at, depth, processes)?;
+            let branches = beside(unfolder, alloc, here, processes)?;
             Ok(Term::Par(branches))
         }
         Left::Copies(replicator, first, count, body) => {
-            let branches = copies_unfolded(
-                unfolder, alloc, at, depth, replicator, first, count, body,
-            )?;
+            let branches = copies_unfolded(unfolder, alloc, here, replicator, first, count, body)?;
             Ok(Term::Par(branches))
         }
         Left::Choices(over, list) => {
-            let choices = choices_unfolded(unfolder, alloc, at, depth, list)?;
+            let choices = choices_unfolded(unfolder, alloc, here, list)?;
             let choices = over.with_choices(alloc, choices)?;
             Ok(Term::If(choices))
         }
         Left::Options(selector, primitive, list) => {
-            let options = options_unfolded(unfolder, alloc, at, depth, primitive, list)?;
+            let options = options_unfolded(unfolder, alloc, here, primitive, list)?;
             Ok(Term::Case(selector, options))
         }
         Left::Variants(channel, protocol, list) => {
-            let variants = variants_unfolded(unfolder, alloc, at, depth, &protocol, list)?;
+            let variants = variants_unfolded(unfolder, alloc, here, &protocol, list)?;
             Ok(Term::VariantInput(channel, variants))
         }
         Left::Arms(by_priority, over, list) => {
-            let arms = arms_unfolded(unfolder, alloc, at, depth, list)?;
+            let arms = arms_unfolded(unfolder, alloc, here, list)?;
             let arms = over.with_arms(alloc, arms)?;
             Ok(Term::Alt(by_priority, arms))
         }
@@ -125,18 +119,16 @@ fn performed<'t>(
 fn in_turn<'t>(
     unfolder: &mut Unfolder<'t>,
     alloc: Global,
-    at: Position,
-    depth: u32,
+    here: Here,
     processes: &'t [Process],
 ) -> Result<Items<Term>, CheckFault>
-    requires { depth ≤ 200 }
-    ensures terms { Reads terms_of result unfolder.old unfolder.new at depth
-        (seq_parts processes.now) }
+    requires { here.depth ≤ 200 }
+    ensures terms { Reads terms_of result unfolder.old unfolder.new here (seq_parts processes.now) }
     ensures kept { OnOk result (Restores unfolder.old.blocks unfolder.new.blocks) }
 {
     let mut terms = Items::new(alloc);
     for process in processes {
-        terms.push(process_unfolded(unfolder, alloc, at, depth, process)?)?;
+        terms.push(process_unfolded(unfolder, alloc, here, process)?)?;
     }
     Ok(terms)
 }
@@ -146,19 +138,18 @@ fn in_turn<'t>(
 fn beside<'t>(
     unfolder: &mut Unfolder<'t>,
     alloc: Global,
-    at: Position,
-    depth: u32,
+    here: Here,
     processes: &'t [Process],
 ) -> Result<Items<Branch>, CheckFault>
-    requires { depth ≤ 200 }
-    ensures branches { Reads branches_of result unfolder.old unfolder.new at depth
+    requires { here.depth ≤ 200 }
+    ensures branches { Reads branches_of result unfolder.old unfolder.new here
         (par_parts processes.now) }
     ensures kept { OnOk result (Restores unfolder.old.blocks unfolder.new.blocks) }
 {
     let mut branches = Items::new(alloc);
     for process in processes {
         let number = unfolder.numbers.more_processes()?;
-        let body = process_unfolded(unfolder, alloc, at, depth, process)?;
+        let body = process_unfolded(unfolder, alloc, here, process)?;
         branches.push(Branch { number, body })?;
     }
     Ok(branches)
@@ -169,16 +160,15 @@ fn beside<'t>(
 fn copies_unfolded<'t>(
     unfolder: &mut Unfolder<'t>,
     alloc: Global,
-    at: Position,
-    depth: u32,
+    here: Here,
     replicator: &Replicator,
     first: i64,
     count: u64,
     body: &'t Process,
 ) -> Result<Items<Branch>, CheckFault>
-    requires depth { depth ≤ 200 }
+    requires depth { here.depth ≤ 200 }
     requires last { (first +ℤ pos count) ≤ℤ pos 2147483648 }
-    ensures branches { ReadsCopies result unfolder.old unfolder.new at depth replicator.now body.now
+    ensures branches { ReadsCopies result unfolder.old unfolder.new here replicator.now body.now
         count first }
     ensures kept { OnOk result (Restores unfolder.old.blocks unfolder.new.blocks) }
 {
@@ -187,14 +177,13 @@ fn copies_unfolded<'t>(
     let mut left = count;
     'copies: while left > 0 {
         let base = unfolder.blocks.len();
-        let opened = copy_opened(unfolder, alloc, at, depth, replicator, value, body)?;
+        let opened = copy_opened(unfolder, alloc, here, replicator, value, body)?;
         let OpenedCopy {
             number,
             body: copy,
-            at: inside,
-            depth: deep,
+            here: inside,
         } = opened;
-        let body = process_unfolded(unfolder, alloc, inside, deep, copy)?;
+        let body = process_unfolded(unfolder, alloc, inside, copy)?;
         unfolder.blocks.close(base);
         branches.push(Branch { number, body })?;
         value = next_value(value, left);
@@ -208,29 +197,27 @@ fn copies_unfolded<'t>(
 fn choices_unfolded<'t>(
     unfolder: &mut Unfolder<'t>,
     alloc: Global,
-    at: Position,
-    depth: u32,
+    here: Here,
     list: &'t [Choice],
 ) -> Result<Items<TermChoice>, CheckFault>
-    requires { depth ≤ 200 }
-    ensures choices { Reads choices_of result unfolder.old unfolder.new at depth
-        (if_choices list.now) }
+    requires { here.depth ≤ 200 }
+    ensures choices { Reads choices_of result unfolder.old unfolder.new here (if_choices list.now) }
     ensures kept { OnOk result (Restores unfolder.old.blocks unfolder.new.blocks) }
 {
     let mut choices = Items::new(alloc);
     for choice in list {
         let base = unfolder.blocks.len();
-        let opened = choice_opened(unfolder, alloc, at, depth, choice)?;
+        let opened = choice_opened(unfolder, alloc, here, choice)?;
         match opened {
-            OpenedChoice::When(head, body, inside, deep) => {
-                let body = process_unfolded(unfolder, alloc, inside, deep, body)?;
+            OpenedChoice::When(head, body, inside) => {
+                let body = process_unfolded(unfolder, alloc, inside, body)?;
                 unfolder.blocks.close(base);
                 let made = head.with_process(alloc, body)?;
                 choices.append(made)?;
                 continue;
             }
-            OpenedChoice::Inner(head, list, inside, deep) => {
-                let within = choices_unfolded(unfolder, alloc, inside, deep, list)?;
+            OpenedChoice::Inner(head, list, inside) => {
+                let within = choices_unfolded(unfolder, alloc, inside, list)?;
                 unfolder.blocks.close(base);
                 let made = head.with_choices(alloc, within)?;
                 choices.append(made)?;
@@ -246,13 +233,12 @@ fn choices_unfolded<'t>(
 fn options_unfolded<'t>(
     unfolder: &mut Unfolder<'t>,
     alloc: Global,
-    at: Position,
-    depth: u32,
+    here: Here,
     primitive: Primitive,
     selections: &'t [Selection],
 ) -> Result<Items<TermSelection>, CheckFault>
-    requires { depth ≤ 200 }
-    ensures options { Reads options_of result unfolder.old unfolder.new at depth
+    requires { here.depth ≤ 200 }
+    ensures options { Reads options_of result unfolder.old unfolder.new here
         (case_options selections.now primitive) }
     ensures kept { OnOk result (Restores unfolder.old.blocks unfolder.new.blocks) }
 {
@@ -260,22 +246,13 @@ fn options_unfolded<'t>(
     let mut options = Items::new(alloc);
     for selection in selections {
         let base = unfolder.blocks.len();
-        let opened = option_opened(
-            unfolder,
-            alloc,
-            at,
-            depth,
-            primitive,
-            &mut chosen,
-            selection,
-        )?;
+        let opened = option_opened(unfolder, alloc, here, primitive, &mut chosen, selection)?;
         let OpenedOption {
             head,
             body,
-            at: inside,
-            depth: deep,
+            here: inside,
         } = opened;
-        let body = process_unfolded(unfolder, alloc, inside, deep, body)?;
+        let body = process_unfolded(unfolder, alloc, inside, body)?;
         unfolder.blocks.close(base);
         options.push(head.with_process(body))?;
     }
@@ -287,13 +264,12 @@ fn options_unfolded<'t>(
 fn variants_unfolded<'t>(
     unfolder: &mut Unfolder<'t>,
     alloc: Global,
-    at: Position,
-    depth: u32,
+    here: Here,
     protocol: &Protocol,
     list: &'t [Variant],
 ) -> Result<Items<TermVariant>, CheckFault>
-    requires { depth ≤ 200 }
-    ensures variants { Reads variants_of result unfolder.old unfolder.new at depth
+    requires { here.depth ≤ 200 }
+    ensures variants { Reads variants_of result unfolder.old unfolder.new here
         (case_variants list.now protocol.now) }
     ensures kept { OnOk result (Restores unfolder.old.blocks unfolder.new.blocks) }
 {
@@ -302,14 +278,13 @@ fn variants_unfolded<'t>(
     for variant in list {
         let base = unfolder.blocks.len();
         let tag = tags.next(line_of(variant), tag_of(variant))?;
-        let opened = variant_opened(unfolder, alloc, at, depth, protocol, tag, variant)?;
+        let opened = variant_opened(unfolder, alloc, here, protocol, tag, variant)?;
         let OpenedVariant {
             head,
             body,
-            at: inside,
-            depth: deep,
+            here: inside,
         } = opened;
-        let body = process_unfolded(unfolder, alloc, inside, deep, body)?;
+        let body = process_unfolded(unfolder, alloc, inside, body)?;
         unfolder.blocks.close(base);
         variants.push(head.with_process(body))?;
     }
@@ -321,35 +296,34 @@ fn variants_unfolded<'t>(
 fn arms_unfolded<'t>(
     unfolder: &mut Unfolder<'t>,
     alloc: Global,
-    at: Position,
-    depth: u32,
+    here: Here,
     list: &'t [Arm],
 ) -> Result<Items<TermArm>, CheckFault>
-    requires { depth ≤ 200 }
-    ensures arms { Reads arms_of result unfolder.old unfolder.new at depth (alt_arms list.now) }
+    requires { here.depth ≤ 200 }
+    ensures arms { Reads arms_of result unfolder.old unfolder.new here (alt_arms list.now) }
     ensures kept { OnOk result (Restores unfolder.old.blocks unfolder.new.blocks) }
 {
     let mut arms = Items::new(alloc);
     for arm in list {
         let base = unfolder.blocks.len();
-        let opened = arm_opened(unfolder, alloc, at, depth, arm)?;
+        let opened = arm_opened(unfolder, alloc, here, arm)?;
         match opened {
-            OpenedArm::Guarded(head, body, inside, deep) => {
-                let body = process_unfolded(unfolder, alloc, inside, deep, body)?;
+            OpenedArm::Guarded(head, body, inside) => {
+                let body = process_unfolded(unfolder, alloc, inside, body)?;
                 unfolder.blocks.close(base);
                 let made = head.with_process(alloc, body)?;
                 arms.append(made)?;
                 continue;
             }
-            OpenedArm::OnVariant(head, protocol, list, inside, deep) => {
-                let variants = variants_unfolded(unfolder, alloc, inside, deep, &protocol, list)?;
+            OpenedArm::OnVariant(head, protocol, list, inside) => {
+                let variants = variants_unfolded(unfolder, alloc, inside, &protocol, list)?;
                 unfolder.blocks.close(base);
                 let made = head.with_variants(alloc, variants)?;
                 arms.append(made)?;
                 continue;
             }
-            OpenedArm::Inner(head, list, inside, deep) => {
-                let within = arms_unfolded(unfolder, alloc, inside, deep, list)?;
+            OpenedArm::Inner(head, list, inside) => {
+                let within = arms_unfolded(unfolder, alloc, inside, list)?;
                 unfolder.blocks.close(base);
                 let made = head.with_arms(alloc, within)?;
                 arms.append(made)?;

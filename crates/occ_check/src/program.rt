@@ -9,8 +9,8 @@ ghost use Rattle.occ_check_meaning.specs.ProgramUnfolding.{UnfoldsTo};
 ghost use Rattle.occ_check_meaning.specs.Programs as programs;
 ghost use Rattle.occ_check.specs.CheckRefuses.{CheckRefuses};
 ghost use Rattle.occ_check_typing.specs.Declaration.{pairs_of};
-ghost use Rattle.occ_check.specs.Program.{byte_channel, main_at, main_in, body_behind, items_and_names, with_numbers};
-ghost use Rattle.occ_check_opened.specs.Progress.{Declares, Reads};
+ghost use Rattle.occ_check.specs.Program.{byte_channel, main_at, main_in, ReadsMain, items_and_names, with_numbers};
+ghost use Rattle.occ_check_opened.specs.Progress.{Declares};
 ghost use Rattle.occ_check_names.specs.View.{Gives, known_of};
 ghost use Rattle.occ_check_opened.specs.OpenBlocks.{Deepens, HasBlock};
 
@@ -22,6 +22,7 @@ use occ_check_names::numbers::Numbers;
 use occ_check_names::scope::Position;
 use occ_check_opened::blocks::Blocks;
 use occ_check_opened::entering::headed;
+use occ_check_opened::here::Here;
 use occ_check_opened::unfolder::Unfolder;
 use occ_check_typing::declaration::{Named, once, stretch_from};
 use occ_held::letters::Letters;
@@ -75,7 +76,7 @@ fn unfolded_program(alloc: Global, program: &Program) -> Result<(Term, Numbers),
         numbers: Numbers::at_start(alloc)?,
     };
     let nowhere = Position { blocks: 0, seen: 0 };
-    let term = behind_items(&mut unfolder, alloc, nowhere, main.before, names, main.body)?;
+    let term = behind_items(&mut unfolder, alloc, nowhere, main, names)?;
     Ok((term, unfolder.numbers))
 }
 
@@ -232,23 +233,24 @@ fn byte_channel(alloc: Global, number: u32) -> Result<Known, AllocError>
 
 // ---- the whole
 
-/// What a process unfolds to behind items, and names inside of them.
+/// What the main process unfolds to, behind the items before it and names inside of them.
 fn behind_items<'t>(
     unfolder: &mut Unfolder<'t>,
     alloc: Global,
     at: Position,
-    items: &'t [Item],
+    main: Main<'t>,
     names: Vec<Named>,
-    body: &'t Process,
 ) -> Result<Term, CheckFault>
-    ensures { Reads term_of result unfolder.old unfolder.new at 0
-        (body_behind items.now names.items body.now) }
+    ensures { ReadsMain result unfolder.old unfolder.new at main.entry names.items }
 {
     unfolder.blocks.open(alloc, at)?;
-    let heads = entered_items(unfolder, alloc, items, names)?;
-    let inside = unfolder.blocks.end();
-    let deep = unfolder.opened(0, heads.as_slice())?;
-    let term = process_unfolded(unfolder, alloc, inside, deep, body)?;
+    let heads = entered_items(unfolder, alloc, main.before, names)?;
+    let inside = Here {
+        at: unfolder.blocks.end(),
+        depth: unfolder.opened(0, heads.as_slice())?,
+        line: main.line,
+    };
+    let term = process_unfolded(unfolder, alloc, inside, main.body)?;
     headed(alloc, heads, term)
 }
 

@@ -22,7 +22,7 @@ use Rattle.occ_check_meaning.specs.Numbers as N
 use Rattle.occ_check_meaning.specs.Performing.{nested, Under, each_of_arms, variants_arm}
 use Rattle.occ_check_meaning.specs.Recursion.{unfolded, all_arms, arm_unfolded, all_variants}
 use Rattle.occ_check_names.specs.declared.fault.CheckFault.{CheckFault}
-use Rattle.occ_check_names.specs.declared.scope.Position.{Position}
+use Rattle.occ_check_opened.specs.declared.here.Here.{Here}
 use Rattle.occ_check_opened.specs.declared.unfolder.Unfolder.{Unfolder}
 use Rattle.occ_check_opened.specs.Weights.{node_size, nodes_size, arm_nodes, variant_nodes}
 use Rattle.occ_check_opened.specs.Progress.{meant_at, counted, node_weight, nodes_weight, body_weight}
@@ -61,8 +61,8 @@ abbrev pub an_arm : Arm → Under Arms
 an_arm x = arm_unfolded (arm_of x)
 
 -- how large an arm is with what is in scope there
-abbrev pub whole_arm : Unfolder → Position → Arm → ℕ
-whole_arm u at x = node_weight u at (arm_of x)
+abbrev pub whole_arm : Unfolder → Here → Arm → ℕ
+whole_arm u here x = node_weight u here.at (arm_of x)
 
 -- the size of what stands under an arm
 abbrev pub arm_size : Arm → ℕ
@@ -95,19 +95,19 @@ abbrev pub guard_behind : List Declaration → ℕ → Guard → Process → Und
 guard_behind heads line g p = arms_behind heads (P.arm_of line (guard_of g) (body_unfolded p))
 
 abbrev pub arm_left : Unfolder → OpenedArm → Option (T.Arms × N.Numbers)
-arm_left u (opened.Guarded h p at depth) = put (arm_with h) (unfolded (process_of p.now) (meant_at u at) depth (counted u))
-arm_left u (opened.OnVariant h p vs at depth) = put (variants_within h) (all_variants (variant_nodes vs.now) p [] (meant_at u at) depth (counted u))
-arm_left u (opened.Inner h xs at depth) = put (arms_within h) (all_arms (arm_nodes xs.now) (meant_at u at) depth (counted u))
+arm_left u (opened.Guarded h p here) = put (arm_with h) (unfolded (process_of p.now) (meant_at u here.at) here.depth (counted u))
+arm_left u (opened.OnVariant h p vs here) = put (variants_within h) (all_variants (variant_nodes vs.now) p [] (meant_at u here.at) here.depth (counted u))
+arm_left u (opened.Inner h xs here) = put (arms_within h) (all_arms (arm_nodes xs.now) (meant_at u here.at) here.depth (counted u))
 
-abbrev pub OpensArm : Result OpenedArm CheckFault → Unfolder → Unfolder → Position → ℕ → Under T.Arms → Type 0
-OpensArm result old new at depth part = OpensAt arm_left result old new at depth part
+abbrev pub OpensArm : Result OpenedArm CheckFault → Unfolder → Unfolder → Here → Under T.Arms → Type 0
+OpensArm result old new here part = OpensAt arm_left result old new here part
 
 abbrev pub arm_weight : Unfolder → OpenedArm → ℕ
-arm_weight u (opened.Guarded h p at depth) = body_weight u at p.now
-arm_weight u (opened.OnVariant h p vs at depth) = nodes_weight u at (variant_nodes vs.now)
-arm_weight u (opened.Inner h xs at depth) = nodes_weight u at (arm_nodes xs.now)
+arm_weight u (opened.Guarded h p here) = body_weight u here.at p.now
+arm_weight u (opened.OnVariant h p vs here) = nodes_weight u here.at (variant_nodes vs.now)
+arm_weight u (opened.Inner h xs here) = nodes_weight u here.at (arm_nodes xs.now)
 
 abbrev pub arm_depth : OpenedArm → ℕ
-arm_depth (opened.Guarded h p at depth) = depth
-arm_depth (opened.OnVariant h p vs at depth) = depth
-arm_depth (opened.Inner h xs at depth) = depth
+arm_depth (opened.Guarded h p here) = here.depth
+arm_depth (opened.OnVariant h p vs here) = here.depth
+arm_depth (opened.Inner h xs here) = here.depth

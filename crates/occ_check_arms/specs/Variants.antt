@@ -34,7 +34,7 @@ use Rattle.occ_check_names.specs.Reading.{OfLine, ReadsIn}
 use Rattle.occ_check_names.specs.declared.context.Context.{Context}
 use Rattle.occ_check_names.specs.declared.fault.CheckFault.{CheckFault}
 use Rattle.occ_check_names.specs.declared.numbers.Numbers.{Numbers as CodeNumbers}
-use Rattle.occ_check_names.specs.declared.scope.Position.{Position}
+use Rattle.occ_check_opened.specs.declared.here.Here.{Here}
 use Rattle.occ_check_opened.specs.declared.unfolder.Unfolder.{Unfolder}
 use Rattle.occ_check_opened.specs.Weights.{decl_nodes}
 use Rattle.occ_check_opened.specs.Progress.{ReadsLine, body_weight, counted, meant_at, node_weight}
@@ -69,12 +69,12 @@ tagged_place c = (c.0, place_of c.1)
 abbrev pub after_tag : Protocol → (tag : ℕ) → List Target → OfLine (List T.Target)
 after_tag p k ts ns line depth n = storing ns line depth p k (map target_of ts) n
 
--- targets are answered that a line unfolds to, in a context and at a position
+-- targets are answered that a line unfolds to, in a context and where it stands
 abbrev pub StoresIn : Result (List TermTarget) CheckFault → Context → (old new : CodeNumbers) → ℕ → OfLine (List T.Target) → Type 0
 StoresIn result c old new depth part = ReadsIn targets_of result c old new depth part
 
-abbrev pub StoresAt : Result (List TermTarget) CheckFault → Unfolder → Unfolder → Position → (line depth : ℕ) → OfLine (List T.Target) → Type 0
-StoresAt result old new at line depth part = ReadsLine targets_of result old new at line depth part
+abbrev pub StoresAt : Result (List TermTarget) CheckFault → Unfolder → Unfolder → Here → OfLine (List T.Target) → Type 0
+StoresAt result old new here part = ReadsLine targets_of result old new here part
 
 -- an input of variants
 abbrev pub input_case : ℕ → VarCode → List Variant → Under T.Term
@@ -101,8 +101,8 @@ variant_with_targets line ts ds p = P.variant_of line (map target_of ts) (all_de
 abbrev pub a_variant : Variant → Protocol → (tag : ℕ) → Under Variants
 a_variant v = variant_unfolded (variant_of v)
 
-abbrev pub whole_variant : Unfolder → Position → Variant → ℕ
-whole_variant u at v = node_weight u at (variant_of v)
+abbrev pub whole_variant : Unfolder → Here → Variant → ℕ
+whole_variant u here v = node_weight u here.at (variant_of v)
 
 -- ---- a variant that is opened
 
@@ -110,13 +110,13 @@ abbrev pub variant_with : VariantHead → T.Term → T.Variants
 variant_with h t = T.or_variant h.tag (declarations_of h.declarations) (targets_of h.targets) t T.no_variants
 
 abbrev pub variant_left : Unfolder → OpenedVariant → Option (T.Variants × N.Numbers)
-variant_left u o = put (variant_with o.head) (unfolded (process_of o.body.now) (meant_at u o.at) o.depth (counted u))
+variant_left u o = put (variant_with o.head) (unfolded (process_of o.body.now) (meant_at u o.here.at) o.here.depth (counted u))
 
-abbrev pub OpensVariant : Result OpenedVariant CheckFault → Unfolder → Unfolder → Position → ℕ → Under Variants → Type 0
-OpensVariant result old new at depth part = OpensAt variant_left result old new at depth part
+abbrev pub OpensVariant : Result OpenedVariant CheckFault → Unfolder → Unfolder → Here → Under Variants → Type 0
+OpensVariant result old new here part = OpensAt variant_left result old new here part
 
 abbrev pub variant_weight : Unfolder → OpenedVariant → ℕ
-variant_weight u o = body_weight u o.at o.body.now
+variant_weight u o = body_weight u o.here.at o.body.now
 
-abbrev pub OpensTargets : Result OpenedVariant CheckFault → Unfolder → Unfolder → Position → (depth line : ℕ) → List Target → List Decl → Process → Protocol → (tag : ℕ) → Type 0
-OpensTargets result old new at depth line ts ds p protocol tag = OpensVariant result old new at depth (variant_with_targets line ts ds p protocol tag)
+abbrev pub OpensTargets : Result OpenedVariant CheckFault → Unfolder → Unfolder → Here → List Target → List Decl → Process → Protocol → (tag : ℕ) → Type 0
+OpensTargets result old new here ts ds p protocol tag = OpensVariant result old new here (variant_with_targets here.line ts ds p protocol tag)

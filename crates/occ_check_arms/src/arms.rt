@@ -16,7 +16,7 @@ use crate::guards::{ArmGuard, depth_behind, guarding_at, guarding_variants_at};
 use crate::variants::listed_variants;
 use occ_check_names::fault::CheckFault;
 use occ_check_names::numbers::deeper;
-use occ_check_names::scope::Position;
+use occ_check_opened::here::Here;
 use occ_check_opened::opened::{Left, Opened, Over, only_arm};
 use occ_check_opened::unfolder::Unfolder;
 use occ_term::{
@@ -27,15 +27,15 @@ use occ_tree_grammar::tree::process::{Arm, Decl, Process, Variant};
 use sqlite_items::Items;
 use std::alloc::{AllocError, Global};
 
-/// An arm whose first steps are done: what is left of it, what that is put into, and where and how deep it stands.
+/// An arm whose first steps are done: what is left of it, what that is put into, and where it stands.
 #[derive(Drop)]
 pub enum OpenedArm<'t> {
     /// Its process is left.
-    Guarded(GuardedHead, &'t Process, Position, u32),
+    Guarded(GuardedHead, &'t Process, Here),
     /// The variants of an input are left, from a channel with this protocol.
-    OnVariant(VariantsHead, Protocol, &'t [Variant], Position, u32),
+    OnVariant(VariantsHead, Protocol, &'t [Variant], Here),
     /// The arms of a nested ALT are left.
-    Inner(ArmsHead, &'t [Arm], Position, u32),
+    Inner(ArmsHead, &'t [Arm], Here),
 }
 
 /// What the process of an arm is put into: what is set for its declarations, and its guard.
@@ -128,22 +128,21 @@ impl ArmsHead {
 /// Opens an ALT.
 pub fn arms_opened<'t>(
     unfolder: &mut Unfolder<'t>,
-    at: Position,
-    depth: u32,
+    here: Here,
     by_priority: bool,
     arms: &'t [Arm],
 ) -> Result<Opened<'t>, CheckFault>
-    ensures opens { Begins result unfolder.old unfolder.new at depth (alt_of by_priority arms.now) }
+    ensures opens { Begins result unfolder.old unfolder.new here (alt_of by_priority arms.now) }
     ensures kept { KeepsOpen result unfolder.old unfolder.new }
     ensures weight { LeavesWithin result unfolder.new
-        (nodes_weight unfolder.old at (arm_nodes arms.now)) }
+        (nodes_weight unfolder.old here.at (arm_nodes arms.now)) }
     ensures ready { IfOk result IsReady }
 {
-    unfolder.numbers.node(depth)?;
+    unfolder.numbers.node(here.depth)?;
+    let depth = here.depth + 1;
     Ok(Opened {
         left: Left::Arms(by_priority, Over::Once, arms),
-        at,
-        depth: depth + 1,
+        here: Here { depth, ..here },
     })
 }
 
@@ -151,26 +150,24 @@ pub fn arms_opened<'t>(
 pub fn each_arm_opened<'t>(
     unfolder: &mut Unfolder<'t>,
     alloc: Global,
-    at: Position,
-    depth: u32,
-    line: u32,
+    here: Here,
     by_priority: bool,
     replicator: &Replicator,
     arm: &'t Arm,
 ) -> Result<Opened<'t>, CheckFault>
-    ensures opens { Begins result unfolder.old unfolder.new at depth
-        (alt_for by_priority line replicator.now arm.now) }
+    ensures opens { Begins result unfolder.old unfolder.new here
+        (alt_for by_priority here.line replicator.now arm.now) }
     ensures kept { KeepsOpen result unfolder.old unfolder.new }
     ensures weight { LeavesWithin result unfolder.new
-        (single_weight unfolder.old at (trees.arm_of arm.now)) }
+        (single_weight unfolder.old here (trees.arm_of arm.now)) }
     ensures ready { IfOk result IsReady }
 {
-    unfolder.numbers.node(depth)?;
-    let (over, inside) = unfolder.indexed(alloc, at, depth + 1, line, replicator)?;
+    unfolder.numbers.node(here.depth)?;
+    let depth = here.depth + 1;
+    let (over, at) = unfolder.indexed(alloc, Here { depth, ..here }, replicator)?;
     Ok(Opened {
         left: Left::Arms(by_priority, Over::Each(over), one_arm(arm)),
-        at: inside,
-        depth: depth + 1,
+        here: Here { at, depth, ..here },
     })
 }
 
@@ -178,66 +175,71 @@ pub fn each_arm_opened<'t>(
 pub fn arm_opened<'t>(
     unfolder: &mut Unfolder<'t>,
     alloc: Global,
-    at: Position,
-    depth: u32,
+    here: Here,
     arm: &'t Arm,
 ) -> Result<OpenedArm<'t>, CheckFault>
-    requires { depth ≤ 200 }
-    ensures opens { OpensArm result unfolder.old unfolder.new at depth (an_arm arm.now) }
+    requires { here.depth ≤ 200 }
+    ensures opens { OpensArm result unfolder.old unfolder.new here (an_arm arm.now) }
     ensures kept { KeepsOpen result unfolder.old unfolder.new }
-    ensures weight { Below arm_weight result unfolder.new (whole_arm unfolder.old at arm.now) }
+    ensures weight { Below arm_weight result unfolder.new (whole_arm unfolder.old here arm.now) }
     ensures within { IfOk result (λ o. arm_depth o ≤ 200) }
 {
-    let (heads, inside) = unfolder.entering(alloc, at, depth, declarations_of(arm))?;
-    let deep = deeper(depth, heads.len())?;
-    listening_opened(unfolder, alloc, inside, deep, arm, heads)
+    let (heads, at) = unfolder.entering(alloc, here, declarations_of(arm))?;
+    let depth = deeper(here.depth, heads.len())?;
+    listening_opened(unfolder, alloc, Here { at, depth, ..here }, arm, heads)
 }
 
 /// Opens an arm behind its declarations, for which this is set.
 fn listening_opened<'t>(
     unfolder: &mut Unfolder<'t>,
     alloc: Global,
-    at: Position,
-    depth: u32,
+    here: Here,
     arm: &'t Arm,
     heads: Items<Declaration>,
 ) -> Result<OpenedArm<'t>, CheckFault>
-    requires { depth ≤ 200 }
-    ensures opens { OpensArm result unfolder.old unfolder.new at depth
+    requires { here.depth ≤ 200 }
+    ensures opens { OpensArm result unfolder.old unfolder.new here
         (arms_behind heads (listening arm.now)) }
     ensures kept { KeepsOpen result unfolder.old unfolder.new }
     ensures weight { Within arm_weight result unfolder.new
-        (arm_size arm.now + weight_at unfolder.old at) }
+        (arm_size arm.now + weight_at unfolder.old here.at) }
     ensures within { IfOk result (λ o. arm_depth o ≤ 200) }
 {
     match arm {
         Arm::Guarded(_, line, guard, body) => {
-            guard_opened(unfolder, alloc, at, depth, *line, guard, body, heads)
+            let line = *line;
+            guard_opened(unfolder, alloc, Here { line, ..here }, guard, body, heads)
         }
         Arm::OnVariant(_, line, guard, variants) => {
-            let (test, protocol, channel) = guarding_variants_at(
-                unfolder, alloc, at, depth, *line, guard,
-            )?;
+            let line = *line;
+            let here = Here { line, ..here };
+            let (test, protocol, channel) = guarding_variants_at(unfolder, alloc, here, guard)?;
             let head = VariantsHead {
                 heads,
                 test,
                 channel,
             };
             let variants = listed_variants(variants);
-            Ok(OpenedArm::OnVariant(head, protocol, variants, at, depth + 1))
+            let depth = here.depth + 1;
+            Ok(OpenedArm::OnVariant(head, protocol, variants, Here { depth, ..here }))
         }
-        Arm::InnerAlt(_, _, _, arms) => {
-            let deep = deeper(depth, 1)?;
+        Arm::InnerAlt(_, line, _, arms) => {
+            let line = *line;
+            let here = Here { line, ..here };
+            let depth = deeper(here.depth, 1)?;
             let over = Over::Once;
             let head = ArmsHead { heads, over };
-            Ok(OpenedArm::Inner(head, listed_arms(arms), at, deep))
+            Ok(OpenedArm::Inner(head, listed_arms(arms), Here { depth, ..here }))
         }
         Arm::InnerAltFor(_, line, _, replicator, arm) => {
-            let deep = deeper(depth, 1)?;
-            let (over, inside) = unfolder.indexed(alloc, at, deep, *line, replicator)?;
+            let line = *line;
+            let here = Here { line, ..here };
+            let depth = deeper(here.depth, 1)?;
+            let inner = Here { depth, ..here };
+            let (over, at) = unfolder.indexed(alloc, inner, replicator)?;
             let over = Over::Each(over);
             let head = ArmsHead { heads, over };
-            Ok(OpenedArm::Inner(head, one_arm(arm), inside, deep))
+            Ok(OpenedArm::Inner(head, one_arm(arm), Here { at, ..inner }))
         }
     }
 }
@@ -246,32 +248,32 @@ fn listening_opened<'t>(
 fn guard_opened<'t>(
     unfolder: &mut Unfolder<'t>,
     alloc: Global,
-    at: Position,
-    depth: u32,
-    line: u32,
+    here: Here,
     guard: &Guard,
     body: &'t Process,
     heads: Items<Declaration>,
 ) -> Result<OpenedArm<'t>, CheckFault>
-    requires { depth ≤ 200 }
-    ensures opens { OpensArm result unfolder.old unfolder.new at depth
-        (guard_behind heads line guard.now body.now) }
+    requires { here.depth ≤ 200 }
+    ensures opens { OpensArm result unfolder.old unfolder.new here
+        (guard_behind heads here.line guard.now body.now) }
     ensures kept { KeepsOpen result unfolder.old unfolder.new }
-    ensures weight { Within arm_weight result unfolder.new (body_weight unfolder.old at body.now) }
+    ensures weight { Within arm_weight result unfolder.new
+        (body_weight unfolder.old here.at body.now) }
     ensures within { IfOk result (λ o. arm_depth o ≤ 200) }
 {
     match guard {
         Guard::Input(test, input) => {
-            let guarded = guarding_at(unfolder, alloc, at, depth, line, test, input)?;
-            let deep = depth_behind(&guarded.listed, depth + 1);
+            let guarded = guarding_at(unfolder, alloc, here, test, input)?;
+            let depth = depth_behind(&guarded.listed, here.depth + 1);
             let guard = ArmGuard::Input(guarded);
             let head = GuardedHead { heads, guard };
-            Ok(OpenedArm::Guarded(head, body, at, deep))
+            Ok(OpenedArm::Guarded(head, body, Here { depth, ..here }))
         }
         Guard::Skip(test) => {
-            let guard = ArmGuard::Skip(unfolder.tested(alloc, at, depth, line, test)?);
+            let guard = ArmGuard::Skip(unfolder.tested(alloc, here, test)?);
             let head = GuardedHead { heads, guard };
-            Ok(OpenedArm::Guarded(head, body, at, depth + 1))
+            let depth = here.depth + 1;
+            Ok(OpenedArm::Guarded(head, body, Here { depth, ..here }))
         }
     }
 }

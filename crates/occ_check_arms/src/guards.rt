@@ -14,7 +14,7 @@ use occ_check_names::context::Context;
 use occ_check_names::fault::CheckFault;
 use occ_check_names::measuring::{count_place, count_targets, count_test};
 use occ_check_names::numbers::Numbers;
-use occ_check_names::scope::Position;
+use occ_check_opened::here::Here;
 use occ_check_opened::one_line::names_at;
 use occ_check_opened::opened::only_arm;
 use occ_check_opened::unfolder::Unfolder;
@@ -70,17 +70,17 @@ impl ArmGuard {
 pub(crate) fn guarding_at(
     unfolder: &mut Unfolder<'_>,
     alloc: Global,
-    at: Position,
-    depth: u32,
-    line: u32,
+    here: Here,
     test: &Option<Expr>,
     input: &Input,
 ) -> Result<Guarded, CheckFault>
-    ensures guard { ReadsLine guarded_of result unfolder.old unfolder.new at line depth
+    ensures guard { ReadsLine guarded_of result unfolder.old unfolder.new here
         (a_guard test.now input.now) }
     ensures kept { OpensNothing result unfolder.old unfolder.new }
-    ensures within { IfOk result (λ g. meant.depth_behind (listed_of g.listed) (depth + 1) ≤ 200) }
+    ensures within { IfOk result (λ g. meant.depth_behind (listed_of g.listed) (here.depth + 1)
+        ≤ 200) }
 {
+    let Here { at, depth, line } = here;
     let scope = names_at(&unfolder.blocks, at);
     guarding(
         &mut unfolder.numbers,
@@ -95,16 +95,15 @@ pub(crate) fn guarding_at(
 pub(crate) fn guarding_variants_at(
     unfolder: &mut Unfolder<'_>,
     alloc: Global,
-    at: Position,
-    depth: u32,
-    line: u32,
+    here: Here,
     guard: &VariantGuard,
 ) -> Result<(Option<TermExpr>, Protocol, Place), CheckFault>
-    ensures guard { ReadsLine tag_guard_of result unfolder.old unfolder.new at line depth
+    ensures guard { ReadsLine tag_guard_of result unfolder.old unfolder.new here
         (a_tag_guard guard.now) }
     ensures kept { OpensNothing result unfolder.old unfolder.new }
-    ensures within { IfOk result (λ _. depth < 200) }
+    ensures within { IfOk result (λ _. here.depth < 200) }
 {
+    let Here { at, depth, line } = here;
     let scope = names_at(&unfolder.blocks, at);
     guarding_variants(
         &mut unfolder.numbers,

@@ -11,7 +11,7 @@ ghost use Rattle.occ_check_meaning.specs.Actions.{variant_tag};
 ghost use Rattle.occ_check_arms.specs.Variants.{body_of_variant, declarations_of_variant, line_of_variant, targets_of_variant, variant_with, OpensVariant, StoresAt, StoresIn, a_variant, after_tag, input_case, tagged_input, tagged_place, variant_weight, whole_variant, OpensTargets};
 ghost use Rattle.occ_check_opened.specs.Opened.{Begins, IsReady, LeavesWithin, Below, Within};
 ghost use Rattle.occ_check_names.specs.Reading.{ReadsIn};
-ghost use Rattle.occ_check_opened.specs.Progress.{nodes_weight, KeepsOpen, OpensNothing, ReadsLine, weight_behind};
+ghost use Rattle.occ_check_opened.specs.Progress.{nodes_weight, KeepsOpen, OpensNothing, ReadsLine, parts_weight};
 ghost use Rattle.occ_check_opened.specs.Weights.{decl_nodes, variant_nodes};
 
 use occ_check_acting::action::with_tags;
@@ -20,7 +20,7 @@ use occ_check_names::context::Context;
 use occ_check_names::fault::CheckFault;
 use occ_check_names::measuring::{count_place, count_targets};
 use occ_check_names::numbers::Numbers;
-use occ_check_names::scope::Position;
+use occ_check_opened::here::Here;
 use occ_check_opened::one_line::names_at;
 use occ_check_opened::opened::{Left, Opened};
 use occ_check_opened::unfolder::Unfolder;
@@ -39,10 +39,8 @@ pub struct OpenedVariant<'t> {
     pub head: VariantHead,
     /// The process.
     pub body: &'t Process,
-    /// The position at which it is read.
-    pub at: Position,
-    /// How many nodes stand round it.
-    pub depth: u32,
+    /// Where that stands.
+    pub here: Here,
 }
 
 /// What the process of a variant is put into: the number of its tag, what is set for its declarations, and its targets.
@@ -85,24 +83,22 @@ impl VariantHead {
 pub fn variants_opened<'t>(
     unfolder: &mut Unfolder<'t>,
     alloc: Global,
-    at: Position,
-    depth: u32,
-    line: u32,
+    here: Here,
     channel: &Var,
     list: &'t [Variant],
 ) -> Result<Opened<'t>, CheckFault>
-    ensures opens { Begins result unfolder.old unfolder.new at depth
-        (input_case line channel.now list.now) }
+    ensures opens { Begins result unfolder.old unfolder.new here
+        (input_case here.line channel.now list.now) }
     ensures kept { KeepsOpen result unfolder.old unfolder.new }
     ensures weight { LeavesWithin result unfolder.new
-        (nodes_weight unfolder.old at (variant_nodes list.now)) }
+        (nodes_weight unfolder.old here.at (variant_nodes list.now)) }
     ensures ready { IfOk result IsReady }
 {
-    let (protocol, channel) = variants_taken_at(unfolder, alloc, at, depth, line, channel)?;
+    let (protocol, channel) = variants_taken_at(unfolder, alloc, here, channel)?;
+    let depth = here.depth + 1;
     Ok(Opened {
         left: Left::Variants(channel, protocol, list),
-        at,
-        depth: depth + 1,
+        here: Here { depth, ..here },
     })
 }
 
@@ -110,19 +106,18 @@ pub fn variants_opened<'t>(
 pub fn variant_opened<'t>(
     unfolder: &mut Unfolder<'t>,
     alloc: Global,
-    at: Position,
-    depth: u32,
+    here: Here,
     protocol: &Protocol,
     tag: u32,
     variant: &'t Variant,
 ) -> Result<OpenedVariant<'t>, CheckFault>
-    requires { depth ≤ 200 }
-    ensures opens { OpensVariant result unfolder.old unfolder.new at depth
+    requires { here.depth ≤ 200 }
+    ensures opens { OpensVariant result unfolder.old unfolder.new here
         (a_variant variant.now protocol.now tag) }
     ensures kept { KeepsOpen result unfolder.old unfolder.new }
     ensures weight { Below variant_weight result unfolder.new
-        (whole_variant unfolder.old at variant.now) }
-    ensures within { IfOk result (λ o. o.depth ≤ 200) }
+        (whole_variant unfolder.old here variant.now) }
+    ensures within { IfOk result (λ o. o.here.depth ≤ 200) }
 {
     let line = line_of(variant);
     let declarations = declarations_of(variant);
@@ -131,9 +126,7 @@ pub fn variant_opened<'t>(
     tagged_opened(
         unfolder,
         alloc,
-        at,
-        depth,
-        line,
+        Here { line, ..here },
         protocol,
         tag,
         declarations,
@@ -146,34 +139,25 @@ pub fn variant_opened<'t>(
 fn tagged_opened<'t>(
     unfolder: &mut Unfolder<'t>,
     alloc: Global,
-    at: Position,
-    depth: u32,
-    line: u32,
+    here: Here,
     protocol: &Protocol,
     tag: u32,
     declarations: &'t [Decl],
     targets: &[TargetTree],
     body: &'t Process,
 ) -> Result<OpenedVariant<'t>, CheckFault>
-    ensures opens { OpensTargets result unfolder.old unfolder.new at depth line targets.now declarations.now
+    ensures opens { OpensTargets result unfolder.old unfolder.new here targets.now declarations.now
         body.now protocol.now tag }
     ensures kept { KeepsOpen result unfolder.old unfolder.new }
     ensures weight { Within variant_weight result unfolder.new
-        (weight_behind unfolder.old at declarations.now body.now) }
-    ensures within { IfOk result (λ o. o.depth ≤ 200) }
+        (parts_weight unfolder.old here declarations.now body.now) }
+    ensures within { IfOk result (λ o. o.here.depth ≤ 200) }
 {
-    unfolder.numbers.node(depth)?;
-    let (heads, inside) = unfolder.entering(alloc, at, depth + 1, declarations)?;
-    let targets = storing_at(
-        unfolder,
-        alloc,
-        inside,
-        depth + 1,
-        line,
-        protocol,
-        tag,
-        targets,
-    )?;
+    unfolder.numbers.node(here.depth)?;
+    let depth = here.depth + 1;
+    let (heads, at) = unfolder.entering(alloc, Here { depth, ..here }, declarations)?;
+    let inside = Here { at, depth, ..here };
+    let targets = storing_at(unfolder, alloc, inside, protocol, tag, targets)?;
     let head = VariantHead {
         tag,
         declarations: heads,
@@ -182,8 +166,7 @@ fn tagged_opened<'t>(
     Ok(OpenedVariant {
         head,
         body,
-        at: inside,
-        depth: depth + 1,
+        here: inside,
     })
 }
 
@@ -191,16 +174,15 @@ fn tagged_opened<'t>(
 fn variants_taken_at(
     unfolder: &mut Unfolder<'_>,
     alloc: Global,
-    at: Position,
-    depth: u32,
-    line: u32,
+    here: Here,
     channel: &Var,
 ) -> Result<(Protocol, Place), CheckFault>
-    ensures taken { ReadsLine tagged_place result unfolder.old unfolder.new at line depth
+    ensures taken { ReadsLine tagged_place result unfolder.old unfolder.new here
         (tagged_input channel.now) }
     ensures kept { OpensNothing result unfolder.old unfolder.new }
-    ensures within { IfOk result (λ _. depth < 200) }
+    ensures within { IfOk result (λ _. here.depth < 200) }
 {
+    let Here { at, depth, line } = here;
     let scope = names_at(&unfolder.blocks, at);
     variants_taken(
         &mut unfolder.numbers,
@@ -214,17 +196,16 @@ fn variants_taken_at(
 fn storing_at(
     unfolder: &mut Unfolder<'_>,
     alloc: Global,
-    at: Position,
-    depth: u32,
-    line: u32,
+    here: Here,
     protocol: &Protocol,
     tag: u32,
     targets: &[TargetTree],
 ) -> Result<Items<Target>, CheckFault>
-    ensures targets { StoresAt result unfolder.old unfolder.new at line depth
+    ensures targets { StoresAt result unfolder.old unfolder.new here
         (after_tag protocol.now tag targets.now) }
     ensures kept { OpensNothing result unfolder.old unfolder.new }
 {
+    let Here { at, depth, line } = here;
     let scope = names_at(&unfolder.blocks, at);
     storing(
         &mut unfolder.numbers,

@@ -19,7 +19,7 @@ use Rattle.occ_check_meaning.specs.Numbers as N
 use Rattle.occ_check_meaning.specs.Performing.{nested, Under, each_of_choices}
 use Rattle.occ_check_meaning.specs.Recursion.{unfolded, all_choices, choice_unfolded}
 use Rattle.occ_check_names.specs.declared.fault.CheckFault.{CheckFault}
-use Rattle.occ_check_names.specs.declared.scope.Position.{Position}
+use Rattle.occ_check_opened.specs.declared.here.Here.{Here}
 use Rattle.occ_check_opened.specs.declared.unfolder.Unfolder.{Unfolder}
 use Rattle.occ_check_opened.specs.Weights.{node_size, nodes_size, choice_nodes}
 use Rattle.occ_check_opened.specs.Progress.{meant_at, counted, node_weight, nodes_weight, body_weight}
@@ -54,8 +54,8 @@ abbrev pub a_choice : Choice → Under Choices
 a_choice c = choice_unfolded (choice_of c)
 
 -- how large a choice is with what is in scope there
-abbrev pub whole_choice : Unfolder → Position → Choice → ℕ
-whole_choice u at c = node_weight u at (choice_of c)
+abbrev pub whole_choice : Unfolder → Here → Choice → ℕ
+whole_choice u here c = node_weight u here.at (choice_of c)
 
 -- the size of what stands under a choice
 abbrev pub choice_size : Choice → ℕ
@@ -80,16 +80,16 @@ abbrev pub choices_behind : List Declaration → Under T.Choices → Under T.Cho
 choices_behind heads part sc depth n = put (A.choices_behind (declarations_of heads)) (part sc depth n)
 
 abbrev pub choice_left : Unfolder → OpenedChoice → Option (T.Choices × N.Numbers)
-choice_left u (opened.When h p at depth) = put (choice_with h) (unfolded (process_of p.now) (meant_at u at) depth (counted u))
-choice_left u (opened.Inner h cs at depth) = put (choices_within h) (all_choices (choice_nodes cs.now) (meant_at u at) depth (counted u))
+choice_left u (opened.When h p here) = put (choice_with h) (unfolded (process_of p.now) (meant_at u here.at) here.depth (counted u))
+choice_left u (opened.Inner h cs here) = put (choices_within h) (all_choices (choice_nodes cs.now) (meant_at u here.at) here.depth (counted u))
 
-abbrev pub OpensChoice : Result OpenedChoice CheckFault → Unfolder → Unfolder → Position → ℕ → Under T.Choices → Type 0
-OpensChoice result old new at depth part = OpensAt choice_left result old new at depth part
+abbrev pub OpensChoice : Result OpenedChoice CheckFault → Unfolder → Unfolder → Here → Under T.Choices → Type 0
+OpensChoice result old new here part = OpensAt choice_left result old new here part
 
 abbrev pub choice_weight : Unfolder → OpenedChoice → ℕ
-choice_weight u (opened.When h p at depth) = body_weight u at p.now
-choice_weight u (opened.Inner h cs at depth) = nodes_weight u at (choice_nodes cs.now)
+choice_weight u (opened.When h p here) = body_weight u here.at p.now
+choice_weight u (opened.Inner h cs here) = nodes_weight u here.at (choice_nodes cs.now)
 
 abbrev pub choice_depth : OpenedChoice → ℕ
-choice_depth (opened.When h p at depth) = depth
-choice_depth (opened.Inner h cs at depth) = depth
+choice_depth (opened.When h p here) = here.depth
+choice_depth (opened.Inner h cs here) = here.depth

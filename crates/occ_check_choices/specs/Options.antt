@@ -27,11 +27,11 @@ use Rattle.occ_check_meaning.specs.Scope.{Names, each_of}
 use Rattle.occ_check_names.specs.Reading.{OfLine, all_of, read_in}
 use Rattle.occ_check_names.specs.declared.context.Context.{Context}
 use Rattle.occ_check_names.specs.declared.numbers.Numbers.{Numbers}
-use Rattle.occ_check_names.specs.declared.scope.Position.{Position}
 use Rattle.occ_check_names.specs.View.{numbers_of, Refuses}
 use Rattle.occ_check_names.specs.declared.fault.CheckFault.{CheckFault}
 use Rattle.occ_check_acting.specs.Action.{chosen_of}
 use Rattle.occ_check_acting.specs.declared.action.Chosen.{Chosen}
+use Rattle.occ_check_opened.specs.declared.here.Here.{Here}
 use Rattle.occ_check_opened.specs.declared.unfolder.Unfolder.{Unfolder}
 use Rattle.occ_check_opened.specs.Weights.{decl_nodes}
 use Rattle.occ_check_opened.specs.Progress.{body_weight, counted, meant_at, names_there, node_weight}
@@ -72,13 +72,13 @@ abbrev pub Lists : Result (List ℤ) CheckFault → Chosen → Numbers → Optio
 Lists (Ok vs) chosen after given = given ≡ Some ((vs, chosen_of chosen), numbers_of after)
 Lists (Err e) chosen after given = Refuses e given
 
--- .. from what was chosen before, and at a position
+-- .. from what was chosen before, and where they stand
 abbrev pub ListsFrom : Result (List ℤ) CheckFault → (before chosen : Chosen) → (old new : Numbers) → (A.Chosen → N.Numbers → Option ((List ℤ × A.Chosen) × N.Numbers)) → Type 0
 ListsFrom result before chosen old new part = Lists result chosen new (part (chosen_of before) (numbers_of old))
 
-abbrev pub ListsAt : Result (List ℤ) CheckFault → (before chosen : Chosen) → (old new : Unfolder) → Position → (line depth : ℕ) → Primitive → OneOrMore Expr → Type 0
-ListsAt result before chosen old new at line depth type es =
-    Lists result chosen new.numbers (choosing_values (names_there old at) line depth type (all_of expression_of es) (chosen_of before) (counted old))
+abbrev pub ListsAt : Result (List ℤ) CheckFault → (before chosen : Chosen) → (old new : Unfolder) → Here → Primitive → OneOrMore Expr → Type 0
+ListsAt result before chosen old new here type es =
+    Lists result chosen new.numbers (choosing_values (names_there old here.at) here.line here.depth type (all_of expression_of es) (chosen_of before) (counted old))
 
 -- expressions that are constants of the type
 abbrev pub constants_in : Context → Primitive → List Expr → Option (List ℤ)
@@ -103,21 +103,21 @@ option_with (options.Otherwise heads) t = T.or_else (declarations_of heads) t T.
 
 -- with what is chosen then
 abbrev pub option_left : Chosen → Unfolder → OpenedOption → Option ((T.Options × A.Chosen) × N.Numbers)
-option_left chosen u o = put (λ t. (option_with o.head t, chosen_of chosen)) (unfolded (process_of o.body.now) (meant_at u o.at) o.depth (counted u))
+option_left chosen u o = put (λ t. (option_with o.head t, chosen_of chosen)) (unfolded (process_of o.body.now) (meant_at u o.here.at) o.here.depth (counted u))
 
 -- what is left of an option of these parts, of ELSE, and of an option
-abbrev pub OpensValues : Result OpenedOption CheckFault → (before chosen : Chosen) → (old new : Unfolder) → Position → (depth line : ℕ) → OneOrMore Expr → List Decl → Process → Primitive → Type 0
-OpensValues result before chosen old new at depth line es ds p type = OpensAt (option_left chosen) result old new at depth (option_with_values line es ds p type (chosen_of before))
+abbrev pub OpensValues : Result OpenedOption CheckFault → (before chosen : Chosen) → (old new : Unfolder) → Here → OneOrMore Expr → List Decl → Process → Primitive → Type 0
+OpensValues result before chosen old new here es ds p type = OpensAt (option_left chosen) result old new here (option_with_values here.line es ds p type (chosen_of before))
 
-abbrev pub OpensElse : Result OpenedOption CheckFault → (before chosen : Chosen) → (old new : Unfolder) → Position → (depth : ℕ) → List Decl → Process → Type 0
-OpensElse result before chosen old new at depth ds p = OpensAt (option_left chosen) result old new at depth (option_with_else ds p (chosen_of before))
+abbrev pub OpensElse : Result OpenedOption CheckFault → (before chosen : Chosen) → (old new : Unfolder) → Here → List Decl → Process → Type 0
+OpensElse result before chosen old new here ds p = OpensAt (option_left chosen) result old new here (option_with_else ds p (chosen_of before))
 
-abbrev pub OpensOption : Result OpenedOption CheckFault → (before chosen : Chosen) → (old new : Unfolder) → Position → (depth : ℕ) → Selection → Primitive → Type 0
-OpensOption result before chosen old new at depth s type = OpensAt (option_left chosen) result old new at depth (option_unfolded (selection_of s) type (chosen_of before))
+abbrev pub OpensOption : Result OpenedOption CheckFault → (before chosen : Chosen) → (old new : Unfolder) → Here → Selection → Primitive → Type 0
+OpensOption result before chosen old new here s type = OpensAt (option_left chosen) result old new here (option_unfolded (selection_of s) type (chosen_of before))
 
 abbrev pub option_weight : Unfolder → OpenedOption → ℕ
-option_weight u o = body_weight u o.at o.body.now
+option_weight u o = body_weight u o.here.at o.body.now
 
 -- how large an option is with what is in scope there
-abbrev pub whole_option : Unfolder → Position → Selection → ℕ
-whole_option u at s = node_weight u at (selection_of s)
+abbrev pub whole_option : Unfolder → Here → Selection → ℕ
+whole_option u here s = node_weight u here.at (selection_of s)

@@ -14,7 +14,7 @@ ghost use Rattle.occ_check_names.specs.View.{Makes};
 
 use occ_check_names::fault::CheckFault;
 use occ_check_names::numbers::deeper;
-use occ_check_names::scope::Position;
+use occ_check_opened::here::Here;
 use occ_check_opened::opened::{Left, Opened, Over, only_choice};
 use occ_check_opened::unfolder::Unfolder;
 use occ_term::{Choice as TermChoice, Declaration, Term, TermExpr};
@@ -23,13 +23,13 @@ use occ_tree_grammar::tree::process::{Choice, Decl, Process};
 use sqlite_items::Items;
 use std::alloc::{AllocError, Global};
 
-/// A choice whose first steps are done: what is left of it, what that is put into, and where and how deep it stands.
+/// A choice whose first steps are done: what is left of it, what that is put into, and where it stands.
 #[derive(Drop)]
 pub enum OpenedChoice<'t> {
     /// Its process is left.
-    When(WhenHead, &'t Process, Position, u32),
+    When(WhenHead, &'t Process, Here),
     /// The choices of a nested IF are left.
-    Inner(ChoicesHead, &'t [Choice], Position, u32),
+    Inner(ChoicesHead, &'t [Choice], Here),
 }
 
 /// What the process of a choice is put into: what is set for its declarations, and its condition.
@@ -85,21 +85,20 @@ impl ChoicesHead {
 /// Opens an IF.
 pub fn choices_opened<'t>(
     unfolder: &mut Unfolder<'t>,
-    at: Position,
-    depth: u32,
+    here: Here,
     choices: &'t [Choice],
 ) -> Result<Opened<'t>, CheckFault>
-    ensures opens { Begins result unfolder.old unfolder.new at depth (if_of choices.now) }
+    ensures opens { Begins result unfolder.old unfolder.new here (if_of choices.now) }
     ensures kept { KeepsOpen result unfolder.old unfolder.new }
     ensures weight { LeavesWithin result unfolder.new
-        (nodes_weight unfolder.old at (choice_nodes choices.now)) }
+        (nodes_weight unfolder.old here.at (choice_nodes choices.now)) }
     ensures ready { IfOk result IsReady }
 {
-    unfolder.numbers.node(depth)?;
+    unfolder.numbers.node(here.depth)?;
+    let depth = here.depth + 1;
     Ok(Opened {
         left: Left::Choices(Over::Once, choices),
-        at,
-        depth: depth + 1,
+        here: Here { depth, ..here },
     })
 }
 
@@ -107,25 +106,23 @@ pub fn choices_opened<'t>(
 pub fn each_choice_opened<'t>(
     unfolder: &mut Unfolder<'t>,
     alloc: Global,
-    at: Position,
-    depth: u32,
-    line: u32,
+    here: Here,
     replicator: &Replicator,
     choice: &'t Choice,
 ) -> Result<Opened<'t>, CheckFault>
-    ensures opens { Begins result unfolder.old unfolder.new at depth
-        (if_for line replicator.now choice.now) }
+    ensures opens { Begins result unfolder.old unfolder.new here
+        (if_for here.line replicator.now choice.now) }
     ensures kept { KeepsOpen result unfolder.old unfolder.new }
     ensures weight { LeavesWithin result unfolder.new
-        (single_weight unfolder.old at (trees.choice_of choice.now)) }
+        (single_weight unfolder.old here (trees.choice_of choice.now)) }
     ensures ready { IfOk result IsReady }
 {
-    unfolder.numbers.node(depth)?;
-    let (over, inside) = unfolder.indexed(alloc, at, depth + 1, line, replicator)?;
+    unfolder.numbers.node(here.depth)?;
+    let depth = here.depth + 1;
+    let (over, at) = unfolder.indexed(alloc, Here { depth, ..here }, replicator)?;
     Ok(Opened {
         left: Left::Choices(Over::Each(over), one_choice(choice)),
-        at: inside,
-        depth: depth + 1,
+        here: Here { at, depth, ..here },
     })
 }
 
@@ -133,57 +130,63 @@ pub fn each_choice_opened<'t>(
 pub fn choice_opened<'t>(
     unfolder: &mut Unfolder<'t>,
     alloc: Global,
-    at: Position,
-    depth: u32,
+    here: Here,
     choice: &'t Choice,
 ) -> Result<OpenedChoice<'t>, CheckFault>
-    requires { depth ≤ 200 }
-    ensures opens { OpensChoice result unfolder.old unfolder.new at depth (a_choice choice.now) }
+    requires { here.depth ≤ 200 }
+    ensures opens { OpensChoice result unfolder.old unfolder.new here (a_choice choice.now) }
     ensures kept { KeepsOpen result unfolder.old unfolder.new }
     ensures weight { Below choice_weight result unfolder.new
-        (whole_choice unfolder.old at choice.now) }
+        (whole_choice unfolder.old here choice.now) }
     ensures within { IfOk result (λ o. choice_depth o ≤ 200) }
 {
-    let (heads, inside) = unfolder.entering(alloc, at, depth, declarations_of(choice))?;
-    let deep = deeper(depth, heads.len())?;
-    chosen_opened(unfolder, alloc, inside, deep, choice, heads)
+    let (heads, at) = unfolder.entering(alloc, here, declarations_of(choice))?;
+    let depth = deeper(here.depth, heads.len())?;
+    chosen_opened(unfolder, alloc, Here { at, depth, ..here }, choice, heads)
 }
 
 /// Opens a choice behind its declarations, for which this is set.
 fn chosen_opened<'t>(
     unfolder: &mut Unfolder<'t>,
     alloc: Global,
-    at: Position,
-    depth: u32,
+    here: Here,
     choice: &'t Choice,
     heads: Items<Declaration>,
 ) -> Result<OpenedChoice<'t>, CheckFault>
-    requires { depth ≤ 200 }
-    ensures opens { OpensChoice result unfolder.old unfolder.new at depth
+    requires { here.depth ≤ 200 }
+    ensures opens { OpensChoice result unfolder.old unfolder.new here
         (choices_behind heads (choosing choice.now)) }
     ensures kept { KeepsOpen result unfolder.old unfolder.new }
     ensures weight { Within choice_weight result unfolder.new
-        (choice_size choice.now + weight_at unfolder.old at) }
+        (choice_size choice.now + weight_at unfolder.old here.at) }
     ensures within { IfOk result (λ o. choice_depth o ≤ 200) }
 {
     match choice {
         Choice::When(_, line, test, body) => {
-            let test = unfolder.tested(alloc, at, depth, *line, test)?;
+            let line = *line;
+            let here = Here { line, ..here };
+            let test = unfolder.tested(alloc, here, test)?;
             let head = WhenHead { heads, test };
-            Ok(OpenedChoice::When(head, body, at, depth + 1))
+            let depth = here.depth + 1;
+            Ok(OpenedChoice::When(head, body, Here { depth, ..here }))
         }
-        Choice::InnerIf(_, _, choices) => {
-            let deep = deeper(depth, 1)?;
+        Choice::InnerIf(_, line, choices) => {
+            let line = *line;
+            let here = Here { line, ..here };
+            let depth = deeper(here.depth, 1)?;
             let over = Over::Once;
             let head = ChoicesHead { heads, over };
-            Ok(OpenedChoice::Inner(head, listed_choices(choices), at, deep))
+            Ok(OpenedChoice::Inner(head, listed_choices(choices), Here { depth, ..here }))
         }
         Choice::InnerIfFor(_, line, replicator, choice) => {
-            let deep = deeper(depth, 1)?;
-            let (over, inside) = unfolder.indexed(alloc, at, deep, *line, replicator)?;
+            let line = *line;
+            let here = Here { line, ..here };
+            let depth = deeper(here.depth, 1)?;
+            let inner = Here { depth, ..here };
+            let (over, at) = unfolder.indexed(alloc, inner, replicator)?;
             let over = Over::Each(over);
             let head = ChoicesHead { heads, over };
-            Ok(OpenedChoice::Inner(head, one_choice(choice), inside, deep))
+            Ok(OpenedChoice::Inner(head, one_choice(choice), Here { at, ..inner }))
         }
     }
 }

@@ -11,7 +11,7 @@ ghost use Rattle.occ_check_choices.specs.Options.{listing, option_with, ListsAt,
 ghost use Rattle.occ_check_names.specs.View.{Answers, one_value};
 ghost use Rattle.occ_check_opened.specs.Opened.{Begins, IsReady, LeavesWithin, Below, Within};
 ghost use Rattle.occ_check_names.specs.Reading.{ReadsIn};
-ghost use Rattle.occ_check_opened.specs.Progress.{nodes_weight, KeepsOpen, OpensNothing, ReadsLine, weight_behind};
+ghost use Rattle.occ_check_opened.specs.Progress.{nodes_weight, KeepsOpen, OpensNothing, ReadsLine, parts_weight};
 ghost use Rattle.occ_check_opened.specs.Weights.{option_nodes};
 
 use indexmap::IndexSet;
@@ -20,7 +20,7 @@ use occ_check_names::context::Context;
 use occ_check_names::fault::CheckFault;
 use occ_check_names::measuring::count_constants;
 use occ_check_names::numbers::Numbers;
-use occ_check_names::scope::{Position, Scope};
+use occ_check_opened::here::Here;
 use occ_check_opened::one_line::{counted_expression, listed_declarations, names_at};
 use occ_check_opened::opened::{Left, Opened};
 use occ_check_opened::unfolder::Unfolder;
@@ -39,10 +39,8 @@ pub struct OpenedOption<'t> {
     pub head: OptionHead,
     /// The process.
     pub body: &'t Process,
-    /// The position at which it is read.
-    pub at: Position,
-    /// How many nodes stand round it.
-    pub depth: u32,
+    /// Where that stands.
+    pub here: Here,
 }
 
 /// What the process of an option is put into: its constants, and what is set for its declarations.
@@ -78,24 +76,22 @@ impl OptionHead {
 pub fn options_opened<'t>(
     unfolder: &mut Unfolder<'t>,
     alloc: Global,
-    at: Position,
-    depth: u32,
-    line: u32,
+    here: Here,
     e: &Expr,
     selections: &'t [Selection],
 ) -> Result<Opened<'t>, CheckFault>
-    ensures opens { Begins result unfolder.old unfolder.new at depth
-        (case_of line e.now selections.now) }
+    ensures opens { Begins result unfolder.old unfolder.new here
+        (case_of here.line e.now selections.now) }
     ensures kept { KeepsOpen result unfolder.old unfolder.new }
     ensures weight { LeavesWithin result unfolder.new
-        (nodes_weight unfolder.old at (option_nodes selections.now)) }
+        (nodes_weight unfolder.old here.at (option_nodes selections.now)) }
     ensures ready { IfOk result IsReady }
 {
-    let (primitive, selector) = selecting_at(unfolder, alloc, at, depth, line, e)?;
+    let (primitive, selector) = selecting_at(unfolder, alloc, here, e)?;
+    let depth = here.depth + 1;
     Ok(Opened {
         left: Left::Options(selector, primitive, selections),
-        at,
-        depth: depth + 1,
+        here: Here { depth, ..here },
     })
 }
 
@@ -103,29 +99,28 @@ pub fn options_opened<'t>(
 pub fn option_opened<'t>(
     unfolder: &mut Unfolder<'t>,
     alloc: Global,
-    at: Position,
-    depth: u32,
+    here: Here,
     primitive: Primitive,
     chosen: &mut Chosen,
     selection: &'t Selection,
 ) -> Result<OpenedOption<'t>, CheckFault>
-    requires { depth ≤ 200 }
-    ensures opens { OpensOption result chosen.old chosen.new unfolder.old unfolder.new at depth
+    requires { here.depth ≤ 200 }
+    ensures opens { OpensOption result chosen.old chosen.new unfolder.old unfolder.new here
         selection.now primitive }
     ensures kept { KeepsOpen result unfolder.old unfolder.new }
     ensures weight { Below option_weight result unfolder.new
-        (whole_option unfolder.old at selection.now) }
-    ensures within { IfOk result (λ o. o.depth ≤ 200) }
+        (whole_option unfolder.old here selection.now) }
+    ensures within { IfOk result (λ o. o.here.depth ≤ 200) }
 {
     match selection {
         Selection::Values(declarations, line, values, body) => {
+            let line = *line;
+            let here = Here { line, ..here };
             let declarations = listed_declarations(declarations);
             values_opened(
                 unfolder,
                 alloc,
-                at,
-                depth,
-                *line,
+                here,
                 primitive,
                 chosen,
                 declarations,
@@ -134,17 +129,10 @@ pub fn option_opened<'t>(
             )
         }
         Selection::Else(declarations, line, body) => {
+            let line = *line;
+            let here = Here { line, ..here };
             let declarations = listed_declarations(declarations);
-            else_opened(
-                unfolder,
-                alloc,
-                at,
-                depth,
-                *line,
-                chosen,
-                declarations,
-                body,
-            )
+            else_opened(unfolder, alloc, here, chosen, declarations, body)
         }
     }
 }
@@ -153,39 +141,29 @@ pub fn option_opened<'t>(
 fn values_opened<'t>(
     unfolder: &mut Unfolder<'t>,
     alloc: Global,
-    at: Position,
-    depth: u32,
-    line: u32,
+    here: Here,
     primitive: Primitive,
     chosen: &mut Chosen,
     declarations: &'t [Decl],
     values: &OneOrMore<Expr>,
     body: &'t Process,
 ) -> Result<OpenedOption<'t>, CheckFault>
-    ensures opens { OpensValues result chosen.old chosen.new unfolder.old unfolder.new at depth line
+    ensures opens { OpensValues result chosen.old chosen.new unfolder.old unfolder.new here
         values.now declarations.now body.now primitive }
     ensures kept { KeepsOpen result unfolder.old unfolder.new }
     ensures weight { Within option_weight result unfolder.new
-        (weight_behind unfolder.old at declarations.now body.now) }
-    ensures within { IfOk result (λ o. o.depth ≤ 200) }
+        (parts_weight unfolder.old here declarations.now body.now) }
+    ensures within { IfOk result (λ o. o.here.depth ≤ 200) }
 {
-    unfolder.numbers.node(depth)?;
-    let (heads, inside) = unfolder.entering(alloc, at, depth + 1, declarations)?;
-    let constants = choosing_values(
-        unfolder,
-        alloc,
-        inside,
-        depth + 1,
-        line,
-        primitive,
-        chosen,
-        values,
-    )?;
+    unfolder.numbers.node(here.depth)?;
+    let depth = here.depth + 1;
+    let (heads, at) = unfolder.entering(alloc, Here { depth, ..here }, declarations)?;
+    let inside = Here { at, depth, ..here };
+    let constants = choosing_values(unfolder, alloc, inside, primitive, chosen, values)?;
     Ok(OpenedOption {
         head: OptionHead::Among(constants, heads),
         body,
-        at: inside,
-        depth: depth + 1,
+        here: inside,
     })
 }
 
@@ -193,28 +171,26 @@ fn values_opened<'t>(
 fn else_opened<'t>(
     unfolder: &mut Unfolder<'t>,
     alloc: Global,
-    at: Position,
-    depth: u32,
-    line: u32,
+    here: Here,
     chosen: &mut Chosen,
     declarations: &'t [Decl],
     body: &'t Process,
 ) -> Result<OpenedOption<'t>, CheckFault>
-    ensures opens { OpensElse result chosen.old chosen.new unfolder.old unfolder.new at depth
+    ensures opens { OpensElse result chosen.old chosen.new unfolder.old unfolder.new here
         declarations.now body.now }
     ensures kept { KeepsOpen result unfolder.old unfolder.new }
     ensures weight { Within option_weight result unfolder.new
-        (weight_behind unfolder.old at declarations.now body.now) }
-    ensures within { IfOk result (λ o. o.depth ≤ 200) }
+        (parts_weight unfolder.old here declarations.now body.now) }
+    ensures within { IfOk result (λ o. o.here.depth ≤ 200) }
 {
-    unfolder.numbers.node(depth)?;
-    let (heads, inside) = unfolder.entering(alloc, at, depth + 1, declarations)?;
-    choosing_else(line, chosen)?;
+    unfolder.numbers.node(here.depth)?;
+    let depth = here.depth + 1;
+    let (heads, at) = unfolder.entering(alloc, Here { depth, ..here }, declarations)?;
+    choosing_else(here.line, chosen)?;
     Ok(OpenedOption {
         head: OptionHead::Otherwise(heads),
         body,
-        at: inside,
-        depth: depth + 1,
+        here: Here { at, depth, ..here },
     })
 }
 
@@ -222,16 +198,15 @@ fn else_opened<'t>(
 fn selecting_at(
     unfolder: &mut Unfolder<'_>,
     alloc: Global,
-    at: Position,
-    depth: u32,
-    line: u32,
+    here: Here,
     e: &Expr,
 ) -> Result<(Primitive, TermExpr), CheckFault>
-    ensures selector { ReadsLine one_value result unfolder.old unfolder.new at line depth
+    ensures selector { ReadsLine one_value result unfolder.old unfolder.new here
         (a_selector e.now) }
     ensures kept { OpensNothing result unfolder.old unfolder.new }
-    ensures within { IfOk result (λ _. depth < 200) }
+    ensures within { IfOk result (λ _. here.depth < 200) }
 {
+    let Here { at, depth, line } = here;
     let scope = names_at(&unfolder.blocks, at);
     selecting(
         &mut unfolder.numbers,
@@ -245,17 +220,16 @@ fn selecting_at(
 fn choosing_values(
     unfolder: &mut Unfolder<'_>,
     alloc: Global,
-    at: Position,
-    depth: u32,
-    line: u32,
+    here: Here,
     primitive: Primitive,
     chosen: &mut Chosen,
     values: &OneOrMore<Expr>,
 ) -> Result<Items<i64>, CheckFault>
-    ensures constants { ListsAt result chosen.old chosen.new unfolder.old unfolder.new at line depth
+    ensures constants { ListsAt result chosen.old chosen.new unfolder.old unfolder.new here
         primitive values.now }
     ensures kept { OpensNothing result unfolder.old unfolder.new }
 {
+    let Here { at, depth, line } = here;
     let scope = names_at(&unfolder.blocks, at);
     let constants = constants(Context { alloc, scope, line }, primitive, values)?;
     chosen_constants(&mut unfolder.numbers, alloc, line, depth, chosen, constants)

@@ -22,6 +22,7 @@ use Rattle.occ_check_names.specs.Reading.{OfLine}
 use Rattle.occ_check_names.specs.View.{Unfolds as UnfoldsCode}
 use Rattle.occ_check_names.specs.declared.fault.CheckFault.{CheckFault}
 use Rattle.occ_check_names.specs.declared.scope.Position.{Position}
+use Rattle.occ_check_opened.specs.declared.here.Here.{Here}
 use Rattle.occ_check_opened.specs.declared.unfolder.Unfolder.{Unfolder}
 use Rattle.occ_check_opened.specs.Progress.{body_weight, counted, meant_at}
 use Rattle.occ_check_opened.specs.Opened.{Opens, body_unfolded, copy_for, put}
@@ -52,20 +53,20 @@ numbered_copy u i n = do
   t ← u i m
   Some (and_branch n.processes t.0, t.1)
 
--- what the copies at a position unfold to, each for a value of the index
-abbrev pub copies_there : Unfolder → Position → ℕ → Replicator → Process → ℤ → Unfolds Term
-copies_there u at depth r p = copy_for (replicator_of r) (process_of p) (meant_at u at) depth
+-- what copies unfold to where they stand, each for a value of the index
+abbrev pub copies_there : Unfolder → Here → Replicator → Process → ℤ → Unfolds Term
+copies_there u here r p = copy_for (replicator_of r) (process_of p) (meant_at u here.at) here.depth
 
 -- a copy that is opened
 abbrev pub copy_left : Unfolder → OpenedCopy → Option ((T.Branches → T.Branches) × N.Numbers)
-copy_left u o = put (λ t. T.and_branch o.number t) (unfolded (process_of o.body.now) (meant_at u o.at) o.depth (counted u))
+copy_left u o = put (λ t. T.and_branch o.number t) (unfolded (process_of o.body.now) (meant_at u o.here.at) o.here.depth (counted u))
 
-abbrev pub OpensCopy : Result OpenedCopy CheckFault → (old new : Unfolder) → Position → ℕ → Replicator → Process → ℤ → Type 0
-OpensCopy result old new at depth r p i = Opens copy_left result new (numbered_copy (copies_there old at depth r p) i (counted old))
+abbrev pub OpensCopy : Result OpenedCopy CheckFault → (old new : Unfolder) → Here → Replicator → Process → ℤ → Type 0
+OpensCopy result old new here r p i = Opens copy_left result new (numbered_copy (copies_there old here r p) i (counted old))
 
 -- what so many copies unfold to, from a value of the index on
-abbrev pub ReadsCopies : Result (List Branch) CheckFault → (old new : Unfolder) → Position → ℕ → Replicator → Process → ℕ → ℤ → Type 0
-ReadsCopies result old new at depth r p count first = UnfoldsCode branches_of result new.numbers (copied (copies_there old at depth r p) count first (counted old))
+abbrev pub ReadsCopies : Result (List Branch) CheckFault → (old new : Unfolder) → Here → Replicator → Process → ℕ → ℤ → Type 0
+ReadsCopies result old new here r p count first = UnfoldsCode branches_of result new.numbers (copied (copies_there old here r p) count first (counted old))
 
 abbrev pub copy_weight : Unfolder → OpenedCopy → ℕ
-copy_weight u o = body_weight u o.at o.body.now
+copy_weight u o = body_weight u o.here.at o.body.now

@@ -14,6 +14,7 @@ use occ_check_names::fault::CheckFault;
 use occ_check_names::known::Known;
 use occ_check_names::numbers::Numbers;
 use occ_check_names::scope::{Binding, Position};
+use occ_check_opened::here::Here;
 use occ_check_opened::one_line::names_at;
 use occ_check_opened::opened::{Left, Opened};
 use occ_check_opened::unfolder::Unfolder;
@@ -30,33 +31,29 @@ pub struct OpenedCopy<'t> {
     pub number: u32,
     /// The process.
     pub body: &'t Process,
-    /// The position at which it is read.
-    pub at: Position,
-    /// How many nodes stand round it.
-    pub depth: u32,
+    /// Where that stands.
+    pub here: Here,
 }
 
 /// Opens a replicated PAR.
 pub fn copies_opened<'t>(
     unfolder: &mut Unfolder<'t>,
     alloc: Global,
-    at: Position,
-    depth: u32,
-    line: u32,
+    here: Here,
     replicator: &'t Replicator,
     body: &'t Process,
 ) -> Result<Opened<'t>, CheckFault>
-    ensures opens { Begins result unfolder.old unfolder.new at depth
-        (par_for line replicator.now body.now) }
+    ensures opens { Begins result unfolder.old unfolder.new here
+        (par_for here.line replicator.now body.now) }
     ensures kept { KeepsOpen result unfolder.old unfolder.new }
-    ensures weight { LeavesWithin result unfolder.new (body_weight unfolder.old at body.now) }
+    ensures weight { LeavesWithin result unfolder.new (body_weight unfolder.old here.at body.now) }
     ensures ready { IfOk result IsReady }
 {
-    let (first, count) = copies_counted_at(unfolder, alloc, at, depth, line, replicator)?;
+    let (first, count) = copies_counted_at(unfolder, alloc, here, replicator)?;
+    let depth = here.depth + 1;
     Ok(Opened {
         left: Left::Copies(replicator, first, count, body),
-        at,
-        depth: depth + 1,
+        here: Here { depth, ..here },
     })
 }
 
@@ -64,27 +61,24 @@ pub fn copies_opened<'t>(
 pub fn copy_opened<'t>(
     unfolder: &mut Unfolder<'t>,
     alloc: Global,
-    at: Position,
-    depth: u32,
+    here: Here,
     replicator: &Replicator,
     value: i64,
     body: &'t Process,
 ) -> Result<OpenedCopy<'t>, CheckFault>
-    requires { depth ≤ 200 }
-    ensures opens { OpensCopy result unfolder.old unfolder.new at depth replicator.now body.now
-        value }
+    requires { here.depth ≤ 200 }
+    ensures opens { OpensCopy result unfolder.old unfolder.new here replicator.now body.now value }
     ensures kept { KeepsOpen result unfolder.old unfolder.new }
     ensures weight { IfOk result (λ o. copy_weight unfolder.new o
-        ≡ body_weight unfolder.old at body.now) }
-    ensures within { IfOk result (λ o. o.depth ≤ 200) }
+        ≡ body_weight unfolder.old here.at body.now) }
+    ensures within { IfOk result (λ o. o.here.depth ≤ 200) }
 {
     let number = unfolder.numbers.more_processes()?;
-    let inside = at_value(unfolder, alloc, at, replicator, value)?;
+    let at = at_value(unfolder, alloc, here.at, replicator, value)?;
     Ok(OpenedCopy {
         number,
         body,
-        at: inside,
-        depth,
+        here: Here { at, ..here },
     })
 }
 
@@ -113,17 +107,16 @@ fn at_value(
 fn copies_counted_at(
     unfolder: &mut Unfolder<'_>,
     alloc: Global,
-    at: Position,
-    depth: u32,
-    line: u32,
+    here: Here,
     replicator: &Replicator,
 ) -> Result<(i64, u64), CheckFault>
-    ensures counted { ReadsLine itself result unfolder.old unfolder.new at line depth
+    ensures counted { ReadsLine itself result unfolder.old unfolder.new here
         (counted_copies replicator.now) }
     ensures kept { OpensNothing result unfolder.old unfolder.new }
-    ensures within { IfOk result (λ _. depth < 200) }
+    ensures within { IfOk result (λ _. here.depth < 200) }
     ensures last { IfOk result (λ c. (c.0 +ℤ pos c.1) ≤ℤ pos 2147483648) }
 {
+    let Here { at, depth, line } = here;
     let scope = names_at(&unfolder.blocks, at);
     copies_counted(
         &mut unfolder.numbers,

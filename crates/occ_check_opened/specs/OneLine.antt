@@ -30,10 +30,10 @@ use Rattle.occ_check_names.specs.View.{Unfolds, numbers_of}
 use Rattle.occ_check_names.specs.declared.context.Context.{Context}
 use Rattle.occ_check_names.specs.declared.fault.CheckFault.{CheckFault}
 use Rattle.occ_check_names.specs.declared.numbers.Numbers.{Numbers as CodeNumbers}
-use Rattle.occ_check_names.specs.declared.scope.Position.{Position}
 use Rattle.occ_check_acting.specs.Action.{listed_of}
 use Rattle.occ_check_acting.specs.declared.action.Listed.{Listed}
 use Rattle.occ_check_opened.specs.Progress.{Reads, counted}
+use Rattle.occ_check_opened.specs.declared.here.Here.{Here}
 use Rattle.occ_check_opened.specs.declared.unfolder.Unfolder.{Unfolder}
 
 -- an expression with the node that it heads
@@ -77,9 +77,9 @@ an_output v os ns line depth n = outputting ns line depth (var_of v) (out_of os.
 abbrev pub UnfoldsIn : Result Term CheckFault → Context → (old new : CodeNumbers) → ℕ → OfLine T.Term → Type 0
 UnfoldsIn result c old new depth part = ReadsIn term_of result c old new depth part
 
--- .. and at a position what a process of one line unfolds to
-abbrev pub PerformsAt : Result Term CheckFault → Unfolder → Unfolder → Position → (line depth : ℕ) → Action → Type 0
-PerformsAt result old new at line depth a = Reads term_of result old new at depth (acted line a)
+-- .. and where it stands what a process of one line unfolds to
+abbrev pub PerformsAt : Result Term CheckFault → Unfolder → Unfolder → Here → Action → Type 0
+PerformsAt result old new here a = Reads term_of result old new here (acted here.line a)
 
 -- an expression is answered with the node that it heads
 abbrev pub Heads : Result TermExpr CheckFault → (old new : CodeNumbers) → ℕ → TermExpr → Type 0

@@ -26,6 +26,7 @@ use Rattle.occ_check_meaning.specs.Scope.{Scope, within}
 use Rattle.occ_check_names.specs.View.{Refuses}
 use Rattle.occ_check_names.specs.declared.fault.CheckFault.{CheckFault}
 use Rattle.occ_check_names.specs.declared.scope.Position.{Position}
+use Rattle.occ_check_opened.specs.declared.here.Here.{Here}
 use Rattle.occ_check_opened.specs.declared.opened.Around.TheVariants as arounds
 use Rattle.occ_check_opened.specs.declared.opened.Left.TheVariants as lefts
 use Rattle.occ_check_opened.specs.declared.opened.Over.TheVariants as overs
@@ -48,9 +49,9 @@ abbrev pub Opens : {X Y : Type 0} → (Unfolder → X → Option Y) → Result X
 Opens left (Ok x) after given = given ≡ left after x
 Opens left (Err e) after given = Refuses e given
 
--- the same of a part of the tree that is opened at a position, behind so many nodes
-abbrev pub OpensAt : {X Y : Type 0} → (Unfolder → X → Option (Y × N.Numbers)) → Result X CheckFault → Unfolder → Unfolder → Position → ℕ → Under Y → Type 0
-OpensAt left result old new at depth part = Opens left result new (part (meant_at old at) depth (counted old))
+-- the same of a part of the tree that is opened where it stands
+abbrev pub OpensAt : {X Y : Type 0} → (Unfolder → X → Option (Y × N.Numbers)) → Result X CheckFault → Unfolder → Unfolder → Here → Under Y → Type 0
+OpensAt left result old new here part = Opens left result new (part (meant_at old here.at) here.depth (counted old))
 
 -- ---- processes, and copies of them
 
@@ -96,19 +97,19 @@ abbrev pub each_arms : Over → T.Arms → T.Arms
 each_arms overs.Once xs = xs
 each_arms (overs.Each r) xs = T.each_arm (replicator_of r) xs T.no_arms
 
-abbrev pub left_in : Unfolder → Position → ℕ → Left → Option (T.Term × N.Numbers)
-left_in u at depth (lefts.Done t) = Some (term_of t, counted u)
-left_in u at depth (lefts.Body a p) = put (around a) (unfolded (process_of p.now) (meant_at u at) depth (counted u))
-left_in u at depth (lefts.InTurn ps) = put T.Seq (all_in_turn (process_nodes ps.now) (meant_at u at) depth (counted u))
-left_in u at depth (lefts.Beside ps) = put T.Par (all_beside (process_nodes ps.now) (meant_at u at) depth (counted u))
-left_in u at depth (lefts.Copies r first count p) = put T.Par (copied (copy_for (replicator_tree r.now) (process_of p.now) (meant_at u at) depth) count first (counted u))
-left_in u at depth (lefts.Choices over cs) = put (λ x. T.If (each_choices over x)) (all_choices (choice_nodes cs.now) (meant_at u at) depth (counted u))
-left_in u at depth (lefts.Options e type os) = put (T.Case (expression_of e)) (all_options (option_nodes os.now) type A.none_chosen (meant_at u at) depth (counted u))
-left_in u at depth (lefts.Variants c p vs) = put (T.VariantInput (place_of c)) (all_variants (variant_nodes vs.now) p [] (meant_at u at) depth (counted u))
-left_in u at depth (lefts.Arms pri over xs) = put (λ x. T.Alt pri (each_arms over x)) (all_arms (arm_nodes xs.now) (meant_at u at) depth (counted u))
+abbrev pub left_in : Unfolder → Here → Left → Option (T.Term × N.Numbers)
+left_in u here (lefts.Done t) = Some (term_of t, counted u)
+left_in u here (lefts.Body a p) = put (around a) (unfolded (process_of p.now) (meant_at u here.at) here.depth (counted u))
+left_in u here (lefts.InTurn ps) = put T.Seq (all_in_turn (process_nodes ps.now) (meant_at u here.at) here.depth (counted u))
+left_in u here (lefts.Beside ps) = put T.Par (all_beside (process_nodes ps.now) (meant_at u here.at) here.depth (counted u))
+left_in u here (lefts.Copies r first count p) = put T.Par (copied (copy_for (replicator_tree r.now) (process_of p.now) (meant_at u here.at) here.depth) count first (counted u))
+left_in u here (lefts.Choices over cs) = put (λ x. T.If (each_choices over x)) (all_choices (choice_nodes cs.now) (meant_at u here.at) here.depth (counted u))
+left_in u here (lefts.Options e type os) = put (T.Case (expression_of e)) (all_options (option_nodes os.now) type A.none_chosen (meant_at u here.at) here.depth (counted u))
+left_in u here (lefts.Variants c p vs) = put (T.VariantInput (place_of c)) (all_variants (variant_nodes vs.now) p [] (meant_at u here.at) here.depth (counted u))
+left_in u here (lefts.Arms pri over xs) = put (λ x. T.Alt pri (each_arms over x)) (all_arms (arm_nodes xs.now) (meant_at u here.at) here.depth (counted u))
 
 abbrev pub statement_left : Unfolder → Opened → Option (T.Term × N.Numbers)
-statement_left u o = left_in u o.at o.depth o.left
+statement_left u o = left_in u o.here o.left
 
 -- how large what is left is, with what is in scope there
 abbrev pub weight_in : Unfolder → Position → Left → ℕ
@@ -123,7 +124,7 @@ weight_in u at (lefts.Variants c p vs) = nodes_weight u at (variant_nodes vs.now
 weight_in u at (lefts.Arms pri over xs) = nodes_weight u at (arm_nodes xs.now)
 
 abbrev pub left_weight : Unfolder → Opened → ℕ
-left_weight u o = weight_in u o.at o.left
+left_weight u o = weight_in u o.here.at o.left
 
 -- the last value of the index of copies is an INT
 abbrev pub IsCounted : Left → Type 0
@@ -138,11 +139,11 @@ IsCounted (lefts.Variants c p vs) = ⊤
 IsCounted (lefts.Arms pri over xs) = ⊤
 
 abbrev pub IsReady : Opened → Type 0
-IsReady o = (o.depth ≤ 200) × IsCounted o.left
+IsReady o = (o.here.depth ≤ 200) × IsCounted o.left
 
 -- what is left of a statement that is opened is what the statement unfolds to
-abbrev pub Begins : Result Opened CheckFault → Unfolder → Unfolder → Position → ℕ → Under T.Term → Type 0
-Begins result old new at depth part = OpensAt statement_left result old new at depth part
+abbrev pub Begins : Result Opened CheckFault → Unfolder → Unfolder → Here → Under T.Term → Type 0
+Begins result old new here part = OpensAt statement_left result old new here part
 
 -- what is opened weighs no more than this, or less
 abbrev pub Within : {X : Type 0} → (Unfolder → X → ℕ) → Result X CheckFault → Unfolder → ℕ → Type 0
@@ -162,13 +163,13 @@ abbrev pub left_headed : List Declaration → Unfolder → Opened → Option (T.
 left_headed heads u o = put (headed (declarations_of heads)) (statement_left u o)
 
 abbrev pub step_left : Unfolder → Step → Option (T.Term × N.Numbers)
-step_left u (steps.Call p at depth) = unfolded (process_of p.now) (meant_at u at) depth (counted u)
+step_left u (steps.Call p here) = unfolded (process_of p.now) (meant_at u here.at) here.depth (counted u)
 step_left u (steps.Behind heads o) = left_headed heads u o
 
 abbrev pub step_weight : Unfolder → Step → ℕ
-step_weight u (steps.Call p at depth) = body_weight u at p.now
+step_weight u (steps.Call p here) = body_weight u here.at p.now
 step_weight u (steps.Behind heads o) = left_weight u o
 
 abbrev pub IsStepReady : Step → Type 0
-IsStepReady (steps.Call p at depth) = depth ≤ 200
+IsStepReady (steps.Call p here) = here.depth ≤ 200
 IsStepReady (steps.Behind heads o) = IsReady o

@@ -28,6 +28,7 @@ use Rattle.occ_check_names.specs.declared.fault.CheckFault.{CheckFault}
 use Rattle.occ_check_names.specs.declared.scope.Position.{Position}
 use Rattle.occ_check_names.specs.declared.scope.Procedure.{Procedure}
 use Rattle.occ_check_opened.specs.Entering.{procedure_of}
+use Rattle.occ_check_opened.specs.declared.here.Here.{Here}
 use Rattle.occ_check_opened.specs.declared.unfolder.Call.{Call}
 use Rattle.occ_check_opened.specs.declared.unfolder.Unfolder.{Unfolder}
 use Rattle.occ_check_opened.specs.OpenBlocks.{Keeps, seen_at, seen_inside}
@@ -48,13 +49,13 @@ counted u = numbers_of u.numbers
 abbrev pub names_there : Unfolder → Position → S.Names
 names_there u at = S.names_of (meant_at u at)
 
--- what is answered is what a part of the tree unfolds to at a position, behind so many nodes
-abbrev pub Reads : {X Y : Type 0} → (X → Y) → Result X CheckFault → Unfolder → Unfolder → Position → ℕ → Under Y → Type 0
-Reads view result old new at depth part = Unfolds view result new.numbers (part (meant_at old at) depth (counted old))
+-- what is answered is what a part of the tree unfolds to where it stands
+abbrev pub Reads : {X Y : Type 0} → (X → Y) → Result X CheckFault → Unfolder → Unfolder → Here → Under Y → Type 0
+Reads view result old new here part = Unfolds view result new.numbers (part (meant_at old here.at) here.depth (counted old))
 
--- .. what something in a line unfolds to under the names there
-abbrev pub ReadsLine : {X Y : Type 0} → (X → Y) → Result X CheckFault → Unfolder → Unfolder → Position → (line depth : ℕ) → OfLine Y → Type 0
-ReadsLine view result old new at line depth part = Unfolds view result new.numbers (part (names_there old at) line depth (counted old))
+-- .. what something in its line unfolds to under the names there
+abbrev pub ReadsLine : {X Y : Type 0} → (X → Y) → Result X CheckFault → Unfolder → Unfolder → Here → OfLine Y → Type 0
+ReadsLine view result old new here part = Unfolds view result new.numbers (part (names_there old here.at) here.line here.depth (counted old))
 
 -- all that was open is open still and as it was, whatever is open inside of it
 abbrev pub KeepsOpen : {X : Type 0} → Result X CheckFault → Unfolder → Unfolder → Type 0
@@ -85,9 +86,9 @@ abbrev pub EntersAt : Result (List Declaration × Position) CheckFault → Unfol
 EntersAt (Ok d) after given = given ≡ Some (entered (meant_at after d.1) (declarations_of d.0) (counted after))
 EntersAt (Err e) after given = Refuses e given
 
--- the same of declarations that are read inside of a position
-abbrev pub DeclaresAt : Result (List Declaration × Position) CheckFault → Unfolder → Unfolder → Position → ℕ → Declaring → Type 0
-DeclaresAt result old new at depth part = EntersAt result new (part (meant_at old at) depth (counted old))
+-- the same of declarations that are read where they stand
+abbrev pub DeclaresAt : Result (List Declaration × Position) CheckFault → Unfolder → Unfolder → Here → Declaring → Type 0
+DeclaresAt result old new here part = EntersAt result new (part (meant_at old here.at) here.depth (counted old))
 
 -- how large what is in scope at a position is, and all that is in scope at the end
 abbrev pub weight_at : Unfolder → Position → ℕ
@@ -110,24 +111,24 @@ nodes_weight u at ns = nodes_size ns + weight_at u at
 abbrev pub body_weight : Unfolder → Position → Process → ℕ
 body_weight u at p = node_weight u at (process_of p)
 
--- one part as a list
-abbrev pub single_weight : {k : Kind} → Unfolder → Position → Node k → ℕ
-single_weight u at n = (node_size n + 1) + weight_at u at
+-- one part where it stands, as a list
+abbrev pub single_weight : {k : Kind} → Unfolder → Here → Node k → ℕ
+single_weight u here n = (node_size n + 1) + weight_at u here.at
 
--- declarations, and a process behind them
-abbrev pub decls_weight : Unfolder → Position → List Decl → ℕ
-decls_weight u at ds = decls_size (decl_nodes ds) + weight_at u at
+-- declarations where they stand, and with a process behind them
+abbrev pub decls_weight : Unfolder → Here → List Decl → ℕ
+decls_weight u here ds = decls_size (decl_nodes ds) + weight_at u here.at
 
-abbrev pub weight_behind : Unfolder → Position → List Decl → Process → ℕ
-weight_behind u at ds p = (decls_size (decl_nodes ds) + node_size (process_of p)) + weight_at u at
+abbrev pub parts_weight : Unfolder → Here → List Decl → Process → ℕ
+parts_weight u here ds p = (decls_size (decl_nodes ds) + node_size (process_of p)) + weight_at u here.at
 
 -- how deep what stands behind what is set for declarations is
 abbrev pub opening_behind : List Declaration → ℕ → Unfolder → Option (ℕ × N.Numbers)
 opening_behind heads depth u = opening (declarations_of heads) depth (counted u)
 
--- what a call of a PROC means, under the names at a position, where the PROC's declaration stands at the outer one
-abbrev pub call_meant : Unfolder → (outer at : Position) → Procedure → (line depth : ℕ) → Option (OneOrMore Expr) → Option (T.Term × N.Numbers)
-call_meant u outer at p line depth es = meaning_of (procedure_of p) (meant_at u outer) (names_there u at) line depth (actuals_of es) (counted u)
+-- what a call of a PROC means where it stands, and the PROC's declaration at the outer position
+abbrev pub call_meant : Unfolder → (outer : Position) → Here → Procedure → Option (OneOrMore Expr) → Option (T.Term × N.Numbers)
+call_meant u outer here p es = meaning_of (procedure_of p) (meant_at u outer) (names_there u here.at) here.line here.depth (actuals_of es) (counted u)
 
 -- the body that is called, behind what is set for its formals
 abbrev pub called_body : List Declaration → Process → Unfolder → Position → ℕ → Option (T.Term × N.Numbers)
@@ -140,8 +141,8 @@ abbrev pub Calls : ℕ → Result Call CheckFault → Unfolder → Option (T.Ter
 Calls depth (Ok c) after given = given ≡ called_body c.heads c.body.now after c.inside depth
 Calls depth (Err e) after given = Refuses e given
 
-abbrev pub CallsAt : Result Call CheckFault → Unfolder → Unfolder → Position → ℕ → Under T.Term → Type 0
-CallsAt result old new at depth part = Calls depth result new (part (meant_at old at) depth (counted old))
+abbrev pub CallsAt : Result Call CheckFault → Unfolder → Unfolder → Here → Under T.Term → Type 0
+CallsAt result old new here part = Calls here.depth result new (part (meant_at old here.at) here.depth (counted old))
 
 -- a replicator with its index, under the names of which something is read
 abbrev pub Indexes : Result (Replicator × Position) CheckFault → Unfolder → S.Scope Calling → Option Indexed → Type 0
@@ -149,5 +150,5 @@ Indexes (Ok r) after sc given =
     (i : Indexed) × (given ≡ Some i) × (i.replicator ≡ replicator_of r.0) × (meant_at after r.1 ≡ S.within i.names sc) × (i.numbers ≡ counted after)
 Indexes (Err e) after sc given = Refuses e given
 
-abbrev pub IndexesAt : Result (Replicator × Position) CheckFault → Unfolder → Unfolder → Position → (line depth : ℕ) → ReplicatorTree → Type 0
-IndexesAt result old new at line depth r = Indexes result new (meant_at old at) (indexed (names_there old at) line depth (replicator_tree r) (counted old))
+abbrev pub IndexesAt : Result (Replicator × Position) CheckFault → Unfolder → Unfolder → Here → ReplicatorTree → Type 0
+IndexesAt result old new here r = Indexes result new (meant_at old here.at) (indexed (names_there old here.at) here.line here.depth (replicator_tree r) (counted old))

@@ -19,6 +19,7 @@ ghost use Rattle.occ_check_opened.specs.OpenBlocks.{Deepens, HasBlock, Keeps, Ke
 ghost use Rattle.occ_check_opened.specs.OneLine.{call_action};
 
 use crate::blocks::Blocks;
+use crate::here::Here;
 use crate::unfolder::{Call, Unfolder};
 use occ_check_acting::call::bound;
 use occ_check_acting::formals::formals_of;
@@ -267,58 +268,54 @@ impl<'t> Unfolder<'t> {
     pub fn bound(
         &mut self,
         alloc: Global,
-        at: Position,
-        depth: u32,
-        line: u32,
+        here: Here,
         name: &Letters,
         actuals: &Option<OneOrMore<Expr>>,
     ) -> Result<Call<'t>, CheckFault>
-        requires { depth ≤ 200 }
-        ensures call { CallsAt result self.old self.new at depth
-            (acted line (call_action name.now actuals.now)) }
+        requires { here.depth ≤ 200 }
+        ensures call { CallsAt result self.old self.new here
+            (acted here.line (call_action name.now actuals.now)) }
         ensures kept { KeepsOpen result self.old self.new }
         ensures weight { IfOk result (λ c. body_weight self.new c.inside c.body.now
-            < weight_at self.old at) }
+            < weight_at self.old here.at) }
     {
         let (procedure, outer) = procedure_of(
             Context {
                 alloc,
-                scope: self.blocks.scope(at),
-                line,
+                scope: self.blocks.scope(here.at),
+                line: here.line,
             },
             name,
         )?;
-        self.called(alloc, at, outer, depth, line, procedure, actuals)
+        self.called(alloc, here, outer, procedure, actuals)
     }
 
     /// Binds the formals of a PROC whose declaration stands at the outer position.
     fn called(
         &mut self,
         alloc: Global,
-        at: Position,
+        here: Here,
         outer: Position,
-        depth: u32,
-        line: u32,
         procedure: Procedure<'t>,
         actuals: &Option<OneOrMore<Expr>>,
     ) -> Result<Call<'t>, CheckFault>
-        requires { depth ≤ 200 }
-        ensures call { Calls depth result self.new
-            (call_meant self.old outer at procedure.entry line depth actuals.now) }
+        requires { here.depth ≤ 200 }
+        ensures call { Calls here.depth result self.new
+            (call_meant self.old outer here procedure.entry actuals.now) }
         ensures kept { KeepsOpen result self.old self.new }
         ensures body { IfOk result (λ c. c.body.now ≡ procedure.entry.body.now) }
         ensures weight { IfOk result (λ c. weight_at self.new c.inside ≡ weight_at self.old outer) }
     {
         let context = Context {
             alloc,
-            scope: self.blocks.scope(at),
-            line,
+            scope: self.blocks.scope(here.at),
+            line: here.line,
         };
         let opened = formals_bound(
             &mut self.numbers,
             context,
             self.blocks.scope(outer),
-            depth + 1,
+            here.depth + 1,
             procedure,
             actuals,
         )?;
@@ -337,16 +334,15 @@ impl<'t> Unfolder<'t> {
     pub fn indexed(
         &mut self,
         alloc: Global,
-        at: Position,
-        depth: u32,
-        line: u32,
+        here: Here,
         replicator: &ReplicatorTree,
     ) -> Result<(Replicator, Position), CheckFault>
-        ensures indexed { IndexesAt result self.old self.new at line depth replicator.now }
+        ensures indexed { IndexesAt result self.old self.new here replicator.now }
         ensures kept { KeepsOpen result self.old self.new }
-        ensures weight { IfOk result (λ r. weight_at self.new r.1 ≡ weight_at self.old at) }
-        ensures within { IfOk result (λ _. depth < 200) }
+        ensures weight { IfOk result (λ r. weight_at self.new r.1 ≡ weight_at self.old here.at) }
+        ensures within { IfOk result (λ _. here.depth < 200) }
     {
+        let Here { at, depth, line } = here;
         let scope = self.blocks.scope(at);
         let indexed = index_replicator(
             &mut self.numbers,

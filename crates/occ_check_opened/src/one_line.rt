@@ -17,6 +17,7 @@ ghost use Rattle.occ_check_opened.specs.Progress.{counted, weight_at, DeclaresAt
 ghost use Rattle.occ_check_names.specs.Measuring.{output_size};
 
 use crate::blocks::Blocks;
+use crate::here::Here;
 use crate::unfolder::Unfolder;
 use occ_check_acting::action::{Listed, as_input, assigned, output, received};
 use occ_check_names::context::Context;
@@ -40,36 +41,28 @@ impl<'t> Unfolder<'t> {
     pub fn entering(
         &mut self,
         alloc: Global,
-        at: Position,
-        depth: u32,
+        here: Here,
         declarations: &'t [Decl],
     ) -> Result<(Items<Declaration>, Position), CheckFault>
-        ensures entered { DeclaresAt result self.old self.new at depth
+        ensures entered { DeclaresAt result self.old self.new here
             (all_declared (decl_nodes declarations.now)) }
         ensures kept { KeepsOpen result self.old self.new }
         ensures weight { IfOk result (λ d. weight_at self.new d.1
-            ≤ decls_weight self.old at declarations.now) }
+            ≤ decls_weight self.old here declarations.now) }
     {
-        self.blocks.open(alloc, at)?;
-        let heads = self.declared(alloc, depth, declarations)?;
+        self.blocks.open(alloc, here.at)?;
+        let heads = self.declared(alloc, here.depth, declarations)?;
         let inside = self.blocks.end();
         Ok((heads, inside))
     }
 
     /// What a condition unfolds to, with the node that it heads.
-    pub fn tested(
-        &mut self,
-        alloc: Global,
-        at: Position,
-        depth: u32,
-        line: u32,
-        e: &Expr,
-    ) -> Result<TermExpr, CheckFault>
-        ensures tested { ReadsLine expression_of result self.old self.new at line depth
-            (a_condition e.now) }
+    pub fn tested(&mut self, alloc: Global, here: Here, e: &Expr) -> Result<TermExpr, CheckFault>
+        ensures tested { ReadsLine expression_of result self.old self.new here (a_condition e.now) }
         ensures kept { OpensNothing result self.old self.new }
-        ensures within { IfOk result (λ _. depth < 200) }
+        ensures within { IfOk result (λ _. here.depth < 200) }
     {
+        let Here { at, depth, line } = here;
         let scope = names_at(&self.blocks, at);
         condition(&mut self.numbers, Context { alloc, scope, line }, depth, e)
     }
@@ -96,16 +89,15 @@ impl<'t> Unfolder<'t> {
     pub fn assigned(
         &mut self,
         alloc: Global,
-        at: Position,
-        depth: u32,
-        line: u32,
+        here: Here,
         variables: &OneOrMore<Var>,
         values: &OneOrMore<Expr>,
     ) -> Result<Term, CheckFault>
-        ensures term { PerformsAt result self.old self.new at line depth
+        ensures term { PerformsAt result self.old self.new here
             (assignment_of variables.now values.now) }
         ensures kept { OpensNothing result self.old self.new }
     {
+        let Here { at, depth, line } = here;
         let scope = names_at(&self.blocks, at);
         assigning(
             &mut self.numbers,
@@ -117,17 +109,11 @@ impl<'t> Unfolder<'t> {
     }
 
     /// What an input unfolds to.
-    pub fn received(
-        &mut self,
-        alloc: Global,
-        at: Position,
-        depth: u32,
-        line: u32,
-        input: &Input,
-    ) -> Result<Term, CheckFault>
-        ensures term { PerformsAt result self.old self.new at line depth (input_action input.now) }
+    pub fn received(&mut self, alloc: Global, here: Here, input: &Input) -> Result<Term, CheckFault>
+        ensures term { PerformsAt result self.old self.new here (input_action input.now) }
         ensures kept { OpensNothing result self.old self.new }
     {
+        let Here { at, depth, line } = here;
         let scope = names_at(&self.blocks, at);
         receiving(
             &mut self.numbers,
@@ -141,16 +127,14 @@ impl<'t> Unfolder<'t> {
     pub fn output(
         &mut self,
         alloc: Global,
-        at: Position,
-        depth: u32,
-        line: u32,
+        here: Here,
         channel: &Var,
         outs: &OneOrMore<Out>,
     ) -> Result<Term, CheckFault>
-        ensures term { PerformsAt result self.old self.new at line depth
-            (output_of channel.now outs.now) }
+        ensures term { PerformsAt result self.old self.new here (output_of channel.now outs.now) }
         ensures kept { OpensNothing result self.old self.new }
     {
+        let Here { at, depth, line } = here;
         let scope = names_at(&self.blocks, at);
         outputting(
             &mut self.numbers,

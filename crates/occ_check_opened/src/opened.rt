@@ -9,8 +9,8 @@ ghost use Rattle.occ_check_opened.specs.Opened.{IsReady, IsStepReady, around, ea
 ghost use Rattle.occ_check_opened.specs.declared.unfolder.Unfolder.{Unfolder};
 
 use crate::entering::headed;
+use crate::here::Here;
 use occ_check_names::fault::CheckFault;
-use occ_check_names::scope::Position;
 use occ_term::{
     Arm as TermArm, Choice as TermChoice, Declaration, Place, Primitive, Protocol, Replicator,
     Term, TermExpr,
@@ -20,15 +20,13 @@ use occ_tree_grammar::tree::process::{Arm, Choice, Process, Selection, Variant};
 use sqlite_items::{Boxed, Items};
 use std::alloc::{AllocError, Global};
 
-/// A statement whose first steps are done: what is left of it, and where and how deep that stands.
+/// A statement whose first steps are done: what is left of it, and where that stands.
 #[derive(Drop)]
 pub struct Opened<'t> {
     /// What is left.
     pub left: Left<'t>,
-    /// The position at which it is read.
-    pub at: Position,
-    /// How many nodes stand round it.
-    pub depth: u32,
+    /// Where that stands.
+    pub here: Here,
 }
 
 /// What is left of a statement, and what it is put into.
@@ -57,8 +55,8 @@ pub enum Left<'t> {
 /// A process whose first steps are done.
 #[derive(Drop)]
 pub enum Step<'t> {
-    /// It does what a body does that it calls, at this position and depth, and nothing beside.
-    Call(&'t Process, Position, u32),
+    /// It does what a body does that it calls, which stands here, and nothing beside.
+    Call(&'t Process, Here),
     /// A statement is left, behind what is set for declarations.
     Behind(Items<Declaration>, Opened<'t>),
 }
@@ -164,18 +162,18 @@ impl<'t> Opened<'t> {
         ensures weight { (u : Unfolder) → step_weight u result ≡ left_weight u self.entry }
         ensures ready { IsReady self.entry → IsStepReady result }
     {
-        let Opened { left, at, depth } = self;
+        let Opened { left, here } = self;
         match left {
             Left::Body(around, body) => {
                 if heads.is_empty() {
                     if around.is_nothing() {
-                        return Step::Call(body, at, depth);
+                        return Step::Call(body, here);
                     }
                 }
                 let left = Left::Body(around, body);
-                Step::Behind(heads, Opened { left, at, depth })
+                Step::Behind(heads, Opened { left, here })
             }
-            left => Step::Behind(heads, Opened { left, at, depth }),
+            left => Step::Behind(heads, Opened { left, here }),
         }
     }
 }

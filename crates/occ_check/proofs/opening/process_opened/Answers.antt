@@ -14,55 +14,55 @@ use Rattle.occ_check.proofs.opening.process_opened.Goals as goal
 
 pub returns-in_err-heads-clause-step : goal.returns-in_err-heads-clause-step
 returns-in_err-heads-clause-step c =
-    let refused : Refuses c.in_err-heads.field-0.0 (unfolded (process_of c.args.process.now) (meant_at c.args.unfolder.now c.args.at) c.args.depth (counted c.args.unfolder.now)) =
+    let refused : Refuses c.in_err-heads.field-0.0 (unfolded (process_of c.args.process.now) (meant_at c.args.unfolder.now c.args.here.at) c.args.here.depth (counted c.args.unfolder.now)) =
     refused_with c.in_err-heads.field-0.0 _ _
-    (heads_refused c.args.process.now (scope_at c.args.unfolder.now c.args.at) (innermost (reverse c.open.new.self.blocks.items)) c.args.depth (counted c.args.unfolder.now)
+    (heads_refused c.args.process.now (scope_at c.args.unfolder.now c.args.here.at) (innermost (reverse c.open.new.self.blocks.items)) c.args.here.depth (counted c.args.unfolder.now)
     (decls (map decl_of c.declarations_of.result.now)) c.line_of-line.result c.statement_of-statement.result.now c.declarations_of.ensures c.line_of-line.ensures c.statement_of-statement.ensures c.in_ok-open.ensures.scope)
     c.in_err-heads.ensures.entered in
     search rules
 
-pub returns-in_err-deep-clause-step : goal.returns-in_err-deep-clause-step
-returns-in_err-deep-clause-step c =
-    let refused : Refuses c.in_err-deep.field-0.0 (unfolded (process_of c.args.process.now) (meant_at c.args.unfolder.now c.args.at) c.args.depth (counted c.args.unfolder.now)) =
-    refused_with c.in_err-deep.field-0.0 _ _
-    (opening_refused c.args.process.now (scope_at c.args.unfolder.now c.args.at) (innermost (reverse c.open.new.self.blocks.items)) c.args.depth (counted c.args.unfolder.now)
+pub returns-in_err-depth-clause-step : goal.returns-in_err-depth-clause-step
+returns-in_err-depth-clause-step c =
+    let refused : Refuses c.in_err-depth.field-0.0 (unfolded (process_of c.args.process.now) (meant_at c.args.unfolder.now c.args.here.at) c.args.here.depth (counted c.args.unfolder.now)) =
+    refused_with c.in_err-depth.field-0.0 _ _
+    (opening_refused c.args.process.now (scope_at c.args.unfolder.now c.args.here.at) (innermost (reverse c.open.new.self.blocks.items)) c.args.here.depth (counted c.args.unfolder.now)
     (decls (map decl_of c.declarations_of.result.now)) c.line_of-line.result c.statement_of-statement.result.now c.declarations_of.ensures c.line_of-line.ensures c.statement_of-statement.ensures c.in_ok-open.ensures.scope
-    (declarations_of c.in_ok-heads.heads) (counted c.declared.new.self) (innermost_at c.declared.new.self) (scope_at c.declared.new.self c.end-inside.result) c.end-inside.ensures.scope
+    (declarations_of c.in_ok-heads.heads) (counted c.declared.new.self) (innermost_at c.declared.new.self) (scope_at c.declared.new.self c.end-at.result) c.end-at.ensures.scope
     c.in_ok-heads.ensures.entered)
-    (rw c.as_slice.ensures at c.in_err-deep.ensures.opening) in
+    (rw c.as_slice.ensures at c.in_err-depth.ensures.opening) in
     search rules
 
 pub returns-in_err-opened-clause-step : goal.returns-in_err-opened-clause-step
 returns-in_err-opened-clause-step c =
-    let opens : opening (declarations_of c.in_ok-heads.heads) c.args.depth (counted c.declared.new.self) ≡ Some (c.in_ok-deep.deep, counted c.opened.new.self) = rw c.as_slice.ensures at c.in_ok-deep.ensures.opening in
-    let refused : Refuses c.in_err-opened.field-0.0 (unfolded (process_of c.args.process.now) (meant_at c.args.unfolder.now c.args.at) c.args.depth (counted c.args.unfolder.now)) =
+    let opens : opening (declarations_of c.in_ok-heads.heads) c.args.here.depth (counted c.declared.new.self) ≡ Some (c.in_ok-depth.depth, counted c.opened.new.self) = rw c.as_slice.ensures at c.in_ok-depth.ensures.opening in
+    let refused : Refuses c.in_err-opened.field-0.0 (unfolded (process_of c.args.process.now) (meant_at c.args.unfolder.now c.args.here.at) c.args.here.depth (counted c.args.unfolder.now)) =
     refused_with c.in_err-opened.field-0.0 _ _
-    (λ none. statement_behind c.args.process.now (scope_at c.args.unfolder.now c.args.at) (innermost (reverse c.open.new.self.blocks.items)) c.args.depth (counted c.args.unfolder.now)
+    (λ none. statement_behind c.args.process.now (scope_at c.args.unfolder.now c.args.here.at) (innermost (reverse c.open.new.self.blocks.items)) c.args.here.depth (counted c.args.unfolder.now)
     (decls (map decl_of c.declarations_of.result.now)) c.line_of-line.result c.statement_of-statement.result.now c.declarations_of.ensures c.line_of-line.ensures c.statement_of-statement.ensures c.in_ok-open.ensures.scope
-    (declarations_of c.in_ok-heads.heads) (counted c.declared.new.self) (innermost_at c.declared.new.self) (scope_at c.opened.new.self c.end-inside.result)
-    (ap (λ f. scope_in (reverse f.blocks.items) c.end-inside.result) c.in_ok-deep.ensures.kept ∙ c.end-inside.ensures.scope)
-    c.in_ok-heads.ensures.entered c.in_ok-deep.deep (counted c.opened.new.self) opens
+    (declarations_of c.in_ok-heads.heads) (counted c.declared.new.self) (innermost_at c.declared.new.self) (scope_at c.opened.new.self c.end-at.result)
+    (ap (λ f. scope_in (reverse f.blocks.items) c.end-at.result) c.in_ok-depth.ensures.kept ∙ c.end-at.ensures.scope)
+    c.in_ok-heads.ensures.entered c.in_ok-depth.depth (counted c.opened.new.self) opens
     ∙ ap (put (headed (declarations_of c.in_ok-heads.heads))) none)
     c.in_err-opened.ensures.opens in
     search rules
 
 pub returns-clause-step : goal.returns-clause-step
 returns-clause-step c =
-    let opens : opening (declarations_of c.in_ok-heads.heads) c.args.depth (counted c.declared.new.self) ≡ Some (c.in_ok-deep.deep, counted c.opened.new.self) = rw c.as_slice.ensures at c.in_ok-deep.ensures.opening in
-    statement_behind c.args.process.now (scope_at c.args.unfolder.now c.args.at) (innermost (reverse c.open.new.self.blocks.items)) c.args.depth (counted c.args.unfolder.now)
+    let opens : opening (declarations_of c.in_ok-heads.heads) c.args.here.depth (counted c.declared.new.self) ≡ Some (c.in_ok-depth.depth, counted c.opened.new.self) = rw c.as_slice.ensures at c.in_ok-depth.ensures.opening in
+    statement_behind c.args.process.now (scope_at c.args.unfolder.now c.args.here.at) (innermost (reverse c.open.new.self.blocks.items)) c.args.here.depth (counted c.args.unfolder.now)
     (decls (map decl_of c.declarations_of.result.now)) c.line_of-line.result c.statement_of-statement.result.now c.declarations_of.ensures c.line_of-line.ensures c.statement_of-statement.ensures c.in_ok-open.ensures.scope
-    (declarations_of c.in_ok-heads.heads) (counted c.declared.new.self) (innermost_at c.declared.new.self) (scope_at c.opened.new.self c.end-inside.result)
-    (ap (λ f. scope_in (reverse f.blocks.items) c.end-inside.result) c.in_ok-deep.ensures.kept ∙ c.end-inside.ensures.scope)
-    c.in_ok-heads.ensures.entered c.in_ok-deep.deep (counted c.opened.new.self) opens
+    (declarations_of c.in_ok-heads.heads) (counted c.declared.new.self) (innermost_at c.declared.new.self) (scope_at c.opened.new.self c.end-at.result)
+    (ap (λ f. scope_in (reverse f.blocks.items) c.end-at.result) c.in_ok-depth.ensures.kept ∙ c.end-at.ensures.scope)
+    c.in_ok-heads.ensures.entered c.in_ok-depth.depth (counted c.opened.new.self) opens
     ∙ ap (put (headed (declarations_of c.in_ok-heads.heads))) c.in_ok-opened.ensures.opens
     ∙ sym (c.behind.ensures.left c.statement_opened.new.unfolder)
 
 pub returns-clause-weight : goal.returns-clause-weight
 returns-clause-weight c =
     let u = c.statement_opened.new.unfolder in
-    let less = smaller c.args.process.now (scope_at c.args.unfolder.now c.args.at) (innermost (reverse c.open.new.self.blocks.items)) (scope_at c.opened.new.self c.end-inside.result) (innermost_at c.declared.new.self)
+    let less = smaller c.args.process.now (scope_at c.args.unfolder.now c.args.here.at) (innermost (reverse c.open.new.self.blocks.items)) (scope_at c.opened.new.self c.end-at.result) (innermost_at c.declared.new.self)
     (decls (map decl_of c.declarations_of.result.now)) c.statement_of-statement.result.now c.declarations_of.ensures c.statement_of-statement.ensures c.in_ok-open.ensures.scope
-    (ap (λ f. scope_in (reverse f.blocks.items) c.end-inside.result) c.in_ok-deep.ensures.kept ∙ c.end-inside.ensures.scope) c.in_ok-heads.ensures.weight in
+    (ap (λ f. scope_in (reverse f.blocks.items) c.end-at.result) c.in_ok-depth.ensures.kept ∙ c.end-at.ensures.scope) c.in_ok-heads.ensures.weight in
     let same : step_weight u c.behind.result ≡ left_weight u c.in_ok-opened.opened = c.behind.ensures.weight u in
-    let light : left_weight u c.in_ok-opened.opened ≤ statement_size c.statement_of-statement.result.now + weight_at c.opened.new.self c.end-inside.result = c.in_ok-opened.ensures.weight in
+    let light : left_weight u c.in_ok-opened.opened ≤ statement_size c.statement_of-statement.result.now + weight_at c.opened.new.self c.end-at.result = c.in_ok-opened.ensures.weight in
     omega (arith, less, same, light)

@@ -10,4 +10,4 @@ use Rattle.occ_check_arms.proofs.guards.guarding_at.Goals as goal
 pub returns-clause-guard : goal.returns-clause-guard
 returns-clause-guard c =
     subst (λ ns. Unfolds (λ g. (boolean_of g.test, (place_of g.channel, listed_of g.listed))) c.guarding.result c.guarding.new.numbers
-    (guarding ns c.args.line c.args.depth (option_map tree_of c.args.test.now) (input_of c.args.input.now) (numbers_of c.args.unfolder.now.numbers))) c.names_at-scope.ensures c.guarding.ensures.guard
+    (guarding ns c.args.here.line c.args.here.depth (option_map tree_of c.args.test.now) (input_of c.args.input.now) (numbers_of c.args.unfolder.now.numbers))) c.names_at-scope.ensures c.guarding.ensures.guard

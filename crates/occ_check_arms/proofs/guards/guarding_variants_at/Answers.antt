@@ -9,4 +9,4 @@ use Rattle.occ_check_arms.proofs.guards.guarding_variants_at.Goals as goal
 pub returns-clause-guard : goal.returns-clause-guard
 returns-clause-guard c =
     subst (λ ns. Unfolds (λ g. (boolean_of g.0, (g.1, place_of g.2))) c.guarding_variants.result c.guarding_variants.new.numbers
-    (guarding_variants ns c.args.line c.args.depth (option_map tree_of c.args.guard.now.condition) (var_of c.args.guard.now.channel) (numbers_of c.args.unfolder.now.numbers))) c.names_at-scope.ensures c.guarding_variants.ensures.guard
+    (guarding_variants ns c.args.here.line c.args.here.depth (option_map tree_of c.args.guard.now.condition) (var_of c.args.guard.now.channel) (numbers_of c.args.unfolder.now.numbers))) c.names_at-scope.ensures c.guarding_variants.ensures.guard

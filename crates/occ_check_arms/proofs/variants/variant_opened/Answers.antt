@@ -16,12 +16,12 @@ returns-clause-opens c =
     subst (Opens variant_left c.tagged_opened.result c.tagged_opened.new.unfolder)
     (sym (variant_form c.args.variant.now (decls (map decl_of c.declarations_of-declarations.result.now)) c.line_of-line.result (map lines.target_of c.targets_of-targets.result.now) c.body_of-body.result.now
     c.declarations_of-declarations.ensures c.line_of-line.ensures c.targets_of-targets.ensures c.body_of-body.ensures
-    c.args.protocol.now c.args.tag (meant_at c.args.unfolder.now c.args.at) c.args.depth (counted c.args.unfolder.now)))
+    c.args.protocol.now c.args.tag (meant_at c.args.unfolder.now c.args.here.at) c.args.here.depth (counted c.args.unfolder.now)))
     c.tagged_opened.ensures.opens
 
 pub returns-clause-weight : goal.returns-clause-weight
 returns-clause-weight c =
     let size = variant_size c.args.variant.now (decls (map decl_of c.declarations_of-declarations.result.now)) c.line_of-line.result (map lines.target_of c.targets_of-targets.result.now) c.body_of-body.result.now
     c.declarations_of-declarations.ensures c.line_of-line.ensures c.targets_of-targets.ensures c.body_of-body.ensures in
-    lighter_on c.tagged_opened.result (λ (o : OpenedVariant). node_size (process_of o.body.now) + weight_at c.tagged_opened.new.unfolder o.at) ((decls_size (decls (map decl_of c.declarations_of-declarations.result.now)) + node_size (process_of c.body_of-body.result.now)) + weight_at c.args.unfolder.now c.args.at)
-    (node_size (variant_of c.args.variant.now) + weight_at c.args.unfolder.now c.args.at) (omega (arith, size)) c.tagged_opened.ensures.weight
+    lighter_on c.tagged_opened.result (λ (o : OpenedVariant). node_size (process_of o.body.now) + weight_at c.tagged_opened.new.unfolder o.here.at) ((decls_size (decls (map decl_of c.declarations_of-declarations.result.now)) + node_size (process_of c.body_of-body.result.now)) + weight_at c.args.unfolder.now c.args.here.at)
+    (node_size (variant_of c.args.variant.now) + weight_at c.args.unfolder.now c.args.here.at) (omega (arith, size)) c.tagged_opened.ensures.weight

@@ -15,8 +15,8 @@ use Rattle.occ_check_copies.proofs.copies.copies_opened.Goals as goal
 
 pub returns-in_err-first-clause-opens : goal.returns-in_err-first-clause-opens
 returns-in_err-first-clause-opens c =
-    let refused : Refuses c.in_err-first.field-0.0 (performs.copies_beside c.args.line (lines.replicator_of c.args.replicator.now) (unfolded (process_of c.args.body.now)) (meant_at c.args.unfolder.now c.args.at) c.args.depth (counted c.args.unfolder.now)) =
-    counting_refused c.args.line (lines.replicator_of c.args.replicator.now) (process_of c.args.body.now) (meant_at c.args.unfolder.now c.args.at) c.args.depth (counted c.args.unfolder.now) c.in_err-first.field-0.0 c.in_err-first.ensures.counted in
+    let refused : Refuses c.in_err-first.field-0.0 (performs.copies_beside c.args.here.line (lines.replicator_of c.args.replicator.now) (unfolded (process_of c.args.body.now)) (meant_at c.args.unfolder.now c.args.here.at) c.args.here.depth (counted c.args.unfolder.now)) =
+    counting_refused c.args.here.line (lines.replicator_of c.args.replicator.now) (process_of c.args.body.now) (meant_at c.args.unfolder.now c.args.here.at) c.args.here.depth (counted c.args.unfolder.now) c.in_err-first.field-0.0 c.in_err-first.ensures.counted in
     search rules
 
 pub returns-clause-opens : goal.returns-clause-opens
@@ -26,6 +26,6 @@ returns-clause-opens c =
     let first = c.in_ok-first.first in
     let count = c.in_ok-first.count in
     let fits : SFits w64 c.in_ok-first.first = search rules in
-    copies_open c.args.line r p (meant_at c.args.unfolder.now c.args.at) c.args.depth (counted c.args.unfolder.now) first count (counted c.copies_counted_at.new.unfolder) c.in_ok-first.ensures.counted
-    ∙ ap (λ f. put T.Par (copied (copy_for r p (meant (scope_in (reverse f.blocks.items) c.args.at)) (c.args.depth + 1)) count first (counted c.copies_counted_at.new.unfolder))) (sym c.in_ok-first.ensures.kept)
-    ∙ ap (λ (v : ℤ). put T.Par (copied (copy_for r p (meant (scope_in (reverse c.copies_counted_at.new.unfolder.blocks.blocks.items) c.args.at)) (c.args.depth + 1)) count v (counted c.copies_counted_at.new.unfolder))) (sym (to_z-of_z w64 first fits))
+    copies_open c.args.here.line r p (meant_at c.args.unfolder.now c.args.here.at) c.args.here.depth (counted c.args.unfolder.now) first count (counted c.copies_counted_at.new.unfolder) c.in_ok-first.ensures.counted
+    ∙ ap (λ f. put T.Par (copied (copy_for r p (meant (scope_in (reverse f.blocks.items) c.args.here.at)) (c.args.here.depth + 1)) count first (counted c.copies_counted_at.new.unfolder))) (sym c.in_ok-first.ensures.kept)
+    ∙ ap (λ (v : ℤ). put T.Par (copied (copy_for r p (meant (scope_in (reverse c.copies_counted_at.new.unfolder.blocks.blocks.items) c.args.here.at)) (c.args.here.depth + 1)) count v (counted c.copies_counted_at.new.unfolder))) (sym (to_z-of_z w64 first fits))

@@ -16,7 +16,7 @@ use Rattle.occ_check_copies.proofs.copies.copy_opened.Goals as goal
 
 pub returns-in_err-number-clause-opens : goal.returns-in_err-number-clause-opens
 returns-in_err-number-clause-opens c =
-    let u = copy_for (lines.replicator_of c.args.replicator.now) (process_of c.args.body.now) (meant_at c.args.unfolder.now c.args.at) c.args.depth in
+    let u = copy_for (lines.replicator_of c.args.replicator.now) (process_of c.args.body.now) (meant_at c.args.unfolder.now c.args.here.at) c.args.here.depth in
     let refused : Refuses c.in_err-number.field-0.0 (numbered_copy u c.args.value (counted c.args.unfolder.now)) = no_number_left u c.args.value (counted c.args.unfolder.now) _ c.in_err-number.ensures.counts in
     search rules
 
@@ -24,13 +24,13 @@ pub returns-clause-opens : goal.returns-clause-opens
 returns-clause-opens c =
     let r = lines.replicator_of c.args.replicator.now in
     let p = process_of c.args.body.now in
-    let u = copy_for r p (meant_at c.args.unfolder.now c.args.at) c.args.depth in
-    let scope : meant_at c.at_value.new.unfolder c.in_ok-inside.inside ≡ within (index_of r c.args.value) (meant_at c.args.unfolder.now c.args.at) =
-    subst (λ (v : ℤ). meant_at c.at_value.new.unfolder c.in_ok-inside.inside ≡ within (index_of r v) (meant_at c.args.unfolder.now c.args.at)) (to_z-of_z w64 c.args.value c.ranges.value) c.in_ok-inside.ensures.scope in
+    let u = copy_for r p (meant_at c.args.unfolder.now c.args.here.at) c.args.here.depth in
+    let scope : meant_at c.at_value.new.unfolder c.in_ok-at.at ≡ within (index_of r c.args.value) (meant_at c.args.unfolder.now c.args.here.at) =
+    subst (λ (v : ℤ). meant_at c.at_value.new.unfolder c.in_ok-at.at ≡ within (index_of r v) (meant_at c.args.unfolder.now c.args.here.at)) (to_z-of_z w64 c.args.value c.ranges.value) c.in_ok-at.ensures.scope in
     copy_opens u c.args.value (counted c.args.unfolder.now) (numbers_of c.more_processes.new.self) c.in_ok-number.ensures.counts
-    ∙ ap (λ sc. put (λ t. T.and_branch (counted c.args.unfolder.now).processes t) (unfolded p sc c.args.depth (numbers_of c.more_processes.new.self))) (sym scope)
-    ∙ ap (λ n. put (λ t. T.and_branch (counted c.args.unfolder.now).processes t) (unfolded p (meant_at c.at_value.new.unfolder c.in_ok-inside.inside) c.args.depth (numbers_of n))) (sym c.in_ok-inside.ensures.numbers)
-    ∙ ap (λ k. put (λ t. T.and_branch k t) (unfolded p (meant_at c.at_value.new.unfolder c.in_ok-inside.inside) c.args.depth (counted c.at_value.new.unfolder))) (search rules)
+    ∙ ap (λ sc. put (λ t. T.and_branch (counted c.args.unfolder.now).processes t) (unfolded p sc c.args.here.depth (numbers_of c.more_processes.new.self))) (sym scope)
+    ∙ ap (λ n. put (λ t. T.and_branch (counted c.args.unfolder.now).processes t) (unfolded p (meant_at c.at_value.new.unfolder c.in_ok-at.at) c.args.here.depth (numbers_of n))) (sym c.in_ok-at.ensures.numbers)
+    ∙ ap (λ k. put (λ t. T.and_branch k t) (unfolded p (meant_at c.at_value.new.unfolder c.in_ok-at.at) c.args.here.depth (counted c.at_value.new.unfolder))) (search rules)
 
 pub returns-clause-weight : goal.returns-clause-weight
-returns-clause-weight c = ap (λ w. node_size (process_of c.args.body.now) + w) c.in_ok-inside.ensures.weight
+returns-clause-weight c = ap (λ w. node_size (process_of c.args.body.now) + w) c.in_ok-at.ensures.weight

@@ -18,12 +18,12 @@ pub returns-in_err-opened-clause-call : goal.returns-in_err-opened-clause-call
 returns-in_err-opened-clause-call c =
     let u = c.args.self.now in
     let outer = scope_is c.scope-2.result u.blocks.blocks.items c.args.outer c.scope-2.ensures.0 c.scope-2.ensures.1 in
-    let inner = scope_is c.scope.result u.blocks.blocks.items c.args.at c.scope.ensures.0 c.scope.ensures.1 in
+    let inner = scope_is c.scope.result u.blocks.blocks.items c.args.here.at c.scope.ensures.0 c.scope.ensures.1 in
     let refused : Refuses c.in_err-opened.field-0.0
-    (meaning_of (procedure_of c.args.procedure) (meant_at u c.args.outer) (names_of (meant_at u c.args.at)) c.args.line c.args.depth (actuals_of c.args.actuals.now) (counted u)) =
+    (meaning_of (procedure_of c.args.procedure) (meant_at u c.args.outer) (names_of (meant_at u c.args.here.at)) c.args.here.line c.args.here.depth (actuals_of c.args.actuals.now) (counted u)) =
     refused_with c.in_err-opened.field-0.0 _ _
-    (call_refused (scope_at u c.args.at) (scope_at u c.args.outer) c.args.line c.args.procedure.line c.args.depth (c.args.depth + 1) (formals_of c.args.procedure.formals.now) (process_of c.args.procedure.body.now)
-    (actuals_of c.args.actuals.now) (counted u) (names_in c.scope.result) (names_in c.scope-2.result) (names_are c.scope.result (scope_at u c.args.at) inner) (names_are c.scope-2.result (scope_at u c.args.outer) outer) refl)
+    (call_refused (scope_at u c.args.here.at) (scope_at u c.args.outer) c.args.here.line c.args.procedure.line c.args.here.depth (c.args.here.depth + 1) (formals_of c.args.procedure.formals.now) (process_of c.args.procedure.body.now)
+    (actuals_of c.args.actuals.now) (counted u) (names_in c.scope.result) (names_in c.scope-2.result) (names_are c.scope.result (scope_at u c.args.here.at) inner) (names_are c.scope-2.result (scope_at u c.args.outer) outer) refl)
     c.in_err-opened.ensures in
     search rules
 
@@ -31,9 +31,9 @@ pub returns-clause-call : goal.returns-clause-call
 returns-clause-call c =
     let u = c.args.self.now in
     let outer = scope_is c.scope-2.result u.blocks.blocks.items c.args.outer c.scope-2.ensures.0 c.scope-2.ensures.1 in
-    let inner = scope_is c.scope.result u.blocks.blocks.items c.args.at c.scope.ensures.0 c.scope.ensures.1 in
-    call_bound (scope_at u c.args.at) (scope_at u c.args.outer) c.args.line c.args.procedure.line c.args.depth (c.args.depth + 1) (formals_of c.args.procedure.formals.now) (process_of c.args.procedure.body.now)
-    (actuals_of c.args.actuals.now) (counted u) (names_in c.scope.result) (names_in c.scope-2.result) (names_are c.scope.result (scope_at u c.args.at) inner) (names_are c.scope-2.result (scope_at u c.args.outer) outer) refl
+    let inner = scope_is c.scope.result u.blocks.blocks.items c.args.here.at c.scope.ensures.0 c.scope.ensures.1 in
+    call_bound (scope_at u c.args.here.at) (scope_at u c.args.outer) c.args.here.line c.args.procedure.line c.args.here.depth (c.args.here.depth + 1) (formals_of c.args.procedure.formals.now) (process_of c.args.procedure.body.now)
+    (actuals_of c.args.actuals.now) (counted u) (names_in c.scope.result) (names_in c.scope-2.result) (names_are c.scope.result (scope_at u c.args.here.at) inner) (names_are c.scope-2.result (scope_at u c.args.outer) outer) refl
     (pairs_of c.in_ok-opened.opened.names.items) (declarations_of c.in_ok-opened.opened.heads) (numbers_of c.formals_bound.new.numbers) (scope_in _ c.in_ok-inside.inside) c.in_ok-opened.ensures
     c.in_ok-inside.ensures.scope
 
