@@ -313,8 +313,8 @@ impl Tables {
         }
         set_entry(&mut self.offering, chan, Some(number));
         let message = scratch.take_message(tag);
-        let wait = Wait::Offers { chan, message };
-        rest(&mut self.tasks, &mut self.ready, place, number, wait);
+        let offer = Wait::Offers { chan, message };
+        rest(&mut self.tasks, &mut self.ready, place, number, offer);
         Ok(())
     }
 

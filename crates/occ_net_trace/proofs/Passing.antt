@@ -5,7 +5,7 @@ use Rattle.occ_term.specs.declared.communication.Communication.{Communication}
 use Rattle.occ_net_trace.specs.declared.shapes.Head.{Head}
 use Rattle.occ_net_trace.specs.declared.shapes.Shape.{Shape}
 use Rattle.occ_net_trace.specs.Flat.{communications_in, items_in, lengths_behind, made, shapes_behind, words_behind}
-use Rattle.occ_net_trace.specs.Passing.{AreElsewhere, HeadsElsewhere, IsFirstOn, PassesTo}
+use Rattle.occ_net_trace.specs.Passing.{AreElsewhere, HeadsElsewhere, IsFirstOn, FindsNext}
 use Rattle.occ_net_trace.proofs.Reading.{few_read}
 
 pub elsewhere_read : (c : ℕ) (hs : List Head) (ss : List Shape) (ns : List ℕ) (ws : List ℤ) → HeadsElsewhere c hs → AreElsewhere c (communications_in hs ss ns ws)
@@ -56,7 +56,7 @@ take_drop (suc k) (x ∷ xs) = ap (λ l. x ∷ l) (take_drop k xs)
 pub passes_to : (c : ℕ) (hs : List Head) (all old : List Communication) (k : ℕ) (first : IsFirstOn c hs k) (h : Head) (ss : List Shape) (ns : List ℕ) (ws : List ℤ) (heads : List Head) (shapes : List Shape) (lengths : List ℕ) (words : List ℤ)
     → h ≡ first.head → communications_in (drop k hs) ss ns ws ≡ drop k all → AreElsewhere c (take k all) → all ≡ old
     → heads ≡ drop (k + 1) hs → shapes ≡ shapes_behind ss → lengths ≡ lengths_behind ss ns → words ≡ words_behind ss ns ws
-    → PassesTo c old (made h (items_in ss ns ws)) (communications_in heads shapes lengths words)
+    → FindsNext c old (made h (items_in ss ns ws)) (communications_in heads shapes lengths words)
 passes_to c hs all old k first h ss ns ws heads shapes lengths words same read none is e f g i =
     let at : k + 1 ≡ suc k = omega arith in
     let left : communications_in (drop (suc k) hs) (shapes_behind ss) (lengths_behind ss ns) (words_behind ss ns ws) ≡ communications_in heads shapes lengths words =

@@ -12,7 +12,7 @@ AreElsewhere c [] = ⊤
 AreElsewhere c (x ∷ xs) = (x.chan ≢ c) × AreElsewhere c xs
 
 -- this is the first of them on the channel, and these stand behind it
-pub record PassesTo (c : ℕ) (old : List Communication) (x : Communication) (new : List Communication) : Type 0 where
+pub record FindsNext (c : ℕ) (old : List Communication) (x : Communication) (new : List Communication) : Type 0 where
   pub passed : List Communication
   pub elsewhere : AreElsewhere c passed
   pub there : old ≡ passed ++ x ∷ new

@@ -2,7 +2,7 @@
 ghost use Rattle.std.specs.Prelude.{◌≡◌, ◌↔◌, ◌<◌, ◌^◌, [], IfNone, IfOk, IfSome, IsTrue, length, take};
 ghost use Rattle.std.specs.Iterator.{YieldsFirst, item_count};
 ghost use Rattle.occ_net_trace.specs.Kept.{communications_from};
-ghost use Rattle.occ_net_trace.specs.Passing.{AreElsewhere, HeadsElsewhere, IsFirstOn, PassesTo};
+ghost use Rattle.occ_net_trace.specs.Passing.{AreElsewhere, HeadsElsewhere, IsFirstOn, FindsNext};
 
 use crate::messages::MessageView;
 use crate::news::behind;
@@ -135,7 +135,7 @@ impl<'a> Entries<'a> {
     /// The next of them that is on this channel, if there is one: then neither it nor what stood before it is among them any
     /// more.
     pub fn next_on(&mut self, chan: u32) -> Option<Entry<'a>>
-        ensures some { IfSome result (λ e. PassesTo chan self.old e self.new) }
+        ensures some { IfSome result (λ e. FindsNext chan self.old e self.new) }
         ensures none { IfNone result (AreElsewhere chan self.old) }
     {
         let place = place_on(self.heads, chan)?;

@@ -4,7 +4,7 @@ use Rattle.std.specs.Prelude.{if◌then◌else◌, nat_eq}
 use Rattle.std.proofs.lemmas.Bool.{eq-eqb, eqb-true}
 use Rattle.occ_term.specs.Runs.{bytes_in, bytes_of, messages_on}
 use Rattle.occ_term.specs.declared.communication.Communication.{Communication as Made}
-use Rattle.occ_net_trace.specs.Passing.{AreElsewhere, PassesTo}
+use Rattle.occ_net_trace.specs.Passing.{AreElsewhere, FindsNext}
 use Rattle.occ_shown.specs.Answers.{AreByteMessages, IsByteMessage}
 
 -- those that are elsewhere give none
@@ -36,7 +36,7 @@ pub bytes_off : (c : ℕ) (xs : List Made) → AreElsewhere c xs → bytes_of (m
 bytes_off c xs h = ap bytes_of (messages_off c xs h)
 
 -- What stands at x is the first on the channel, and what stands in new is behind it.
-module _ (c : ℕ) (old : List Made) (x : Made) (new : List Made) (p : PassesTo c old x new) where
+module _ (c : ℕ) (old : List Made) (x : Made) (new : List Made) (p : FindsNext c old x new) where
   pub bytes_next : bytes_of (messages_on c old) ≡ bytes_in x.message.items ++ bytes_of (messages_on c new)
   bytes_next = ap (λ l. bytes_of (messages_on c l)) p.there ∙ ap bytes_of (messages_next c p.passed x new p.elsewhere p.on)
 
