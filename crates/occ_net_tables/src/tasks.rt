@@ -78,8 +78,10 @@ pub(crate) fn set_wait(tasks: &mut Vec<Option<Task>>, number: u32, wait: Wait)
     ensures { WaitSet tasks.old.items number wait tasks.new.items }
 {
     match &mut tasks[number as usize] {
-        Some(task) => match mem::replace(&mut task.wait, wait) {
-            Wait::Ready | Wait::Awaits { .. } => {}
+        // in each arm it is known that nothing is let go
+        Some(task) => match &task.wait {
+            Wait::Ready => task.wait = wait,
+            Wait::Awaits { .. } => task.wait = wait,
             _ => unreachable!(),
         },
         None => unreachable!(),
