@@ -1,4 +1,6 @@
 pub mod ReadyLists
+pub mod Moves
+pub mod LightWaits
 pub mod OneChange
 pub mod Steps
 pub mod Arms

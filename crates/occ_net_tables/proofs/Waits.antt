@@ -16,6 +16,7 @@ use Rattle.occ_net_tables.specs.declared.tables.Tables.{Tables}
 use Rattle.occ_net_tables.specs.Holding.{AreTrue, AreSized}
 use Rattle.occ_net_tables.specs.Settling.{Mid, HasMid}
 use Rattle.occ_net_tables.specs.Keys.{set_all}
+use Rattle.occ_net_tables.specs.Light.{StandsLight}
 use Rattle.occ_net_tables.specs.Tasks.{IsThere}
 use Rattle.occ_net_tables.proofs.Between.{there_old, waiting_old}
 use Rattle.occ_net_tables.proofs.Keys.{all_length}
@@ -29,6 +30,9 @@ module _ (p : Program) (n : Tables) (number place : ℕ) (wait : Wait) (h : HasM
 
   pub there_of : IsThere n.tasks.items number
   there_of = record { task = made_ready h.after; there = there_old p h.keyboard n number place h.after h.net h.mid }
+
+  pub light_of : StandsLight n.tasks.items number
+  light_of = record { task = made_ready h.after; there = there_old p h.keyboard n number place h.after h.net h.mid; light = tt }
 
   pub within_of : place < vec_len n.ready
   within_of = let l = slice_get_within n.ready.items place number h.mid.at_place in omega (arith, l, n.ready.ok.0)

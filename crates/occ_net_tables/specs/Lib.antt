@@ -1,5 +1,6 @@
 pub mod Keys
 pub mod Endings
+pub mod Light
 pub mod Ready
 pub mod Tasks
 pub mod Choosing

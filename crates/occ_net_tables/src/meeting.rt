@@ -6,16 +6,18 @@ ghost use Rattle.occ_machine.specs.declared.task.Arm.{Arm};
 ghost use Rattle.occ_machine.specs.declared.task.Task.{Task};
 ghost use Rattle.occ_net_replay.specs.Replay.{byte_message};
 ghost use Rattle.occ_net_tables.specs.Choosing.{input_arm, keyboard_at};
+ghost use Rattle.occ_net_tables.specs.Light.{StandsLight};
 ghost use Rattle.occ_net_tables.specs.Room.{HasRoom};
-ghost use Rattle.occ_net_tables.specs.Settling.{GaveTo, HasSomeMid, IsOffering, IsTaking, IsTakingBy, LeavesChannels, NotesFirst, SettlesAnyhow, SettlesBy, SettlesOn, SettlesWith, TookByte, TookOffer, byte_on, outer_taker};
-ghost use Rattle.occ_net_tables.specs.Tasks.{IsOffered, IsThere, WaitSet};
+ghost use Rattle.occ_net_tables.specs.Settling.{GaveTo, HasSomeMid, IsOffering, IsTaking, IsTakingBy, LeavesChannels, NotesFirst, SettlesAnyhow, SettlesBy, SettlesOn, SettlesWith, TookByte, TookOffer, byte_on, offer_left, outer_taker};
+ghost use Rattle.occ_net_tables.specs.Tasks.{IsOffered, WaitSet};
 
 use crate::choosing::{choose_arm, set_arms};
 use crate::entries::{entry, set_entry};
-use crate::ready::insert;
+use crate::ready::{insert, take_out};
 use crate::tables::Tables;
-use crate::tasks::{set_wait, take_wait};
+use crate::tasks::{awaited, set_wait, take_wait};
 use occ_machine::{Arm, Indices, Task, Wait};
+use occ_proc::Scratch;
 use occ_term::{ERROR, End, Fault, KEYBOARD, Message, Part, Parts, Primitive, SCREEN};
 use sqlite_items::Items;
 use std::alloc::{AllocError, Global};
@@ -29,13 +31,13 @@ pub(crate) fn rest(
     number: u32,
     wait: Wait,
 )
-    requires there { IsThere tasks.old.items number }
+    requires there { StandsLight tasks.old.items number }
     requires within { place < vec_len ready.old }
     ensures tasks { WaitSet tasks.old.items number wait tasks.new.items }
     ensures ready { ready.new.items ≡ remove ready.old.items place }
     ensures room { vec_len ready.new < vec_capacity ready.new }
 {
-    ready.remove(place);
+    take_out(ready, place);
     set_wait(tasks, number, wait);
 }
 
@@ -85,6 +87,7 @@ fn one_byte(byte: u8) -> Message
 }
 
 /// The message that the process offers.
+#[inline(always)]
 fn offered(tasks: &[Option<Task>], giver: u32) -> &Message
     requires { (chan : ℕ) × IsOffering tasks.now giver chan }
     ensures { IsOffered tasks.now giver result.now }
@@ -154,6 +157,7 @@ fn first_of(noted: Option<Fault>, fault: Fault) -> Option<Fault>
 impl Tables {
     /// A process that waits for a message on this channel, where no other offer stands, leaves its
     /// channels. The arm by which it takes the message is handed out.
+    #[inline(never)]
     fn leave(&mut self, taker: u32, chan: u32, pick: u32) -> Arm
         requires { IsTaking self.old.tasks.items taker chan pick }
         ensures arm { IsTakingBy self.old.tasks.items taker chan pick result }
@@ -176,6 +180,7 @@ impl Tables {
     }
 
     /// The message goes to a process that waits for one on its channel.
+    #[inline(always)]
     fn give(
         &mut self,
         number: u32,
@@ -196,14 +201,20 @@ impl Tables {
             Err(refused) => return Err((message, refused)),
         }
         insert(&mut self.ready, taker);
+        if let Some(own) = awaited(&self.tasks, taker) {
+            set_entry(&mut self.awaiting, own, None);
+            set_wait(&mut self.tasks, taker, took(input_arm(own), Some(message)));
+            return Ok(());
+        }
         let arm = self.leave(taker, chan, pick);
         set_wait(&mut self.tasks, taker, took(arm, Some(message)));
         Ok(())
     }
 
     /// The process takes this byte, which is the keyboard's next one.
+    #[inline(never)]
     fn take_byte(&mut self, number: u32, arm: Arm, byte: u8) -> Result<(), AllocError>
-        requires there { IsThere self.old.tasks.items number }
+        requires there { StandsLight self.old.tasks.items number }
         requires counts { self.old.used + 1 < 2 ^ 64 }
         ensures ok { OnOk result (TookByte self.old number arm byte self.new) }
         ensures err { OnErr result (self.new ≡ self.old) }
@@ -217,8 +228,9 @@ impl Tables {
     }
 
     /// The process takes the message that another one offers.
+    #[inline(always)]
     fn take_from(&mut self, number: u32, giver: u32, chan: u32, arm: Arm) -> Result<(), AllocError>
-        requires there { IsThere self.old.tasks.items number }
+        requires there { StandsLight self.old.tasks.items number }
         requires offers { IsOffering self.old.tasks.items giver chan }
         requires apart { number ≢ giver }
         requires rising { IsRising self.old.ready.items }
@@ -270,7 +282,44 @@ impl Tables {
         Ok(())
     }
 
+    /// What the process offers is taken, or it waits until it is: the message that its turn left, with this tag where it has one.
+    #[inline(always)]
+    pub(crate) fn offer_left(
+        &mut self,
+        scratch: &mut Scratch,
+        place: usize,
+        number: u32,
+        chan: u32,
+        tag: Option<u32>,
+        pick: u32,
+    ) -> Result<(), AllocError>
+        requires mid { HasSomeMid self.old number place (offer_left chan tag scratch.old) }
+        requires room { HasRoom self.old 1 }
+        ensures { OnOk result
+            (SettlesBy pick number place (offer_left chan tag scratch.old) self.old self.new) }
+    {
+        if let Some(receiver) = reader(chan) {
+            let sender = End::Process(number);
+            let message = scratch.take_message(tag);
+            self.trace.push(chan, sender, receiver, &message)?;
+            return Ok(());
+        }
+        if let Some(taker) = entry(&self.awaiting, chan) {
+            let message = scratch.take_message(tag);
+            match self.give(number, taker, chan, message, pick) {
+                Ok(()) => return Ok(()),
+                Err((_, refused)) => return Err(refused),
+            }
+        }
+        set_entry(&mut self.offering, chan, Some(number));
+        let message = scratch.take_message(tag);
+        let offer = Wait::Offers { chan, message };
+        rest(&mut self.tasks, &mut self.ready, place, number, offer);
+        Ok(())
+    }
+
     /// The process takes a message that is there, or it waits for one.
+    #[inline(always)]
     pub(crate) fn await_on(
         &mut self,
         keyboard: &[u8],

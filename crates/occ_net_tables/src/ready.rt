@@ -1,11 +1,56 @@
 //! The numbers of the processes that may take a turn, in rising order.
-ghost use Rattle.std.specs.Prelude.{◌≡◌, ◌≤◌, ◌<◌, ◌+◌, ◌%◌, insert, length, vec_capacity, vec_len};
+ghost use Rattle.std.specs.Prelude.{◌≡◌, ◌≤◌, ◌<◌, ◌+◌, ◌%◌, insert, length, remove, vec_capacity, vec_len};
 ghost use Rattle.occ_machine.specs.SameStop.{IsRising};
 ghost use Rattle.occ_net_tables.specs.Ready.{put_in};
 ghost use Rattle.occ_net_tables.specs.Room.{HasOneMore};
 
+/// Of how many numbers at most each is moved by itself.
+const FEW: usize = 16;
+
 /// Puts a number among rising ones, where there is room for it.
+#[inline(always)]
 pub(crate) fn insert(ready: &mut Vec<u32>, number: u32)
+    requires rising { IsRising ready.old.items }
+    requires room { vec_len ready.old < vec_capacity ready.old }
+    ensures items { ready.new.items ≡ put_in number ready.old.items }
+    ensures room { HasOneMore ready.old ready.new }
+{
+    if ready.len() > FEW {
+        insert_far(ready, number);
+        return;
+    }
+    let mut at = ready.len();
+    ready.push_reserved(number);
+    while at > 0 && number <= ready[at - 1] {
+        ready[at] = ready[at - 1];
+        at -= 1;
+        ready[at] = number;
+    }
+}
+
+/// The number at this place is taken out.
+#[inline(always)]
+pub(crate) fn take_out(ready: &mut Vec<u32>, place: usize)
+    requires { place < vec_len ready.old }
+    ensures items { ready.new.items ≡ remove ready.old.items place }
+    ensures room { vec_len ready.new < vec_capacity ready.new }
+{
+    let last = ready.len() - 1;
+    if last - place > FEW {
+        ready.remove(place);
+        return;
+    }
+    let mut at = place;
+    while at < last {
+        ready[at] = ready[at + 1];
+        at += 1;
+    }
+    ready.take_last();
+}
+
+/// Puts a number among rising ones, with one search and one move of all that stand behind it.
+#[inline(never)]
+fn insert_far(ready: &mut Vec<u32>, number: u32)
     requires rising { IsRising ready.old.items }
     requires room { vec_len ready.old < vec_capacity ready.old }
     ensures items { ready.new.items ≡ put_in number ready.old.items }

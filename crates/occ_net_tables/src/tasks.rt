@@ -2,6 +2,7 @@
 ghost use Rattle.std.specs.Prelude.{◌≡◌, ◌↔◌, ◌+◌, ◌<◌, ◌≤◌, ◌^◌, IfOk, IsTrue, Some, length, slice_set};
 ghost use Rattle.occ_machine.specs.declared.task.Task.{Task};
 ghost use Rattle.occ_net_replay.specs.Replay.{HasTask};
+ghost use Rattle.occ_net_tables.specs.Light.{IsAwaited, StandsLight};
 ghost use Rattle.occ_net_tables.specs.Rows.{EndsRow, MayTakeRow};
 ghost use Rattle.occ_net_tables.specs.Tasks.{EndsTurn, IsThere, MayTakeTurn, WaitSet, WaitTaken};
 
@@ -70,14 +71,34 @@ pub(crate) fn is_ready(wait: &Wait) -> bool
     }
 }
 
-/// The process stands at this from now on.
+/// The process stands at this from now on. It stood at nothing that takes a block of memory.
 #[inline(always)]
 pub(crate) fn set_wait(tasks: &mut Vec<Option<Task>>, number: u32, wait: Wait)
-    requires { IsThere tasks.old.items number }
+    requires { StandsLight tasks.old.items number }
     ensures { WaitSet tasks.old.items number wait tasks.new.items }
 {
     match &mut tasks[number as usize] {
-        Some(task) => task.wait = wait,
+        // in each arm it is known that nothing is let go
+        Some(task) => match &task.wait {
+            Wait::Ready => task.wait = wait,
+            Wait::Awaits { .. } => task.wait = wait,
+            _ => unreachable!(),
+        },
+        None => unreachable!(),
+    }
+}
+
+/// The channel on which the process awaits a message, if it does.
+#[inline(always)]
+pub(crate) fn awaited(tasks: &[Option<Task>], number: u32) -> Option<u32>
+    requires { IsThere tasks.now number }
+    ensures { IsAwaited tasks.now number result }
+{
+    match &tasks[number as usize] {
+        Some(task) => match &task.wait {
+            Wait::Awaits { chan } => Some(*chan),
+            _ => None,
+        },
         None => unreachable!(),
     }
 }

@@ -141,11 +141,7 @@ impl Tables {
             (SettlesBy pick number place (offer_left chan tag scratch.old) self.old self.new) }
     {
         self.make_room(1)?;
-        let message = scratch.take_message(tag);
-        match self.offer(place, number, chan, message, pick) {
-            Ok(()) => {}
-            Err((_, refused)) => return Err(refused),
-        }
+        self.offer_left(scratch, place, number, chan, tag, pick)?;
         Ok(())
     }
 

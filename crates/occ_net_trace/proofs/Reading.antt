@@ -155,7 +155,7 @@ on_ok (Err e) h f = h
 
 -- ---- the first ones
 
-few_read : (k : ℕ) (hs : List Head) (ss : List Shape) (ns : List ℕ) (ws : List ℤ) → communications_in (take k hs) ss ns ws ≡ take k (communications_in hs ss ns ws)
+pub few_read : (k : ℕ) (hs : List Head) (ss : List Shape) (ns : List ℕ) (ws : List ℤ) → communications_in (take k hs) ss ns ws ≡ take k (communications_in hs ss ns ws)
 few_read zero hs ss ns ws = refl
 few_read (suc k) [] ss ns ws = refl
 few_read (suc k) (h ∷ hs) ss ns ws = ap (λ l. made h (items_in ss ns ws) ∷ l) (few_read k hs (shapes_behind ss) (lengths_behind ss ns) (words_behind ss ns ws))

@@ -1,9 +1,11 @@
 //! The communications of a trace, one after another.
-ghost use Rattle.std.specs.Prelude.{◌≡◌, ◌↔◌, ◌<◌, ◌^◌, [], IfOk, IsTrue, length, take};
+ghost use Rattle.std.specs.Prelude.{◌≡◌, ◌↔◌, ◌<◌, ◌^◌, [], IfNone, IfOk, IfSome, IsTrue, length, take};
 ghost use Rattle.std.specs.Iterator.{YieldsFirst, item_count};
 ghost use Rattle.occ_net_trace.specs.Kept.{communications_from};
+ghost use Rattle.occ_net_trace.specs.Passing.{AreElsewhere, HeadsElsewhere, IsFirstOn, FindsNext};
 
 use crate::messages::MessageView;
+use crate::news::behind;
 use crate::pieces::Pieces;
 use crate::shapes::Head;
 use occ_term::{Communication, End};
@@ -41,6 +43,20 @@ impl<'a> Model for Entries<'a> {
     ghost Value = { List Communication };
 
     ghost view = { λ e. communications_in e.heads.now e.pieces.shapes.now e.pieces.lengths.now e.pieces.words.now };
+}
+
+/// The place of the first that is of a communication on this channel.
+#[inline(always)]
+fn place_on(heads: &[Head], chan: u32) -> Option<usize>
+    ensures some { IfSome result (λ place. IsFirstOn chan heads.now place) }
+    ensures none { IfNone result (HeadsElsewhere chan heads.now) }
+{
+    for (place, head) in heads.iter().enumerate() {
+        if head.chan == chan {
+            return Some(place);
+        }
+    }
+    None
 }
 
 impl<'a> Entry<'a> {
@@ -114,6 +130,23 @@ impl<'a> Entries<'a> {
         ensures few { length self.now < 2 ^ 64 }
     {
         self.first(self.len())
+    }
+
+    /// The next of them that is on this channel, if there is one: then neither it nor what stood before it is among them any
+    /// more.
+    pub fn next_on(&mut self, chan: u32) -> Option<Entry<'a>>
+        ensures some { IfSome result (λ e. FindsNext chan self.old e self.new) }
+        ensures none { IfNone result (AreElsewhere chan self.old) }
+    {
+        let place = place_on(self.heads, chan)?;
+        let pieces = self.pieces.behind_several(place);
+        let entry = Entry {
+            head: self.heads[place],
+            pieces,
+        };
+        self.heads = behind(self.heads, place + 1);
+        self.pieces = pieces.behind();
+        Some(entry)
     }
 
     /// The first so many of them.

@@ -1,10 +1,12 @@
 //! The shared lists, and how a communication is put behind the others.
-ghost use Rattle.std.specs.Prelude.{◌≡◌, ◌+◌, ◌<◌, ◌≤◌, ◌^◌, ◌++◌, ◌∷◌, [], OnOk, length, vec_capacity, vec_len};
+ghost use Rattle.std.specs.Prelude.{◌≡◌, ◌+◌, ◌<◌, ◌≤◌, ◌^◌, ◌++◌, ◌∷◌, [], IsTrue, OnErr, OnOk, length, vec_capacity, vec_len};
 ghost use Rattle.occ_net_trace.specs.Flat.{all_words, shape_of, words_of};
 ghost use Rattle.occ_net_trace.specs.Room.{AreEmpty, HoldSame, HasRoomForMessage, HasRoomFor, Appends, PutsPart};
+ghost use Rattle.occ_net_trace.specs.Values.{HasRoomForValue};
+ghost use Rattle.occ_term.specs.declared.message.Part.{Part};
 
 use crate::shapes::{Head, Shape};
-use occ_term::Part;
+use occ_term::{Part, Primitive};
 use std::alloc::{AllocError, Global};
 
 /// What a trace keeps: a head for each communication, and for all of them together the shapes of their items, the lengths
@@ -72,8 +74,56 @@ impl Lists {
         self.words.clear();
     }
 
+    /// Puts a communication behind the others. After a refused growth the lists hold what they held.
+    #[inline(always)]
+    pub(crate) fn push(&mut self, head: Head, parts: &[Part]) -> Result<(), AllocError>
+        ensures pushed { OnOk result (Appends self.old head parts.now self.new) }
+        ensures same { OnErr result (HoldSame self.old self.new) }
+    {
+        if let [Part::One(primitive, value)] = parts {
+            if self.has_room_for_value() {
+                self.put_value(head, *primitive, *value);
+                return Ok(());
+            }
+        }
+        self.push_parts(head, parts)
+    }
+
+    /// The same, whatever the items are.
+    #[inline(never)]
+    fn push_parts(&mut self, head: Head, parts: &[Part]) -> Result<(), AllocError>
+        ensures pushed { OnOk result (Appends self.old head parts.now self.new) }
+        ensures same { OnErr result (HoldSame self.old self.new) }
+    {
+        self.reserve(parts)?;
+        self.put(head, parts);
+        Ok(())
+    }
+
+    /// Whether there is room for a communication of a single value.
+    #[inline(always)]
+    fn has_room_for_value(&self) -> bool
+        ensures { IsTrue result → HasRoomForValue self.now }
+    {
+        self.heads.len() < self.heads.capacity()
+            && self.shapes.capacity() - self.shapes.len() > 1
+            && self.words.len() < self.words.capacity()
+    }
+
+    /// Puts a communication of a single value behind the others, for which there is room.
+    #[inline(always)]
+    fn put_value(&mut self, head: Head, primitive: Primitive, value: i64)
+        requires { HasRoomForValue self.old }
+        ensures { Appends self.old head (Part.One primitive value ∷ []) self.new }
+    {
+        self.heads.push_reserved(head);
+        self.shapes.push_reserved(Shape::One(primitive));
+        self.shapes.push_reserved(Shape::Done);
+        self.words.push_reserved(value);
+    }
+
     /// Room for a communication of these items. After a refused growth the lists hold what they held.
-    pub(crate) fn reserve(&mut self, parts: &[Part]) -> Result<(), AllocError>
+    fn reserve(&mut self, parts: &[Part]) -> Result<(), AllocError>
         ensures same { HoldSame self.old self.new }
         ensures room { OnOk result (HasRoomForMessage self.new parts.now) }
     {
@@ -85,7 +135,7 @@ impl Lists {
     }
 
     /// Puts a communication behind the others, for which there is room.
-    pub(crate) fn put(&mut self, head: Head, parts: &[Part])
+    fn put(&mut self, head: Head, parts: &[Part])
         requires { HasRoomForMessage self.old parts.now }
         ensures { Appends self.old head parts.now self.new }
     {

@@ -47,7 +47,7 @@ impl Model for News {
 }
 
 /// What stands behind the first so many.
-fn behind<T>(items: &[T], count: usize) -> &[T]
+pub(crate) fn behind<T>(items: &[T], count: usize) -> &[T]
     ensures { result.now ≡ drop count items.now }
 {
     match items.get(count..) {

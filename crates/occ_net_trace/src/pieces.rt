@@ -2,6 +2,7 @@
 ghost use Rattle.std.specs.Prelude.{◌≡◌, drop, take};
 ghost use Rattle.occ_net_trace.specs.Flat.{first_count, first_word, shapes_behind};
 ghost use Rattle.occ_net_trace.specs.Kept.{lengths_after, words_after};
+ghost use Rattle.occ_net_trace.specs.Passing.{ArePassed};
 
 use crate::shapes::Shape;
 
@@ -45,6 +46,17 @@ impl<'a> Pieces<'a> {
         let (length, lengths) = split_length(self.lengths);
         let (array, words) = self.words.split_at(length.min(self.words.len()));
         (array, lengths, words)
+    }
+
+    /// What is behind the items of the first so many messages.
+    pub(crate) fn behind_several(self, count: usize) -> Pieces<'a>
+        ensures { ArePassed count self.entry result }
+    {
+        let mut left = self;
+        for _passed in 0..count {
+            left = left.behind();
+        }
+        left
     }
 
     /// What is behind the items of the first message.

@@ -122,6 +122,7 @@ impl Trace {
     /// # Errors
     ///
     /// A refused growth.
+    #[inline(always)]
     pub fn push(
         &mut self,
         chan: u32,
@@ -132,15 +133,13 @@ impl Trace {
         ensures pushed { OnOk result (Pushes self.old chan sender receiver message.now self.new) }
         ensures same { OnErr result (self.new ≡ self.old) }
     {
-        let parts = message.items.as_slice();
-        self.lists.reserve(parts)?;
         let head = Head {
             chan,
             sender,
             receiver,
             tag: message.tag,
         };
-        self.lists.put(head, parts);
+        self.lists.push(head, message.items.as_slice())?;
         Ok(())
     }
 }

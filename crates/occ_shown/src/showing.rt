@@ -202,18 +202,8 @@ fn write_bytes(out: &mut Vec<u8>, trace: &Trace, chan: u32) -> Result<(), AllocE
     requires { AreByteMessages chan trace.now }
     ensures { OnOk result (AddsText out.old out.new (channel_bytes chan trace.now)) }
 {
-    for communication in trace.entries() {
-        write_byte(out, &communication, chan)?;
-    }
-    Ok(())
-}
-
-/// The byte of a communication, if it is on this channel.
-fn write_byte(out: &mut Vec<u8>, communication: &Entry<'_>, chan: u32) -> Result<(), AllocError>
-    requires { communication.now.chan ≡ chan → IsByteMessage communication.now.message }
-    ensures { OnOk result (AddsText out.old out.new (bytes_sent chan communication.now)) }
-{
-    if communication.chan() == chan {
+    let mut entries = trace.entries();
+    while let Some(communication) = entries.next_on(chan) {
         out.push(byte_of(&communication.message()))?;
     }
     Ok(())

@@ -5,12 +5,12 @@ use Rattle.occ_net_tables.specs.Choosing.{TakesBy, by_input, input_arm}
 use Rattle.occ_net_tables.specs.Settling.{TookByte, TookFrom}
 use Rattle.occ_net_tables.specs.Keys.{entry_in}
 use Rattle.occ_net_tables.proofs.Between.{now, there_old, byte_within, giver_of, was_byte, was_taken, await_waits}
-use Rattle.occ_net_tables.proofs.Waits.{rising_of, within_of, there_of, rests_listening, sized_listening}
+use Rattle.occ_net_tables.proofs.Waits.{rising_of, within_of, light_of, rests_listening, sized_listening}
 use Rattle.occ_net_tables.proofs.Steps.{at_input}
 use Rattle.occ_net_tables.proofs.tables.Tables.await_on.Goals as goal
 
 pub take_byte-requires-clause-there : goal.take_byte-requires-clause-there
-take_byte-requires-clause-there c = there_of c.requires.mid.0 c.args.self.now c.args.number c.args.place (W.Awaits c.args.chan) c.requires.mid.1
+take_byte-requires-clause-there c = light_of c.requires.mid.0 c.args.self.now c.args.number c.args.place (W.Awaits c.args.chan) c.requires.mid.1
 
 pub take_byte-requires-clause-counts : goal.take_byte-requires-clause-counts
 take_byte-requires-clause-counts c = let h = byte_within c.args.chan c.args.keyboard.now c.args.self.now.used c.in-Some.byte (sym c.next_byte.ensures ∙ c.in-Some.is) in omega (arith, h)
@@ -21,7 +21,7 @@ returns-in-Some-clause-ok c = λ p pick after net mid w.
     was_byte p c.args.keyboard.now c.args.self.now c.args.number c.args.place after net mid _ pick c.args.chan c.in-Some.byte (input_arm c.args.chan) by (sym c.next_byte.ensures ∙ c.in-Some.is) (subst (λ a. TookByte c.args.self.now c.args.number a c.in-Some.byte c.take_byte.new.self) c.input_arm.ensures c.in_ok-take_byte.ensures.ok)
 
 pub take_from-requires-clause-there : goal.take_from-requires-clause-there
-take_from-requires-clause-there c = there_of c.requires.mid.0 c.args.self.now c.args.number c.args.place (W.Awaits c.args.chan) c.requires.mid.1
+take_from-requires-clause-there c = light_of c.requires.mid.0 c.args.self.now c.args.number c.args.place (W.Awaits c.args.chan) c.requires.mid.1
 
 pub take_from-requires-clause-offers : goal.take_from-requires-clause-offers
 take_from-requires-clause-offers c =
@@ -37,7 +37,7 @@ pub take_from-requires-clause-rising : goal.take_from-requires-clause-rising
 take_from-requires-clause-rising c = rising_of c.requires.mid.0 c.args.self.now c.args.number c.args.place (W.Awaits c.args.chan) c.requires.mid.1
 
 pub rest-requires-clause-there : goal.rest-requires-clause-there
-rest-requires-clause-there c = there_of c.requires.mid.0 c.args.self.now c.args.number c.args.place (W.Awaits c.args.chan) c.requires.mid.1
+rest-requires-clause-there c = light_of c.requires.mid.0 c.args.self.now c.args.number c.args.place (W.Awaits c.args.chan) c.requires.mid.1
 
 pub rest-requires-clause-within : goal.rest-requires-clause-within
 rest-requires-clause-within c = within_of c.requires.mid.0 c.args.self.now c.args.number c.args.place (W.Awaits c.args.chan) c.requires.mid.1

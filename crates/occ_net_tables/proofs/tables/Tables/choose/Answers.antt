@@ -10,11 +10,11 @@ use Rattle.occ_net_tables.proofs.Arms.{chosen_where}
 use Rattle.occ_net_tables.proofs.Between.{byte_within, giver_of, there_old, was_byte, was_taken}
 use Rattle.occ_net_tables.proofs.Choices.{choice_waits, is_there, takes_it, was_skipped}
 use Rattle.occ_net_tables.proofs.Steps.{at_choice}
-use Rattle.occ_net_tables.proofs.Waits.{rests_listening, rising_of, sized_listening, there_of, within_of}
+use Rattle.occ_net_tables.proofs.Waits.{rests_listening, rising_of, sized_listening, light_of, within_of}
 use Rattle.occ_net_tables.proofs.tables.Tables.choose.Goals as goal
 
 pub rest-requires-clause-there : goal.rest-requires-clause-there
-rest-requires-clause-there c = there_of c.requires.mid.0 c.args.self.now c.args.number c.args.place (W.Chooses c.args.pri c.args.arms) c.requires.mid.1
+rest-requires-clause-there c = light_of c.requires.mid.0 c.args.self.now c.args.number c.args.place (W.Chooses c.args.pri c.args.arms) c.requires.mid.1
 
 pub rest-requires-clause-within : goal.rest-requires-clause-within
 rest-requires-clause-within c = within_of c.requires.mid.0 c.args.self.now c.args.number c.args.place (W.Chooses c.args.pri c.args.arms) c.requires.mid.1
@@ -33,7 +33,7 @@ returns-in_default-clause-ok c = λ p after net mid w.
     (rests_listening p kb old n place after net mid v at_choice w tasks c.rest.ensures.ready table) (sized_listening p kb old n place after net mid v tasks table)
 
 pub set_wait-requires : goal.set_wait-requires
-set_wait-requires c = there_of c.requires.mid.0 c.args.self.now c.args.number c.args.place (W.Chooses c.args.pri c.args.arms) c.requires.mid.1
+set_wait-requires c = light_of c.requires.mid.0 c.args.self.now c.args.number c.args.place (W.Chooses c.args.pri c.args.arms) c.requires.mid.1
 
 pub returns-in_default-chan-clause-ok : goal.returns-in_default-chan-clause-ok
 returns-in_default-chan-clause-ok c = λ p after net mid w.
@@ -47,7 +47,7 @@ returns-in_default-chan-clause-ok c = λ p after net mid w.
     was_skipped p kb old n c.args.place after net mid c.args.pri c.args.arms w _ c.args.pick a some c.in_default-chan.is tasks refl refl refl refl refl refl refl refl
 
 pub take_byte-requires-clause-there : goal.take_byte-requires-clause-there
-take_byte-requires-clause-there c = there_of c.requires.mid.0 c.args.self.now c.args.number c.args.place (W.Chooses c.args.pri c.args.arms) c.requires.mid.1
+take_byte-requires-clause-there c = light_of c.requires.mid.0 c.args.self.now c.args.number c.args.place (W.Chooses c.args.pri c.args.arms) c.requires.mid.1
 
 pub take_byte-requires-clause-counts : goal.take_byte-requires-clause-counts
 take_byte-requires-clause-counts c = let h = byte_within c.in-Some-chan.chan c.args.keyboard.now c.args.self.now.used c.in-Some-next_byte.byte (sym c.next_byte.ensures ∙ c.in-Some-next_byte.is) in omega (arith, h)
@@ -73,7 +73,7 @@ unreachable-requires c =
     is_there kb old.used old.offering.items c.args.pri c.args.arms c.args.pick c.in-Some-chan.chan a some c.in-Some-chan.is (sym c.next_byte.ensures ∙ c.in_default-next_byte.is) (ap (λ t. entry_in t c.in-Some-chan.chan) (sym c.deref-2.ensures.value) ∙ sym c.entry.ensures ∙ c.in_default-entry.is)
 
 pub take_from-requires-clause-there : goal.take_from-requires-clause-there
-take_from-requires-clause-there c = there_of c.requires.mid.0 c.args.self.now c.args.number c.args.place (W.Chooses c.args.pri c.args.arms) c.requires.mid.1
+take_from-requires-clause-there c = light_of c.requires.mid.0 c.args.self.now c.args.number c.args.place (W.Chooses c.args.pri c.args.arms) c.requires.mid.1
 
 pub take_from-requires-clause-offers : goal.take_from-requires-clause-offers
 take_from-requires-clause-offers c =

@@ -7,11 +7,11 @@ use Rattle.occ_net_tables.specs.Keys.{entry_in}
 use Rattle.occ_net_tables.proofs.Between.{there_old}
 use Rattle.occ_net_tables.proofs.Ends.{ends_alone, ends_before, ends_join, may_join, parent_of, then_done}
 use Rattle.occ_net_tables.proofs.OneChange.{set_length}
-use Rattle.occ_net_tables.proofs.Waits.{sized_at_rest, there_of, within_of}
+use Rattle.occ_net_tables.proofs.Waits.{sized_at_rest, light_of, within_of}
 use Rattle.occ_net_tables.proofs.tables.Tables.finish.Goals as goal
 
 pub rest-requires-clause-there : goal.rest-requires-clause-there
-rest-requires-clause-there c = there_of c.args.code.now c.args.self.now c.args.number c.args.place W.Done c.requires
+rest-requires-clause-there c = light_of c.args.code.now c.args.self.now c.args.number c.args.place W.Done c.requires
 
 pub rest-requires-clause-within : goal.rest-requires-clause-within
 rest-requires-clause-within c = within_of c.args.code.now c.args.self.now c.args.number c.args.place W.Done c.requires

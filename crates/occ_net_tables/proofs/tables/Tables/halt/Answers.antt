@@ -2,11 +2,11 @@ use Rattle.std.proofs.Common.{refl}
 use Rattle.occ_machine.specs.declared.task.Wait.TheVariants as W
 use Rattle.occ_net_replay.specs.Replay.{made_ready}
 use Rattle.occ_net_tables.proofs.Between.{halts, there_old}
-use Rattle.occ_net_tables.proofs.Waits.{rests_halted, sized_at_rest, there_of, within_of}
+use Rattle.occ_net_tables.proofs.Waits.{rests_halted, sized_at_rest, light_of, within_of}
 use Rattle.occ_net_tables.proofs.tables.Tables.halt.Goals as goal
 
 pub rest-requires-clause-there : goal.rest-requires-clause-there
-rest-requires-clause-there c = there_of c.requires.0 c.args.self.now c.args.number c.args.place W.Halted c.requires.1
+rest-requires-clause-there c = light_of c.requires.0 c.args.self.now c.args.number c.args.place W.Halted c.requires.1
 
 pub rest-requires-clause-within : goal.rest-requires-clause-within
 rest-requires-clause-within c = within_of c.requires.0 c.args.self.now c.args.number c.args.place W.Halted c.requires.1

@@ -3,7 +3,7 @@ use Rattle.occ_machine.specs.declared.task.Wait.TheVariants as W
 use Rattle.occ_net_replay.specs.Replay.{made_ready}
 use Rattle.occ_net_tables.specs.Keys.{entry_in}
 use Rattle.occ_net_tables.proofs.Between.{there_old, taker_of, was_read, was_given, offer_waits}
-use Rattle.occ_net_tables.proofs.Waits.{rising_of, within_of, there_of, rests_at_offer, sized_at_offer}
+use Rattle.occ_net_tables.proofs.Waits.{rising_of, within_of, light_of, rests_at_offer, sized_at_offer}
 use Rattle.occ_net_tables.proofs.tables.Tables.offer.Goals as goal
 
 pub returns-in-Ok-clause-ok : goal.returns-in-Ok-clause-ok
@@ -20,7 +20,7 @@ pub give-requires-clause-rising : goal.give-requires-clause-rising
 give-requires-clause-rising c = rising_of c.requires.mid.0 c.args.self.now c.args.number c.args.place (W.Offers c.args.chan c.args.message) c.requires.mid.1
 
 pub rest-requires-clause-there : goal.rest-requires-clause-there
-rest-requires-clause-there c = there_of c.requires.mid.0 c.args.self.now c.args.number c.args.place (W.Offers c.args.chan c.args.message) c.requires.mid.1
+rest-requires-clause-there c = light_of c.requires.mid.0 c.args.self.now c.args.number c.args.place (W.Offers c.args.chan c.args.message) c.requires.mid.1
 
 pub rest-requires-clause-within : goal.rest-requires-clause-within
 rest-requires-clause-within c = within_of c.requires.mid.0 c.args.self.now c.args.number c.args.place (W.Offers c.args.chan c.args.message) c.requires.mid.1

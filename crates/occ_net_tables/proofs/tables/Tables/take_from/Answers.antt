@@ -17,7 +17,7 @@ pub set_wait-requires : goal.set_wait-requires
 set_wait-requires c =
     let o = c.requires.offers in
     let r = c.requires.there in
-    record { task = r.task; there = ap (λ l. slice_get l c.args.number) (c.take_wait.ensures o.task o.there).is ∙ set_other c.args.self.now.tasks.items c.args.giver c.args.number (Some (made_ready o.task)) c.requires.apart ∙ r.there }
+    record { task = r.task; there = ap (λ l. slice_get l c.args.number) (c.take_wait.ensures o.task o.there).is ∙ set_other c.args.self.now.tasks.items c.args.giver c.args.number (Some (made_ready o.task)) c.requires.apart ∙ r.there; light = r.light }
 
 pub returns-clause-ok : goal.returns-clause-ok
 returns-clause-ok c = λ t m there waits.
