@@ -9,3 +9,4 @@ pub mod Parted
 mod Opened
 mod Rows
 pub mod Stretching
+mod ArmRows

@@ -3,3 +3,4 @@ pub mod Doing
 pub mod Opening
 pub mod Stretches
 pub mod Answering
+pub mod ArmRows

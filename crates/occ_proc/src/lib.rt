@@ -5,6 +5,7 @@
 mod arms;
 mod choices;
 mod common;
+mod common_arms;
 mod entries;
 mod jumps;
 mod opening;
