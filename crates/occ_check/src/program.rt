@@ -4,7 +4,6 @@ ghost use Rattle.std.specs.Prelude.{◌≡◌, ◌≤◌, IfErr, IfOk, OnOk, [],
 ghost use Rattle.occ_tree_grammar.specs.Lines.Trees.{by_channel, carries};
 ghost use Rattle.occ_tree_grammar.specs.Lines.Views as lines;
 ghost use Rattle.occ_tree_grammar.specs.Processes.Views.{item_of, program_of};
-ghost use Rattle.occ_term.specs.View.{term_of};
 ghost use Rattle.occ_check_meaning.specs.ProgramUnfolding.{UnfoldsTo};
 ghost use Rattle.occ_check_meaning.specs.Programs as programs;
 ghost use Rattle.occ_check.specs.CheckRefuses.{CheckRefuses};
