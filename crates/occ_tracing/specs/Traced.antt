@@ -21,6 +21,10 @@ abbrev pub form_text : Form → List Entry → Ending → List ℕ
 form_text Lines es e = trace_text es ++ ending_text e ++ 10 ∷ []
 form_text Json es e = json_text es e
 
+-- these bytes are that text
+abbrev pub IsFormText : {A : Type 0} → Form → List Entry → Ending → Vec ℕ A → Type 0
+IsFormText form es e bytes = bytes.items ≡ form_text form es e
+
 -- what the code of a text's program comes to by these choices: its communications and its ending, in this form
 pub record IsTraced (options : Options) (source keyboard : List ℕ) (list : List Choice) (form : Form) (bytes : List ℕ) : Type 0 where
   pub code : Program

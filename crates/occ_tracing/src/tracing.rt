@@ -3,7 +3,7 @@ ghost use Rattle.std.specs.Prelude.{◌≡◌, IfErr, IfOk};
 ghost use Rattle.occ_play.specs.Playing.{Refuses};
 ghost use Rattle.occ_shown.specs.Answers.{entries_in};
 ghost use Rattle.occ_term.specs.Runs.{entries};
-ghost use Rattle.occ_tracing.specs.Traced.{IsTracedBy, form_text};
+ghost use Rattle.occ_tracing.specs.Traced.{IsFormText, IsTracedBy};
 
 use occ_board::Shown;
 use occ_choices::Plan;
@@ -40,7 +40,7 @@ fn shown_list(alloc: Global, trace: &Trace, channels: &[Channel]) -> Result<Vec<
 
 /// The lines of the communications, and the line of the ending.
 fn lines_of(alloc: Global, list: &[Shown], ending: Ending) -> Result<Vec<u8>, AllocError>
-    ensures { IfOk result (λ bytes. bytes.items ≡ form_text Form.Lines list.now ending) }
+    ensures { IfOk result (IsFormText Form.Lines list.now ending) }
 {
     let mut lines = watch_lines(alloc, list)?;
     let line = format!(in alloc; "{ending}\n")?;
@@ -49,7 +49,7 @@ fn lines_of(alloc: Global, list: &[Shown], ending: Ending) -> Result<Vec<u8>, Al
 }
 
 fn text_of(alloc: Global, list: &[Shown], ending: Ending, form: Form) -> Result<Vec<u8>, AllocError>
-    ensures { IfOk result (λ bytes. bytes.items ≡ form_text form list.now ending) }
+    ensures { IfOk result (IsFormText form list.now ending) }
 {
     match form {
         Form::Lines => lines_of(alloc, list, ending),
