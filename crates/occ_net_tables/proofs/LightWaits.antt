@@ -1,5 +1,5 @@
 -- Processes that stand at nothing that takes a block of memory.
-use Rattle.std.proofs.Common.{◌≡◌, ℕ, Some, refl, ap}
+use Rattle.std.proofs.Common.{◌≡◌, ℕ, Some, ap}
 use Rattle.occ_machine.specs.declared.task.Wait.{Wait}
 use Rattle.occ_machine.specs.declared.task.Wait.TheVariants as W
 use Rattle.occ_net_tables.specs.Light.{IsLight, awaited_by}

@@ -1,5 +1,5 @@
 -- Numbers that are moved by one place, one after another.
-use Rattle.std.proofs.Common.{◌≡◌, ◌∙◌, ℕ, zero, suc, ◌+◌, ◌<◌, ◌≤◌, ◌⊎◌, inl, inr, List, [], ◌∷◌, ◌++◌, get_or, length, refl, sym, ap, subst, arith}
+use Rattle.std.proofs.Common.{◌≡◌, ◌∙◌, ℕ, zero, suc, ◌+◌, ◌<◌, ◌≤◌, ◌⊎◌, inl, inr, List, [], ◌∷◌, get_or, length, refl, sym, ap, subst, arith}
 use Rattle.std.specs.Prelude.{insert, remove, slice_set}
 use Rattle.occ_machine.specs.SameStop.{IsRising}
 use Rattle.occ_net_replay.proofs.Tables.{same_or_not}
@@ -60,18 +60,3 @@ one_up ys i j v e h value =
     let at : j ≡ suc i = omega (arith, e) in
     ap (λ (w : ℕ). remove (slice_set ys i w) j) value
     ∙ ap (λ (k : ℕ). remove (slice_set ys i (get_or ys k v)) k) at ∙ raised ys i v (omega (arith, e, h))
-
-last_here : (zs : List ℕ) (y : ℕ) → remove (zs ++ y ∷ []) (length zs) ≡ zs
-last_here [] y = refl
-last_here (z ∷ zs) y = ap (λ l. z ∷ l) (last_here zs y)
-
-count_more : (zs : List ℕ) (y : ℕ) → length (zs ++ y ∷ []) ≡ length zs + 1
-count_more [] y = refl
-count_more (z ∷ zs) y = omega (arith, count_more zs y)
-
--- the last is out
-pub last_out : (ys zs : List ℕ) (y i : ℕ) → ys ≡ zs ++ y ∷ [] → i + 1 ≡ length ys → zs ≡ remove ys i
-last_out ys zs y i is e =
-    let count = ap length is ∙ count_more zs y in
-    let at : length zs ≡ i = omega (arith, e, count) in
-    sym (ap (λ l. remove l i) is ∙ ap (λ (k : ℕ). remove (zs ++ y ∷ []) k) (sym at) ∙ last_here zs y)

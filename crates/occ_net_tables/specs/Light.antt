@@ -1,6 +1,6 @@
 -- What a process stands at that takes no block of memory.
 -- Manual: nothing; this is (own).
-use Rattle.std.specs.Prelude.{List, None, Option, Some, ℕ, ⊤, ◌≡◌}
+use Rattle.std.specs.Prelude.{None, Option, Some, ℕ, ⊤, ◌≡◌}
 use Rattle.occ_machine.specs.declared.task.Task.{Task}
 use Rattle.occ_machine.specs.declared.task.Wait.{Wait}
 use Rattle.occ_machine.specs.declared.task.Wait.TheVariants.{Ready, Took, Offers, Awaits, Chooses, Joins, Halted, Done, Faulted}

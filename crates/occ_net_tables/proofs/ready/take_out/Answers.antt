@@ -1,4 +1,4 @@
-use Rattle.std.proofs.Common.{◌≡◌, ◌∙◌, ◌+◌, ◌<◌, ℕ, length, refl, arith}
+use Rattle.std.proofs.Common.{◌∙◌, ◌+◌, ◌<◌, ℕ, length, refl, arith}
 use Rattle.occ_net_tables.proofs.Moves.{one_up}
 use Rattle.occ_net_tables.proofs.ready.take_out.Goals as goal
 
