@@ -34,7 +34,7 @@ decreases-in_turn l = 4 * (nodes_size (nodes (map process_of l.processes.now)) +
 
 abbrev pub invariant-process_unfolded-calls : goal.invariant-process_unfolded-calls
 invariant-process_unfolded-calls l =
-    (unfolded (process_of l.process) (meant_at l.fn.unfolder l.fn.here.at) l.here.depth (counted l.fn.unfolder) ≡ unfolded (process_of l.body) (meant_at l.unfolder l.place.at) l.place.depth (counted l.unfolder))
+    (unfolded (process_of l.process) (meant_at l.fn.unfolder l.fn.here.at) l.fn.here.depth (counted l.fn.unfolder) ≡ unfolded (process_of l.body) (meant_at l.unfolder l.place.at) l.place.depth (counted l.unfolder))
     × (take (length l.fn.unfolder.blocks.blocks.items) l.unfolder.blocks.blocks.items ≡ l.fn.unfolder.blocks.blocks.items)
     × (node_size (process_of l.body) + weight_at l.unfolder l.place.at ≤ node_size (process_of l.process) + weight_at l.fn.unfolder l.fn.here.at)
     × (l.place.depth ≤ 200)
