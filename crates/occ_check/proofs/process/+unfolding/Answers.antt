@@ -1,6 +1,6 @@
 use Rattle.std.proofs.lemmas.Int.{to_z-of_z}
 use Rattle.std.proofs.lemmas.List.{map-append}
-use Rattle.std.proofs.Common.{rules, arith, w64, to_z, of_z, SFits, ◌-◌, ℤ, pos, ◌+ℤ◌, ◌≤ℤ◌, ◌∷◌, ◌++◌, drop, ◌≡◌, ◌<◌, ◌≤◌, ◌+◌, ◌*◌, ◌∙◌, ℕ, List, Some, [], ap, map, refl, reverse, subst, sym, true}
+use Rattle.std.proofs.Common.{rules, arith, w64, to_z, of_z, SFits, ◌-◌, ℤ, pos, ◌+ℤ◌, ◌≤ℤ◌, ◌∷◌, ◌++◌, drop, ◌≡◌, ◌<◌, ◌≤◌, ◌+◌, ◌*◌, ◌∙◌, ℕ, List, Some, [], ap, map, refl, reverse, subst, sym}
 use Rattle.occ_tree_grammar.specs.Processes.Trees.{nodes}
 use Rattle.occ_tree_grammar.specs.Processes.Views.{arm_of, choice_of, process_of, selection_of, variant_of}
 use Rattle.occ_term.specs.View.{arms_of, branch_of, branches_of, choices_of, declarations_of, option_of, options_of, term_of, variant_of as term_variant_of, variants_of}
@@ -31,7 +31,6 @@ use Rattle.occ_check_typing.proofs.Refusals.{refused_with}
 use Rattle.occ_check_meaning.specs.Performing.{copied}
 use Rattle.occ_check_opened.specs.Opened.{copy_for, IsStepReady, left_weight, put, statement_left, step_left, step_weight}
 use Rattle.occ_check_copies.specs.Copies.{numbered_copy, copy_left}
-use Rattle.occ_check_meaning.specs.Scope.{within}
 use Rattle.occ_check_copies.proofs.CopyLists.{Copied, copied_first, copied_last, copied_next, copied_refused}
 use Rattle.occ_check_opened.proofs.OpenedParts.{blocks_kept, put_done, put_refused}
 use Rattle.occ_check_arms.specs.Arms.{arm_depth, arm_left, arm_weight, arm_with, arms_within, variants_within}
