@@ -133,10 +133,11 @@ impl<'a> Entries<'a> {
     }
 
     /// The next of them that is on this channel, if there is one: then neither it nor what stood before it is among them any
-    /// more.
+    /// more. Where there is none, all are left.
     pub fn next_on(&mut self, chan: u32) -> Option<Entry<'a>>
         ensures some { IfSome result (λ e. FindsNext chan self.old e self.new) }
         ensures none { IfNone result (AreElsewhere chan self.old) }
+        ensures kept { IfNone result (self.new ≡ self.old) }
     {
         let place = place_on(self.heads, chan)?;
         let pieces = self.pieces.behind_several(place);
