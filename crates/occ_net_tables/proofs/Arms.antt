@@ -134,6 +134,10 @@ pub input_of : {pick c : ℕ} {f : ℕ → Bool} {w : Wait} {a : Arm} (d : ℕ) 
 input_of d by_input e = let same : _ ≡ d = cc in ap input_arm same
 input_of d (by_choice x y) e = absurd cc
 
+pub same_channel : {pick c : ℕ} {f : ℕ → Bool} {w : Wait} {a : Arm} (d : ℕ) → TakesBy pick f c w a → w ≡ W.Awaits d → w ≡ W.Awaits c
+same_channel d by_input e = refl
+same_channel d (by_choice x y) e = absurd cc
+
 pub choice_of : {pick c : ℕ} {f : ℕ → Bool} {w : Wait} {a : Arm} (pri : Bool) (arms : List Arm) → TakesBy pick f c w a → w ≡ W.Chooses pri arms → arm_chosen pri pick f arms ≡ Some a
 choice_of pri arms by_input e = absurd cc
 choice_of {pick = pick} {f = f} pri arms (by_choice {pri = b} {arms = xs} x y) e =

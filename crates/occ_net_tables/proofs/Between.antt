@@ -24,7 +24,7 @@ use Rattle.occ_net_tables.specs.Ready.{put_in}
 use Rattle.occ_net_tables.specs.Keys.{flat, entry_in}
 use Rattle.occ_net_tables.specs.Choosing.{TakesBy, by_input, by_choice, offered_by}
 use Rattle.occ_net_tables.specs.Holding.{Sound, Sized}
-use Rattle.occ_net_tables.specs.Settling.{Mid, SettlesTo, Gave, TakesAlone, TookByte, TookFrom, IsOffering, outer_taker, byte_on, communicated}
+use Rattle.occ_net_tables.specs.Settling.{Mid, SettlesTo, Handed, TakesAlone, TookByte, TookFrom, IsOffering, outer_taker, byte_on, communicated, with_noted}
 use Rattle.occ_net_replay.proofs.Arms.{chosen_by_new}
 use Rattle.occ_net_tables.proofs.Arms.{alone_is, gets_by, takes_as, taking}
 use Rattle.occ_net_tables.proofs.Keys.{all_length}
@@ -247,7 +247,7 @@ module _ (p : Program) (kb : List ℕ) (old : Tables) (number place : ℕ) (afte
       let t = taking pick c x.task.wait (standing net) unready x.is in
       record { task = x.task; there = x.there; listener = l; apart = w.0; arm = t.arm; takes = t.takes; unready = unready }
 
-  pub was_given : (new : Tables) (pick c taker : ℕ) (m : Message) → after.wait ≡ W.Offers c m → (x : Taker c pick taker) → Gave old number taker c x.task x.arm m new → SettlesTo p kb pick number after net new
+  pub was_given : (new : Tables) (pick c taker : ℕ) (m : Message) → after.wait ≡ W.Offers c m → (x : Taker c pick taker) → Handed (with_noted old (communicated c (OfProcess number) (OfProcess taker) m)) taker x.task x.arm m new → SettlesTo p kb pick number after net new
   was_given new pick c taker m w x g =
       let a = x.arm in
       let took : TakesBy pick (standing now) c x.task.wait a = takes_as pick c (offered_by (Some c) []) (standing now) x.task.wait a (λ pri arms q. sym (chosen_by_new (standing net) (standing now) (offered_by (Some c) []) (stands_new c m w) pri pick arms (x.unready pri arms q))) x.takes in

@@ -1,6 +1,6 @@
 -- Turns in a row of one process, over tables.
 -- Manual: nothing; this is (own).
-use Rattle.std.specs.Prelude.{[], List, None, Option, Some, Vec, get_or, length, slice_get, slice_set, suc, take, zero, ℕ, ◌++◌, ◌+◌, ◌<◌, ◌≤◌, ◌∷◌, ◌≡◌}
+use Rattle.std.specs.Prelude.{[], List, None, Option, Some, Vec, get_or, length, slice_get, slice_set, suc, take, zero, ℕ, ◌++◌, ◌+◌, ◌≤◌, ◌∷◌, ◌≡◌}
 use Rattle.occ_term.specs.declared.message.Part.{Part}
 use Rattle.occ_machine.specs.Compiled.{Program}
 use Rattle.occ_machine.specs.Machine.{Body}

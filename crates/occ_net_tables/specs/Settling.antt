@@ -10,7 +10,7 @@ use Rattle.occ_machine.specs.Machine.{Body, Stopping}
 use Rattle.occ_machine.specs.declared.task.Arm.{Arm}
 use Rattle.occ_machine.specs.declared.task.Task.{Task}
 use Rattle.occ_machine.specs.declared.task.Wait.{Wait}
-use Rattle.occ_machine.specs.declared.task.Wait.TheVariants.{Took, Offers, Chooses, Joins}
+use Rattle.occ_machine.specs.declared.task.Wait.TheVariants.{Took, Offers, Awaits, Chooses, Joins}
 use Rattle.occ_net_replay.specs.declared.choice.Choice.{Choice}
 use Rattle.occ_net_replay.specs.Replay.{Net, Tasks, HasTask, OneTurn, Replays, Settled, branch_task, byte_message, ending_of, goes, made_ready, may_go, merged, ready_from, standing, took_arm, took_turn, with_branches, first_noted}
 use Rattle.occ_net_replay.specs.Moments.{NoneReady}
@@ -168,17 +168,27 @@ pub record LeftChannels (old : Tables) (taker : ℕ) (t : Task) (new : Tables) :
   pub used : new.used ≡ old.used
   pub trace : new.trace ≡ old.trace
 
+-- a process awaits a message on the channel, and on no other one
+pub record IsAwaiting (tasks : Tasks) (taker chan : ℕ) : Type 0 where
+  pub task : Task
+  pub there : HasTask tasks taker task
+  pub waits : task.wait ≡ Awaits chan
+
 -- a process that waited for a message has it by this arm, stands at none of its channels any more, and may go on
-pub record Gave (old : Tables) (number taker chan : ℕ) (t : Task) (a : Arm) (m : Message) (new : Tables) : Type 0 where
+pub record Handed (old : Tables) (taker : ℕ) (t : Task) (a : Arm) (m : Message) (new : Tables) : Type 0 where
   pub tasks : new.tasks.items ≡ slice_set old.tasks.items taker (Some (took_arm t a (Some m)))
   pub ready : new.ready.items ≡ put_in taker old.ready.items
   pub awaiting : new.awaiting.items ≡ set_all (channels_at t.wait) None old.awaiting.items
-  pub trace : new.trace ≡ old.trace ++ communicated chan (Process number) (Process taker) m ∷ []
+  pub trace : new.trace ≡ old.trace
   pub offering : new.offering ≡ old.offering
   pub parents : new.parents ≡ old.parents
   pub unfinished : new.unfinished ≡ old.unfinished
   pub fault : new.fault ≡ old.fault
   pub used : new.used ≡ old.used
+
+-- the same tables, but for one communication more in the trace
+abbrev pub with_noted : Tables → Communication → Tables
+with_noted n x = record n { trace = n.trace ++ x ∷ [] }
 
 -- a process has the keyboard's next byte by this arm, and may go on
 pub record TookByte (old : Tables) (number : ℕ) (a : Arm) (byte : ℕ) (new : Tables) : Type 0 where
@@ -328,9 +338,12 @@ IsTakingBy tasks taker chan pick arm = (t : Task) (a : Arm) → HasTask tasks ta
 abbrev pub LeavesChannels : Tables → ℕ → Tables → Type 0
 LeavesChannels old taker new = (t : Task) → HasTask old.tasks.items taker t → LeftChannels old taker t new
 
+abbrev pub HandsTo : Tables → (taker chan pick : ℕ) → Message → Tables → Type 0
+HandsTo old taker chan pick m new = (t : Task) (a : Arm) → HasTask old.tasks.items taker t → TakesAlone pick chan t.wait a → Handed old taker t a m new
+
+-- the same where the communication was noted before
 abbrev pub GaveTo : Tables → (number taker chan pick : ℕ) → Message → Tables → Type 0
-GaveTo old number taker chan pick m new =
-    (t : Task) (a : Arm) → HasTask old.tasks.items taker t → TakesAlone pick chan t.wait a → Gave old number taker chan t a m new
+GaveTo old number taker chan pick m new = HandsTo (with_noted old (communicated chan (Process number) (Process taker) m)) taker chan pick m new
 
 abbrev pub TookOffer : Tables → (number giver chan : ℕ) → Arm → Tables → Type 0
 TookOffer old number giver chan a new =
@@ -343,3 +356,7 @@ NotesFirst noted fault first = (faults : List Fault) → noted ≡ first_noted f
 -- the offer of the items that a turn has left
 abbrev pub offer_left : ℕ → Option ℕ → Scratch → Wait
 offer_left chan tag scratch = Offers chan (message tag (left_message scratch))
+
+-- these went to a process that waited for them, whatever the pick
+abbrev pub GaveLeft : Tables → (number taker chan : ℕ) → Option ℕ → Scratch → Tables → Type 0
+GaveLeft old number taker chan tag scratch new = (pick : ℕ) → GaveTo old number taker chan pick (message tag (left_message scratch)) new

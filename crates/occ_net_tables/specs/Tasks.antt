@@ -66,6 +66,10 @@ WaitTaken old n wait new = (t : Task) → HasTask old n t → IsTaken old n t wa
 abbrev pub EndsTurn : {A : Type 0} → Body → (old : Vec (Option Task) A) → ℕ → Scratch → (new : Vec (Option Task) A) → TurnEnd → Type 0
 EndsTurn body old n scratch new end = (t : Task) → HasTask old.items n t → EndedBy body old.items n t end (left_message scratch) new.items
 
+-- the message that it offered
+abbrev pub OfferTaken : Tasks → ℕ → Message → Tasks → Type 0
+OfferTaken old n message new = (t : Task) (chan : ℕ) (m : Message) → HasTask old n t → t.wait ≡ Offers chan m → (message ≡ m) × (new ≡ slice_set old n (Some (made_ready t)))
+
 -- a message that it offers
 abbrev pub IsOffered : Tasks → ℕ → Message → Type 0
 IsOffered tasks n message = (t : Task) (chan : ℕ) (m : Message) → HasTask tasks n t → t.wait ≡ Offers chan m → message ≡ m

@@ -6,16 +6,17 @@ ghost use Rattle.occ_machine.specs.declared.task.Arm.{Arm};
 ghost use Rattle.occ_machine.specs.declared.task.Task.{Task};
 ghost use Rattle.occ_net_replay.specs.Replay.{byte_message};
 ghost use Rattle.occ_net_tables.specs.Choosing.{input_arm, keyboard_at};
+ghost use Rattle.occ_net_tables.specs.Keys.{entry_in};
 ghost use Rattle.occ_net_tables.specs.Light.{StandsLight};
 ghost use Rattle.occ_net_tables.specs.Room.{HasRoom};
-ghost use Rattle.occ_net_tables.specs.Settling.{GaveTo, HasSomeMid, IsOffering, IsTaking, IsTakingBy, LeavesChannels, NotesFirst, SettlesAnyhow, SettlesBy, SettlesOn, SettlesWith, TookByte, TookOffer, byte_on, offer_left, outer_taker};
+ghost use Rattle.occ_net_tables.specs.Settling.{GaveLeft, HandsTo, HasSomeMid, IsAwaiting, IsOffering, IsTaking, IsTakingBy, LeavesChannels, NotesFirst, SettlesAnyhow, SettlesBy, SettlesOn, SettlesWith, TookByte, TookOffer, byte_on, offer_left, outer_taker};
 ghost use Rattle.occ_net_tables.specs.Tasks.{IsOffered, WaitSet};
 
 use crate::choosing::{choose_arm, set_arms};
 use crate::entries::{entry, set_entry};
 use crate::ready::{insert, take_out};
 use crate::tables::Tables;
-use crate::tasks::{awaited, set_wait, take_wait};
+use crate::tasks::{awaited, set_wait, take_offered, take_wait};
 use occ_machine::{Arm, Indices, Task, Wait};
 use occ_proc::Scratch;
 use occ_term::{ERROR, End, Fault, KEYBOARD, Message, Part, Parts, Primitive, SCREEN};
@@ -179,40 +180,50 @@ impl Tables {
         }
     }
 
-    /// The message goes to a process that waits for one on its channel.
+    /// The message goes to a process that awaits one on this channel alone, and which may go on.
     #[inline(always)]
-    fn give(
-        &mut self,
-        number: u32,
-        taker: u32,
-        chan: u32,
-        message: Message,
-        pick: u32,
-    ) -> Result<(), (Message, AllocError)>
+    fn hand_to_input(&mut self, taker: u32, chan: u32, message: Message)
+        requires awaits { IsAwaiting self.old.tasks.items taker chan }
+        requires rising { IsRising self.old.ready.items }
+        requires room { HasRoom self.old 1 }
+        ensures { (pick : ℕ) → HandsTo self.old taker chan pick message self.new }
+    {
+        insert(&mut self.ready, taker);
+        set_entry(&mut self.awaiting, chan, None);
+        let wait = took(input_arm(chan), Some(message));
+        set_wait(&mut self.tasks, taker, wait);
+    }
+
+    /// The message goes to a process that waits for one on this channel, and which may go on.
+    fn hand_over(&mut self, taker: u32, chan: u32, message: Message, pick: u32)
         requires takes { IsTaking self.old.tasks.items taker chan pick }
         requires rising { IsRising self.old.ready.items }
         requires room { HasRoom self.old 1 }
-        ensures ok { OnOk result (GaveTo self.old number taker chan pick message self.new) }
-        ensures err { IfErr result (λ e. (self.new ≡ self.old) × (e.0 ≡ message)) }
+        ensures { HandsTo self.old taker chan pick message self.new }
     {
-        let (sender, receiver) = (End::Process(number), End::Process(taker));
-        match self.trace.push(chan, sender, receiver, &message) {
-            Ok(()) => {}
-            Err(refused) => return Err((message, refused)),
+        if let Some(_own) = awaited(&self.tasks, taker) {
+            self.hand_to_input(taker, chan, message);
+            return;
         }
         insert(&mut self.ready, taker);
-        if let Some(own) = awaited(&self.tasks, taker) {
-            set_entry(&mut self.awaiting, own, None);
-            set_wait(&mut self.tasks, taker, took(input_arm(own), Some(message)));
-            return Ok(());
-        }
         let arm = self.leave(taker, chan, pick);
         set_wait(&mut self.tasks, taker, took(arm, Some(message)));
-        Ok(())
+    }
+
+    /// The process waits until somebody takes what it offers on this channel.
+    #[inline(always)]
+    fn keep_offering(&mut self, place: usize, number: u32, chan: u32, message: Message)
+        requires mid { HasSomeMid self.old number place (Wait.Offers chan message) }
+        requires unread { outer_taker chan ≡ None }
+        requires alone { entry_in self.old.awaiting.items chan ≡ None }
+        ensures { SettlesAnyhow number place (Wait.Offers chan message) self.old self.new }
+    {
+        set_entry(&mut self.offering, chan, Some(number));
+        let wait = Wait::Offers { chan, message };
+        rest(&mut self.tasks, &mut self.ready, place, number, wait);
     }
 
     /// The process takes this byte, which is the keyboard's next one.
-    #[inline(never)]
     fn take_byte(&mut self, number: u32, arm: Arm, byte: u8) -> Result<(), AllocError>
         requires there { StandsLight self.old.tasks.items number }
         requires counts { self.old.used + 1 < 2 ^ 64 }
@@ -224,6 +235,18 @@ impl Tables {
         self.trace.push(KEYBOARD, sender, receiver, &message)?;
         self.used += 1;
         set_wait(&mut self.tasks, number, took(arm, Some(message)));
+        Ok(())
+    }
+
+    /// The same of a process that awaits a message on this channel alone.
+    #[inline(never)]
+    fn input_byte(&mut self, number: u32, chan: u32, byte: u8) -> Result<(), AllocError>
+        requires there { StandsLight self.old.tasks.items number }
+        requires counts { self.old.used + 1 < 2 ^ 64 }
+        ensures ok { OnOk result (TookByte self.old number (input_arm chan) byte self.new) }
+        ensures err { OnErr result (self.new ≡ self.old) }
+    {
+        self.take_byte(number, input_arm(chan), byte)?;
         Ok(())
     }
 
@@ -239,11 +262,9 @@ impl Tables {
         ensures err { OnErr result (self.new ≡ self.old) }
     {
         let (sender, receiver) = (End::Process(giver), End::Process(number));
-        let message = offered(&self.tasks, giver);
-        self.trace.push(chan, sender, receiver, message)?;
-        let Wait::Offers { message, .. } = take_wait(&mut self.tasks, giver) else {
-            unreachable!()
-        };
+        self.trace
+            .push(chan, sender, receiver, offered(&self.tasks, giver))?;
+        let message = take_offered(&mut self.tasks, giver);
         set_entry(&mut self.offering, chan, None);
         set_wait(&mut self.tasks, number, took(arm, Some(message)));
         insert(&mut self.ready, giver);
@@ -265,20 +286,22 @@ impl Tables {
             (SettlesBy pick number place (Wait.Offers chan message) self.old self.new) }
         ensures err { IfErr result (λ e. (self.new ≡ self.old) × (e.0 ≡ message)) }
     {
+        let sender = End::Process(number);
         if let Some(receiver) = reader(chan) {
-            let sender = End::Process(number);
             match self.trace.push(chan, sender, receiver, &message) {
                 Ok(()) => return Ok(()),
                 Err(refused) => return Err((message, refused)),
             }
         }
-        if let Some(taker) = entry(&self.awaiting, chan) {
-            self.give(number, taker, chan, message, pick)?;
+        let Some(taker) = entry(&self.awaiting, chan) else {
+            self.keep_offering(place, number, chan, message);
             return Ok(());
+        };
+        match self.trace.push(chan, sender, End::Process(taker), &message) {
+            Ok(()) => {}
+            Err(refused) => return Err((message, refused)),
         }
-        set_entry(&mut self.offering, chan, Some(number));
-        let wait = Wait::Offers { chan, message };
-        rest(&mut self.tasks, &mut self.ready, place, number, wait);
+        self.hand_over(taker, chan, message, pick);
         Ok(())
     }
 
@@ -298,24 +321,63 @@ impl Tables {
         ensures { OnOk result
             (SettlesBy pick number place (offer_left chan tag scratch.old) self.old self.new) }
     {
-        if let Some(receiver) = reader(chan) {
-            let sender = End::Process(number);
-            let message = scratch.take_message(tag);
-            self.trace.push(chan, sender, receiver, &message)?;
+        if let Some(_receiver) = reader(chan) {
+            return self.offer_apart(scratch, place, number, chan, tag, pick);
+        }
+        let Some(taker) = entry(&self.awaiting, chan) else {
+            self.keep_offering(place, number, chan, scratch.take_message(tag));
             return Ok(());
-        }
-        if let Some(taker) = entry(&self.awaiting, chan) {
-            let message = scratch.take_message(tag);
-            match self.give(number, taker, chan, message, pick) {
-                Ok(()) => return Ok(()),
-                Err((_, refused)) => return Err(refused),
-            }
-        }
-        set_entry(&mut self.offering, chan, Some(number));
+        };
+        let Some(_own) = awaited(&self.tasks, taker) else {
+            return self.offer_apart(scratch, place, number, chan, tag, pick);
+        };
+        self.give_left(scratch, number, taker, chan, tag)
+    }
+
+    /// The same, whoever takes it.
+    #[inline(never)]
+    fn offer_apart(
+        &mut self,
+        scratch: &mut Scratch,
+        place: usize,
+        number: u32,
+        chan: u32,
+        tag: Option<u32>,
+        pick: u32,
+    ) -> Result<(), AllocError>
+        requires mid { HasSomeMid self.old number place (offer_left chan tag scratch.old) }
+        requires room { HasRoom self.old 1 }
+        ensures { OnOk result
+            (SettlesBy pick number place (offer_left chan tag scratch.old) self.old self.new) }
+    {
         let message = scratch.take_message(tag);
-        let offer = Wait::Offers { chan, message };
-        rest(&mut self.tasks, &mut self.ready, place, number, offer);
+        match self.offer(place, number, chan, message, pick) {
+            Ok(()) => {}
+            Err((_, refused)) => return Err(refused),
+        }
         Ok(())
+    }
+
+    /// The message that the process's turn left goes to one that awaits it on this channel alone.
+    #[inline(always)]
+    fn give_left(
+        &mut self,
+        scratch: &mut Scratch,
+        number: u32,
+        taker: u32,
+        chan: u32,
+        tag: Option<u32>,
+    ) -> Result<(), AllocError>
+        requires awaits { IsAwaiting self.old.tasks.items taker chan }
+        requires rising { IsRising self.old.ready.items }
+        requires room { HasRoom self.old 1 }
+        ensures { OnOk result (GaveLeft self.old number taker chan tag scratch.old self.new) }
+    {
+        let message = scratch.take_message(tag);
+        let (sender, receiver) = (End::Process(number), End::Process(taker));
+        let noted = self.trace.push(chan, sender, receiver, &message);
+        self.hand_to_input(taker, chan, message);
+        noted
     }
 
     /// The process takes a message that is there, or it waits for one.
@@ -334,7 +396,7 @@ impl Tables {
         ensures err { OnErr result (self.new ≡ self.old) }
     {
         if let Some(byte) = next_byte(chan, keyboard, self.used) {
-            self.take_byte(number, input_arm(chan), byte)?;
+            self.input_byte(number, chan, byte)?;
             return Ok(());
         }
         match entry(&self.offering, chan) {

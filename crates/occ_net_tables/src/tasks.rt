@@ -1,13 +1,15 @@
 //! Changes of one process's task, at its place of the table.
-ghost use Rattle.std.specs.Prelude.{◌≡◌, ◌↔◌, ◌+◌, ◌<◌, ◌≤◌, ◌^◌, IfOk, IsTrue, Some, length, slice_set};
+ghost use Rattle.std.specs.Prelude.{◌≡◌, ◌↔◌, ◌+◌, ◌<◌, ◌≤◌, ◌^◌, IfOk, IsTrue, Some, length, slice_set, ℕ};
 ghost use Rattle.occ_machine.specs.declared.task.Task.{Task};
 ghost use Rattle.occ_net_replay.specs.Replay.{HasTask};
 ghost use Rattle.occ_net_tables.specs.Light.{IsAwaited, StandsLight};
 ghost use Rattle.occ_net_tables.specs.Rows.{EndsRow, MayTakeRow};
-ghost use Rattle.occ_net_tables.specs.Tasks.{EndsTurn, IsThere, MayTakeTurn, WaitSet, WaitTaken};
+ghost use Rattle.occ_net_tables.specs.Settling.{IsOffering};
+ghost use Rattle.occ_net_tables.specs.Tasks.{EndsTurn, IsThere, MayTakeTurn, OfferTaken, WaitSet, WaitTaken};
 
 use occ_machine::{Body, Task, Wait};
 use occ_proc::{Scratch, TurnEnd, advance_row, advance_to_end};
+use occ_term::Message;
 use std::alloc::{AllocError, Global};
 use std::mem;
 
@@ -111,6 +113,25 @@ pub(crate) fn take_wait(tasks: &mut Vec<Option<Task>>, number: u32) -> Wait
 {
     match &mut tasks[number as usize] {
         Some(task) => mem::replace(&mut task.wait, Wait::Ready),
+        None => unreachable!(),
+    }
+}
+
+/// The message that the process offers is handed out, and the process is left as ready.
+#[inline(always)]
+pub(crate) fn take_offered(tasks: &mut Vec<Option<Task>>, giver: u32) -> Message
+    requires { (chan : ℕ) × IsOffering tasks.old.items giver chan }
+    ensures { OfferTaken tasks.old.items giver result tasks.new.items }
+{
+    match &mut tasks[giver as usize] {
+        // in this arm it is known that nothing else is let go
+        Some(task) => match &task.wait {
+            Wait::Offers { .. } => match mem::replace(&mut task.wait, Wait::Ready) {
+                Wait::Offers { message, .. } => message,
+                _ => unreachable!(),
+            },
+            _ => unreachable!(),
+        },
         None => unreachable!(),
     }
 }

@@ -1,45 +1,47 @@
-use Rattle.std.proofs.Common.{◌∙◌, refl, sym, ap}
+use Rattle.std.proofs.Common.{◌∙◌, subst, sym, ap}
+use Rattle.std.specs.Prelude.{slice_get}
 use Rattle.occ_term.specs.Messages.{message}
+use Rattle.occ_term.specs.declared.message.Message.{Message}
 use Rattle.occ_machine.specs.declared.task.Wait.TheVariants as W
 use Rattle.occ_proc.specs.Turns.{left_message}
-use Rattle.occ_net_replay.specs.Replay.{made_ready}
+use Rattle.occ_proc.proofs.Stacks.{on_ok_map}
 use Rattle.occ_net_tables.specs.Keys.{entry_in}
-use Rattle.occ_net_tables.proofs.Between.{there_old, taker_of, was_read, was_given, offer_waits}
-use Rattle.occ_net_tables.proofs.Waits.{rising_of, within_of, light_of, rests_at_offer, sized_at_offer}
+use Rattle.occ_net_tables.specs.Settling.{HasSomeMid, SettlesBy}
+use Rattle.occ_net_tables.proofs.Arms.{same_channel}
+use Rattle.occ_net_tables.proofs.Between.{taker_of, was_given}
+use Rattle.occ_net_tables.proofs.LightWaits.{awaits_it}
+use Rattle.occ_net_tables.proofs.Waits.{rising_of}
 use Rattle.occ_net_tables.proofs.tables.Tables.offer_left.Goals as goal
 
-pub give-requires-clause-takes : goal.give-requires-clause-takes
-give-requires-clause-takes c =
+pub keep_offering-requires-clause-mid : goal.keep_offering-requires-clause-mid
+keep_offering-requires-clause-mid c = subst (λ (m : Message). HasSomeMid c.args.self.now c.args.number c.args.place (W.Offers c.args.chan m)) (sym c.take_message.ensures) c.requires.mid
+
+pub keep_offering-requires-clause-unread : goal.keep_offering-requires-clause-unread
+keep_offering-requires-clause-unread c = sym c.reader.ensures ∙ c.in_default.is
+
+pub keep_offering-requires-clause-alone : goal.keep_offering-requires-clause-alone
+keep_offering-requires-clause-alone c = ap (λ t. entry_in t c.args.chan) (sym c.deref.ensures.value) ∙ sym c.entry.ensures ∙ c.in_default-entry.is
+
+pub returns-in_default-entry : goal.returns-in_default-entry
+returns-in_default-entry c = subst (λ (m : Message). SettlesBy c.args.pick c.args.number c.args.place (W.Offers c.args.chan m) c.args.self.now c.keep_offering.new.self) c.take_message.ensures (λ p kb. c.keep_offering.ensures p kb c.args.pick)
+
+pub awaited-requires : goal.awaited-requires
+awaited-requires c =
     let h = c.requires.mid.1 in
     let x = taker_of c.requires.mid.0 h.keyboard c.args.self.now c.args.number c.args.place h.after h.net h.mid c.args.chan c.args.pick c.in-Some-entry.taker (ap (λ t. entry_in t c.args.chan) (sym c.deref.ensures.value) ∙ sym c.entry.ensures ∙ c.in-Some-entry.is) in
-    record { task = x.task; there = x.there; arm = x.arm; takes = x.takes }
+    record { task = x.task; there = ap (λ l. slice_get l c.in-Some-entry.taker) c.deref-2.ensures.value ∙ x.there }
 
-pub give-requires-clause-rising : goal.give-requires-clause-rising
-give-requires-clause-rising c = rising_of c.requires.mid.0 c.args.self.now c.args.number c.args.place (W.Offers c.args.chan (message c.args.tag (left_message c.args.scratch.now))) c.requires.mid.1
+pub give_left-requires-clause-awaits : goal.give_left-requires-clause-awaits
+give_left-requires-clause-awaits c =
+    let h = c.requires.mid.1 in
+    let x = taker_of c.requires.mid.0 h.keyboard c.args.self.now c.args.number c.args.place h.after h.net h.mid c.args.chan c.args.pick c.in-Some-entry.taker (ap (λ t. entry_in t c.args.chan) (sym c.deref.ensures.value) ∙ sym c.entry.ensures ∙ c.in-Some-entry.is) in
+    let own = c.awaited.ensures x.task (ap (λ l. slice_get l c.in-Some-entry.taker) c.deref-2.ensures.value ∙ x.there) in
+    record { task = x.task; there = x.there; waits = same_channel c.in-Some-awaited._own x.takes (awaits_it x.task.wait c.in-Some-awaited._own (sym c.in-Some-awaited.is ∙ own)) }
 
-pub rest-requires-clause-there : goal.rest-requires-clause-there
-rest-requires-clause-there c = light_of c.requires.mid.0 c.args.self.now c.args.number c.args.place (W.Offers c.args.chan (message c.args.tag (left_message c.args.scratch.now))) c.requires.mid.1
-
-pub rest-requires-clause-within : goal.rest-requires-clause-within
-rest-requires-clause-within c = within_of c.requires.mid.0 c.args.self.now c.args.number c.args.place (W.Offers c.args.chan (message c.args.tag (left_message c.args.scratch.now))) c.requires.mid.1
-
-pub returns-in-Some : goal.returns-in-Some
-returns-in-Some c = λ p kb after net mid waits.
-    let w = waits ∙ ap (λ m. W.Offers c.args.chan m) (sym c.take_message-message.ensures) in
-    was_read p kb c.args.self.now c.args.number c.args.place after net mid _ c.args.pick c.args.chan c.take_message-message.result c.in-Some.receiver w (sym c.reader.ensures ∙ c.in-Some.is) refl refl c.in_ok-push.ensures.pushed mid.sound mid.sized
-
-pub returns-in-Ok : goal.returns-in-Ok
-returns-in-Ok c = λ p kb after net mid waits.
-    let w = waits ∙ ap (λ m. W.Offers c.args.chan m) (sym c.take_message-message-in-Some-entry.ensures) in
-    let x = taker_of p kb c.args.self.now c.args.number c.args.place after net mid c.args.chan c.args.pick c.in-Some-entry.taker (ap (λ t. entry_in t c.args.chan) (sym c.deref.ensures.value) ∙ sym c.entry.ensures ∙ c.in-Some-entry.is) in
-    was_given p kb c.args.self.now c.args.number c.args.place after net mid _ c.args.pick c.args.chan c.in-Some-entry.taker c.take_message-message-in-Some-entry.result w x (c.in-Ok.ensures.ok x.task x.arm x.there x.takes)
+pub give_left-requires-clause-rising : goal.give_left-requires-clause-rising
+give_left-requires-clause-rising c = rising_of c.requires.mid.0 c.args.self.now c.args.number c.args.place (W.Offers c.args.chan (message c.args.tag (left_message c.args.scratch.now))) c.requires.mid.1
 
 pub returns : goal.returns
-returns c = λ p kb after net mid waits.
-    let m = c.take_message-message-2.result in
-    let w = waits ∙ ap (λ m. W.Offers c.args.chan m) (sym c.take_message-message-2.ensures) in
-    let there = there_old p kb c.args.self.now c.args.number c.args.place after net mid in
-    let tasks = c.rest.ensures.tasks (made_ready after) there in
-    offer_waits p kb c.args.self.now c.args.number c.args.place after net mid _ c.args.pick c.args.chan m w (sym c.reader.ensures ∙ c.in_default.is) (ap (λ t. entry_in t c.args.chan) (sym c.deref.ensures.value) ∙ sym c.entry.ensures ∙ c.in_default-entry.is) tasks refl refl
-    (rests_at_offer p kb c.args.self.now c.args.number c.args.place after net mid c.args.chan m w tasks c.rest.ensures.ready c.set_entry.ensures)
-    (sized_at_offer p kb c.args.self.now c.args.number c.args.place after net mid c.args.chan m tasks c.set_entry.ensures)
+returns c = on_ok_map _ _ c.give_left.result (λ gave p kb after net mid w.
+    let x = taker_of p kb c.args.self.now c.args.number c.args.place after net mid c.args.chan c.args.pick c.in-Some-entry.taker (ap (λ t. entry_in t c.args.chan) (sym c.deref.ensures.value) ∙ sym c.entry.ensures ∙ c.in-Some-entry.is) in
+    was_given p kb c.args.self.now c.args.number c.args.place after net mid _ c.args.pick c.args.chan c.in-Some-entry.taker (message c.args.tag (left_message c.args.scratch.now)) w x (gave c.args.pick x.task x.arm x.there x.takes)) c.give_left.ensures
