@@ -16,6 +16,7 @@ pub mod Ends
 pub mod Forked
 pub mod Ended
 pub mod Turned
+pub mod Going
 pub mod Start
 pub mod Roomy
 pub mod Placing

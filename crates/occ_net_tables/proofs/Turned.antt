@@ -149,7 +149,7 @@ read_at xs i n h e = let x = get_some xs i h in x.1 ∙ ap Some (sym (e ∙ get_
 pub place_within : (which place k : ℕ) → place ≡ which % k → 0 < k → place < k
 place_within which place k e h = let below = mod_below which k h in omega (arith, e, below)
 
-main_goes : (tasks : Tasks) (number : ℕ) (after : Task) → main_done tasks ≡ false → is_done after.wait ≡ false → main_done (slice_set tasks number (Some after)) ≡ false
+pub main_goes : (tasks : Tasks) (number : ℕ) (after : Task) → main_done tasks ≡ false → is_done after.wait ≡ false → main_done (slice_set tasks number (Some after)) ≡ false
 main_goes [] number after e h = refl
 main_goes (t ∷ ts) zero after e h = h
 main_goes (t ∷ ts) (suc n) after e h = e

@@ -112,17 +112,25 @@ impl Tables {
             TurnEnd::Ready => Ok(true),
             TurnEnd::Offers(tag, chan) => {
                 self.settle_offer(scratch, place, number, chan, tag, pick)?;
-                Ok(false)
+                Ok(self.several_ready())
             }
             TurnEnd::Awaits(chan) => {
                 self.settle_input(keyboard, place, number, chan)?;
-                Ok(false)
+                Ok(self.several_ready())
             }
             TurnEnd::Other => {
                 self.settle_wait(alloc, code, keyboard, place, number, pick)?;
                 Ok(false)
             }
         }
+    }
+
+    /// Whether more than one process is ready.
+    #[inline(always)]
+    fn several_ready(&self) -> bool
+        ensures { IsTrue result → 1 < length self.now.ready.items }
+    {
+        self.ready.len() > 1
     }
 
     /// What happens at once where a process offers the message that its turn left, with this tag where it has one.

@@ -1,12 +1,14 @@
-use Rattle.std.proofs.Common.{◌≡◌, ap, refl, subst}
+use Rattle.std.proofs.Common.{◌≡◌, ◌∙◌, ap, arith, refl, subst, sym}
 use Rattle.occ_term.specs.Messages.{message}
 use Rattle.occ_machine.specs.SameStop.{ready_with}
 use Rattle.occ_machine.specs.declared.task.Task.{Task}
 use Rattle.occ_machine.specs.declared.task.Wait.TheVariants as W
 use Rattle.occ_proc.specs.Turns.{IsLeftReady, left_message, standing_at}
+use Rattle.occ_net_replay.specs.Replay.{is_done, noted_at}
 use Rattle.occ_net_replay.proofs.Tables.{task_once}
-use Rattle.occ_net_tables.specs.Settling.{SettlesTo}
+use Rattle.occ_net_tables.specs.Settling.{SettlesTo, tables_with}
 use Rattle.occ_net_tables.proofs.Between.{goes_on}
+use Rattle.occ_net_tables.proofs.Going.{goes_where_some}
 use Rattle.occ_net_tables.proofs.Rowed.{mid_behind, own_place, stays_open, tasks_left, turns_behind}
 use Rattle.occ_net_tables.proofs.Turned.{are_bytes}
 use Rattle.occ_net_tables.proofs.tables.Tables.settle_end.Goals as goal
@@ -131,6 +133,26 @@ returns-in_ok-settle_offer-in-Offers-clause-turn c =
     turns_behind p kb c.compiled.ensures bytes n place number after last s t n tasks net h choice (own_place n place number choice.which t.at own) _
     (subst (λ k. SettlesTo p kb k number after net c.settle_offer.new.self) pick (c.in_ok-settle_offer-in-Offers.ensures p kb after net mid waits))
 
+pub returns-in_ok-settle_offer-in-Offers-clause-going : goal.returns-in_ok-settle_offer-in-Offers-clause-going
+returns-in_ok-settle_offer-in-Offers-clause-going c =
+    let p = c.args.code.now in
+    let kb = c.args.keyboard.now in
+    let n = c.args.self.now in
+    let number = c.args.number in
+    let place = c.args.place in
+    let items = left_message c.args.scratch.now in
+    let bytes = are_bytes kb (λ k. (c.type_inv.keyboard k).fits) in
+    let r = c.requires in
+    let after : Task = ready_with r.left (standing_at c.args.end items r.left.wait) in
+    let waits : after.wait ≡ W.Offers c.in-Offers.chan (message c.in-Offers.tag items) = ap (λ e. standing_at e items r.left.wait) c.in-Offers.is in
+    let ready : r.left.wait ≡ W.Ready = subst (λ e. IsLeftReady e r.left.wait) c.in-Offers.is r.ready in
+    let tasks = tasks_left n number r.left r.there ready (standing_at c.args.end items r.left.wait) in
+    let s = r.behind.standing in
+    let mid = mid_behind p kb c.compiled.ensures bytes n place number after r.behind.last s r.behind.turn n tasks s.net s.holds refl refl refl refl refl refl refl refl in
+    λ going.
+    let several = c.several_ready.ensures going in
+    goes_where_some p kb (tables_with n number r.behind.last) s c.args.pick number mid.before after mid.has_task (ap is_done waits) (ap noted_at waits) (λ ns e. let q = sym waits ∙ e in cc) _ (c.in_ok-settle_offer-in-Offers.ensures p kb after s.net mid waits) (omega (arith, several))
+
 pub returns-in_ok-settle_input-in-Awaits-clause-turn : goal.returns-in_ok-settle_input-in-Awaits-clause-turn
 returns-in_ok-settle_input-in-Awaits-clause-turn c =
     let p = c.args.code.now in
@@ -150,6 +172,26 @@ returns-in_ok-settle_input-in-Awaits-clause-turn c =
     let mid = mid_behind p kb c.compiled.ensures bytes n place number after last s t n tasks net h refl refl refl refl refl refl refl refl in
     turns_behind p kb c.compiled.ensures bytes n place number after last s t n tasks net h choice (own_place n place number choice.which t.at own) _
     (c.in_ok-settle_input-in-Awaits.ensures p choice.pick after net mid waits)
+
+pub returns-in_ok-settle_input-in-Awaits-clause-going : goal.returns-in_ok-settle_input-in-Awaits-clause-going
+returns-in_ok-settle_input-in-Awaits-clause-going c =
+    let p = c.args.code.now in
+    let kb = c.args.keyboard.now in
+    let n = c.args.self.now in
+    let number = c.args.number in
+    let place = c.args.place in
+    let items = left_message c.args.scratch.now in
+    let bytes = are_bytes kb (λ k. (c.type_inv.keyboard k).fits) in
+    let r = c.requires in
+    let after : Task = ready_with r.left (standing_at c.args.end items r.left.wait) in
+    let waits : after.wait ≡ W.Awaits c.in-Awaits.chan = ap (λ e. standing_at e items r.left.wait) c.in-Awaits.is in
+    let ready : r.left.wait ≡ W.Ready = subst (λ e. IsLeftReady e r.left.wait) c.in-Awaits.is r.ready in
+    let tasks = tasks_left n number r.left r.there ready (standing_at c.args.end items r.left.wait) in
+    let s = r.behind.standing in
+    let mid = mid_behind p kb c.compiled.ensures bytes n place number after r.behind.last s r.behind.turn n tasks s.net s.holds refl refl refl refl refl refl refl refl in
+    λ going.
+    let several = c.several_ready-in-Awaits.ensures going in
+    goes_where_some p kb (tables_with n number r.behind.last) s c.args.pick number mid.before after mid.has_task (ap is_done waits) (ap noted_at waits) (λ ns e. let q = sym waits ∙ e in cc) _ (c.in_ok-settle_input-in-Awaits.ensures p c.args.pick after s.net mid waits) (omega (arith, several))
 
 pub returns-in_ok-settle_wait-in-Other-clause-turn : goal.returns-in_ok-settle_wait-in-Other-clause-turn
 returns-in_ok-settle_wait-in-Other-clause-turn c =
