@@ -357,6 +357,10 @@ NotesFirst noted fault first = (faults : List Fault) → noted ≡ first_noted f
 abbrev pub offer_left : ℕ → Option ℕ → Scratch → Wait
 offer_left chan tag scratch = Offers chan (message tag (left_message scratch))
 
+-- an end that always takes what is offered took them
+abbrev pub ShowsLeft : Tables → (number : ℕ) → End → (chan : ℕ) → Option ℕ → Scratch → Tables → Type 0
+ShowsLeft old number receiver chan tag scratch new = new ≡ with_noted old (communicated chan (Process number) receiver (message tag (left_message scratch)))
+
 -- these went to a process that waited for them, whatever the pick
 abbrev pub GaveLeft : Tables → (number taker chan : ℕ) → Option ℕ → Scratch → Tables → Type 0
 GaveLeft old number taker chan tag scratch new = (pick : ℕ) → GaveTo old number taker chan pick (message tag (left_message scratch)) new

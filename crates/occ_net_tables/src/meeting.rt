@@ -9,7 +9,7 @@ ghost use Rattle.occ_net_tables.specs.Choosing.{input_arm, keyboard_at};
 ghost use Rattle.occ_net_tables.specs.Keys.{entry_in};
 ghost use Rattle.occ_net_tables.specs.Light.{StandsLight};
 ghost use Rattle.occ_net_tables.specs.Room.{HasRoom};
-ghost use Rattle.occ_net_tables.specs.Settling.{GaveLeft, HandsTo, HasSomeMid, IsAwaiting, IsOffering, IsTaking, IsTakingBy, LeavesChannels, NotesFirst, SettlesAnyhow, SettlesBy, SettlesOn, SettlesWith, TookByte, TookOffer, byte_on, offer_left, outer_taker};
+ghost use Rattle.occ_net_tables.specs.Settling.{GaveLeft, HandsTo, HasSomeMid, IsAwaiting, IsOffering, IsTaking, IsTakingBy, LeavesChannels, NotesFirst, SettlesAnyhow, SettlesBy, SettlesOn, SettlesWith, ShowsLeft, TookByte, TookOffer, byte_on, offer_left, outer_taker};
 ghost use Rattle.occ_net_tables.specs.Tasks.{IsOffered, WaitSet};
 
 use crate::choosing::{choose_arm, set_arms};
@@ -321,8 +321,8 @@ impl Tables {
         ensures { OnOk result
             (SettlesBy pick number place (offer_left chan tag scratch.old) self.old self.new) }
     {
-        if let Some(_receiver) = reader(chan) {
-            return self.offer_apart(scratch, place, number, chan, tag, pick);
+        if let Some(receiver) = reader(chan) {
+            return self.show_left(scratch, number, receiver, chan, tag);
         }
         let Some(taker) = entry(&self.awaiting, chan) else {
             self.keep_offering(place, number, chan, scratch.take_message(tag));
@@ -334,7 +334,26 @@ impl Tables {
         self.give_left(scratch, number, taker, chan, tag)
     }
 
-    /// The same, whoever takes it.
+    /// The message that the process's turn left goes to an end that always takes it.
+    #[inline(never)]
+    fn show_left(
+        &mut self,
+        scratch: &mut Scratch,
+        number: u32,
+        receiver: End,
+        chan: u32,
+        tag: Option<u32>,
+    ) -> Result<(), AllocError>
+        ensures { OnOk result
+            (ShowsLeft self.old number receiver chan tag scratch.old self.new) }
+    {
+        let message = scratch.take_message(tag);
+        let sender = End::Process(number);
+        self.trace.push(chan, sender, receiver, &message)?;
+        Ok(())
+    }
+
+    /// What the process offers is taken, whoever does so, or it waits until it is.
     #[inline(never)]
     fn offer_apart(
         &mut self,
@@ -358,7 +377,8 @@ impl Tables {
         Ok(())
     }
 
-    /// The message that the process's turn left goes to one that awaits it on this channel alone.
+    /// The message that the process's turn left goes to one that awaits it on this channel alone. It does so too where its
+    /// communication can't be noted: after a refused growth the network is not to be used.
     #[inline(always)]
     fn give_left(
         &mut self,

@@ -1,17 +1,26 @@
-use Rattle.std.proofs.Common.{◌∙◌, subst, sym, ap}
+use Rattle.std.proofs.Common.{◌∙◌, subst, sym, ap, refl}
 use Rattle.std.specs.Prelude.{slice_get}
 use Rattle.occ_term.specs.Messages.{message}
 use Rattle.occ_term.specs.declared.message.Message.{Message}
 use Rattle.occ_machine.specs.declared.task.Wait.TheVariants as W
 use Rattle.occ_proc.specs.Turns.{left_message}
 use Rattle.occ_proc.proofs.Stacks.{on_ok_map}
+use Rattle.occ_term.specs.declared.communication.End.TheVariants.{Process}
+use Rattle.occ_net_tables.specs.declared.tables.Tables.{Tables}
 use Rattle.occ_net_tables.specs.Keys.{entry_in}
-use Rattle.occ_net_tables.specs.Settling.{HasSomeMid, SettlesBy}
+use Rattle.occ_net_tables.specs.Settling.{HasSomeMid, SettlesBy, SettlesTo, communicated, with_noted}
 use Rattle.occ_net_tables.proofs.Arms.{same_channel}
-use Rattle.occ_net_tables.proofs.Between.{taker_of, was_given}
+use Rattle.occ_net_tables.proofs.Between.{taker_of, was_given, was_read}
 use Rattle.occ_net_tables.proofs.LightWaits.{awaits_it}
 use Rattle.occ_net_tables.proofs.Waits.{rising_of}
 use Rattle.occ_net_tables.proofs.tables.Tables.offer_left.Goals as goal
+
+pub returns-in-Some : goal.returns-in-Some
+returns-in-Some c = on_ok_map _ _ c.show_left.result (λ shown p kb after net mid w.
+    let m = message c.args.tag (left_message c.args.scratch.now) in
+    let n = c.args.self.now in
+    subst (λ (z : Tables). SettlesTo p kb c.args.pick c.args.number after net z) (sym shown)
+    (was_read p kb n c.args.number c.args.place after net mid (with_noted n (communicated c.args.chan (Process c.args.number) c.in-Some.receiver m)) c.args.pick c.args.chan m c.in-Some.receiver w (sym c.reader.ensures ∙ c.in-Some.is) refl refl refl mid.sound mid.sized)) c.show_left.ensures
 
 pub keep_offering-requires-clause-mid : goal.keep_offering-requires-clause-mid
 keep_offering-requires-clause-mid c = subst (λ (m : Message). HasSomeMid c.args.self.now c.args.number c.args.place (W.Offers c.args.chan m)) (sym c.take_message.ensures) c.requires.mid
