@@ -5,6 +5,7 @@ pub mod Tested
 pub mod Walking
 pub mod Moving
 pub mod Quickly
+pub mod Offered
 pub mod Parted
 mod Opened
 mod Rows
