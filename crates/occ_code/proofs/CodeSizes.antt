@@ -9,8 +9,10 @@ use Rattle.occ_term.specs.Processes.{Numbered, branches_in, branches_in_terms, b
 use Rattle.occ_machine.specs.Machine.{placed}
 use Rattle.occ_machine.specs.declared.instr.Instr.{Instr}
 use Rattle.occ_machine.specs.declared.instr.Instr.TheVariants.{Push, DropOne, IfTrue, OpenSkip, OpenInput, ChooseArm, StoreOne, End, LoadAt, LoadLetter, Subscript, Operate, OperateOne, ConvertTo, AndThen, OrElse, PartOne, PartMany, PartCounted, PartCountedText, SpotOne, SpotCounted, StoreParts, StoreNamed, Jump, Choose, NextChoice, BackToChoice, Begin, Pass, CountedFrom, LoopBack, Send, Receive, Halt}
+use Rattle.occ_code.specs.OperandOrder.{comes_second}
 use Rattle.occ_code.specs.Expressions.{components_at, expression_code, place_code, subscripts_code, item_code, items_code, target_code, targets_code, declaration_code, declarations_code, storing_code, counting_code, assignment_code, opening_code, skip_opening, input_opening}
 use Rattle.occ_code.specs.Emitted.{term_code, terms_code, arm_code, each_arm_code, arms_code, list_code, variants_code, choices_code, options_code, else_code, whole_code, instructions_of, BodiesAreSmall, ProgramsAreSmall}
+use Rattle.occ_code.proofs.OperandOrder.{length-both_operands}
 
 two : (a b : List (Instr ℕ)) (x y : ℕ) → length a ≤ x → length b ≤ y → length (a ++ b) ≤ x + y
 two a b x y p q = omega (arith, length-append a b, p, q)
@@ -21,7 +23,7 @@ mutual
   expression_small (Cell c) = omega arith
   expression_small (Component (place line first sizes subs)) = omega (arith, subscripts_small subs line sizes, length-append (place_code (place line first sizes subs)) (LoadAt ∷ []))
   expression_small (Letter line text e) = omega (arith, expression_small e, length-append (expression_code e) (LoadLetter line (map nat_abs text) ∷ []))
-  expression_small (Binary op type line a b) = omega (arith, expression_small a, expression_small b, length-append (expression_code a) (expression_code b ++ Operate op type line ∷ []), length-append (expression_code b) (Operate op type line ∷ []))
+  expression_small (Binary op type line a b) = omega (arith, expression_small a, expression_small b, length-both_operands (comes_second op a b) (expression_code a) (expression_code b) (Operate op type line ∷ []))
   expression_small (Unary op type line a) = omega (arith, expression_small a, length-append (expression_code a) (OperateOne op type line ∷ []))
   expression_small (And a b) = omega (arith, expression_small a, expression_small b, length-append (expression_code a) (AndThen (length (expression_code b)) ∷ expression_code b))
   expression_small (Or a b) = omega (arith, expression_small a, expression_small b, length-append (expression_code a) (OrElse (length (expression_code b)) ∷ expression_code b))

@@ -1,17 +1,20 @@
 -- What is emitted one after the other, and the parts of a list, the last one first.
 use Rattle.std.specs.Prelude.{map, ◌-◌}
-use Rattle.std.proofs.Common.{◌≡◌, ℕ, zero, suc, ◌+◌, ◌*◌, ◌<◌, ◌≤◌, List, [], ◌∷◌, ◌++◌, drop, take, min, get_or, length, rules, refl, sym, ap, ◌∙◌, arith, append_assoc, append-nil, length-append}
+use Rattle.std.proofs.Common.{◌≡◌, true, false, ℕ, zero, suc, ◌+◌, ◌*◌, ◌<◌, ◌≤◌, List, [], ◌∷◌, ◌++◌, drop, take, min, get_or, length, rules, refl, sym, ap, ◌∙◌, arith, append_assoc, append-nil, length-append}
 use Rattle.std.proofs.Math.Seq.{drop-cons}
 use Rattle.std.proofs.lemmas.List.{reverse-append, length-reverse}
 use Rattle.occ_term.specs.Messages.{product}
 use Rattle.std.proofs.lemmas.Grind.{common_steps}
-use Rattle.occ_term.specs.Terms.{place}
+use Rattle.occ_term.specs.Terms.{Expression, Binary, place}
+use Rattle.occ_term.specs.declared.expression.Operator.{Operator}
+use Rattle.occ_term.specs.declared.primitive.Primitive.{Primitive}
 use Rattle.occ_term.specs.Uses.{components}
 use Rattle.occ_term.specs.View.{expression_of, place_of, subscripts}
 use Rattle.occ_term.specs.declared.expression.TermExpr.{TermExpr, the_lemmas}
 use Rattle.occ_term.specs.declared.expression.Place.{Place}
+use Rattle.occ_code.specs.OperandOrder.{both_operands, comes_second}
 use Rattle.occ_code.specs.Expressions.{expression_code, subscripts_code, components_at}
-use Rattle.occ_machine.specs.declared.instr.Instr.TheVariants.{Subscript}
+use Rattle.occ_machine.specs.declared.instr.Instr.TheVariants.{Operate, Subscript}
 use Rattle.occ_code.specs.Emits.{emitted, Emits}
 use Rattle.occ_machine.specs.declared.instr.Instr.{Instr}
 
@@ -46,6 +49,16 @@ emits_length {a} {b} {p} x =
 
 pub emits_since : {a b p : List (Instr ℕ)} → Emits a p b → length b - length a ≡ length p
 emits_since x = omega (arith, emits_length x)
+
+-- ---- operands
+
+pub left_first : (op : Operator) (type : Primitive) (line : ℕ) (a b : Expression) → comes_second op a b ≡ false
+    → expression_code a ++ (expression_code b ++ Operate op type line ∷ []) ≡ expression_code (Binary op type line a b)
+left_first op type line a b h = ap (λ second. both_operands second (expression_code a) (expression_code b) (Operate op type line ∷ [])) (sym h)
+
+pub left_second : (op : Operator) (type : Primitive) (line : ℕ) (a b : Expression) → comes_second op a b ≡ true
+    → expression_code b ++ (expression_code a ++ Operate op type line ∷ []) ≡ expression_code (Binary op type line a b)
+left_second op type line a b h = ap (λ second. both_operands second (expression_code a) (expression_code b) (Operate op type line ∷ [])) (sym h)
 
 -- ---- what is left of a list
 

@@ -1,6 +1,7 @@
 mod NamedCells
 mod Walks
 mod Letters
+mod OperandOrder
 mod RunningExpressions
 mod RunningItems
 mod ReadCells

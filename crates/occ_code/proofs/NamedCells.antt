@@ -11,6 +11,7 @@ use Rattle.occ_machine.specs.SameStop.{Lists, used_by}
 use Rattle.occ_machine.specs.Machine.{NamesWithin}
 use Rattle.occ_machine.specs.declared.instr.Instr.{Instr}
 use Rattle.occ_machine.specs.declared.instr.Instr.TheVariants.{End, OpenSkip, OpenInput}
+use Rattle.occ_code.specs.OperandOrder.{both_operands, comes_second}
 use Rattle.occ_code.specs.Expressions.{expression_code, place_code, subscripts_code, item_code, items_code, target_code, targets_code, declaration_code, declarations_code, storing_code, counting_code, assignment_code, par_code, opening_code, skip_opening, input_opening}
 use Rattle.occ_code.specs.Emitted.{counters_of, counters_of_terms, counters_of_arms, counters_of_list, counters_of_variants, counters_of_choices, counters_of_options, counters_of_else, term_code, terms_code, arm_code, arms_code, list_code, variants_code, choices_code, options_code, else_code, whole_code}
 
@@ -36,6 +37,10 @@ module _ (cells : List ℕ) (loops : ℕ) where
   both : (xs ys : List (Instr ℕ)) → Names xs → Names ys → Names (xs ++ ys)
   both [] ys h k = k
   both (x ∷ xs) ys h k = (h.0, both xs ys h.1 k)
+
+  operands : (second : Bool) (xs ys zs : List (Instr ℕ)) → Names xs → Names ys → Names zs → Names (both_operands second xs ys zs)
+  operands false xs ys zs h k l = both xs _ h (both ys _ k l)
+  operands true xs ys zs h k l = both ys _ k (both xs _ h l)
 
   all_names : (is : List (Instr ℕ)) → Names is → All (NamesWithin cells loops) is
   all_names [] h = All-nil (NamesWithin cells loops)
@@ -67,7 +72,7 @@ module _ (cells : List ℕ) (loops : ℕ) where
     expression_names (Component p) k = both (place_code p) _ (place_names p (right_in (named_by p) (reads_in_place p) k)) (tt, tt)
     expression_names (Letter line text e) k = both (expression_code e) _ (expression_names e k) (tt, tt)
     expression_names (Binary op type line a b) k =
-        both (expression_code a) _ (expression_names a (left_in (reads_of a) (reads_of b) k)) (both (expression_code b) _ (expression_names b (right_in (reads_of a) (reads_of b) k)) (tt, tt))
+        operands (comes_second op a b) (expression_code a) (expression_code b) _ (expression_names a (left_in (reads_of a) (reads_of b) k)) (expression_names b (right_in (reads_of a) (reads_of b) k)) (tt, tt)
     expression_names (Unary op type line a) k = both (expression_code a) _ (expression_names a k) (tt, tt)
     expression_names (And a b) k = both (expression_code a) _ (expression_names a (left_in (reads_of a) (reads_of b) k)) (tt, expression_names b (right_in (reads_of a) (reads_of b) k))
     expression_names (Or a b) k = both (expression_code a) _ (expression_names a (left_in (reads_of a) (reads_of b) k)) (tt, expression_names b (right_in (reads_of a) (reads_of b) k))

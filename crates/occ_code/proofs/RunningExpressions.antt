@@ -1,16 +1,18 @@
 -- An expression's code brings its value to the top of the stack, or comes to its fault.
 use Rattle.std.specs.Prelude.{slice_get, get_or, if◌then◌else◌, int_le, nat_eq, ◌||◌}
-use Rattle.std.proofs.Common.{arith, mul-zero, ◌≡◌, ℕ, zero, suc, ℤ, pos, ◌+◌, ◌*◌, ◌<◌, ◌≤◌, Bool, true, false, IsTrue, List, [], ◌∷◌, length, Option, Some, refl, ap, ◌∙◌, subst}
+use Rattle.std.proofs.Common.{arith, mul-zero, ◌≡◌, ℕ, zero, suc, ℤ, pos, ◌+◌, ◌*◌, ◌<◌, ◌≤◌, Bool, true, false, IsTrue, List, [], ◌∷◌, ◌++◌, length, Option, Some, refl, sym, ap, ◌∙◌, subst}
 use Rattle.std.proofs.lemmas.Bool.Decides.{nat_tests}
 use Rattle.occ_term.specs.Messages.{product}
 use Rattle.occ_term.specs.declared.message.Part.{Part}
+use Rattle.occ_term.specs.declared.expression.Operator.{Operator}
 use Rattle.occ_term.specs.Terms.{Expression, Constant, Cell, Component, Letter, Binary, Unary, And, Or, Conversion, Place, place, Subscripts, no_subscripts, then_subscript}
 use Rattle.occ_term.specs.Values.{Evaluated, Value, Fails, after, holds, binary, unary, converted, subscript, Span, span, first_of, value_of, span_of, offset_of}
 use Rattle.occ_term.specs.Storing.{Spot}
 use Rattle.occ_term.specs.Frames.{Variables, at}
 use Rattle.occ_machine.specs.Machine.{by_cell, Point, point, Moves, Stuck, is_number, is_component, act, going, going_if, Walks, here, on}
 use Rattle.occ_machine.specs.declared.instr.Instr.{Instr}
-use Rattle.occ_machine.specs.declared.instr.Instr.TheVariants.{AndThen, OrElse}
+use Rattle.occ_machine.specs.declared.instr.Instr.TheVariants.{AndThen, Load, Operate, OrElse}
+use Rattle.occ_code.specs.OperandOrder.{both_operands, comes_second, commutes}
 use Rattle.occ_code.specs.Expressions.{expression_code, place_code, subscripts_code}
 use Rattle.occ_code.specs.Laws.{StandsAt, FaultsAt, Comes, comes, fails, ExpressionsRun}
 use Rattle.occ_term.specs.declared.primitive.Primitive.{Primitive}
@@ -25,6 +27,7 @@ use Rattle.occ_code.specs.Within.{AreNumbered}
 use Rattle.occ_code.proofs.PassingArms.{both_true, number_below}
 use Rattle.occ_code.proofs.ReadCells.{operand, or_right}
 use Rattle.occ_code.proofs.Letters.{letter_loads}
+use Rattle.occ_code.proofs.OperandOrder.{second_commutes, second_is_cell, swapped}
 use Rattle.occ_code.proofs.Walks.{split, place_after, walks_on}
 
 -- ---- components have numbers
@@ -130,6 +133,36 @@ module _ (code : List (Instr ℕ)) (f : Variables) where
         let w : Walks by_cell code (on_top st pc x) (point (pc + 1) st q sp f) = steps_to pc (x ∷ st) q sp (OrElse skip) (point (pc + 1) st q sp f) h (rw e refl) in
         rw e (comes_on (value_of b (at f)) w c)
 
+    abbrev Runs : Expression → Type 0
+    Runs e = (pc pc' : ℕ) (st : List ℤ) → StandsAt code pc (expression_code e) pc' → Comes code f (point pc st q sp f) (value_of e (at f)) (on_top st pc')
+
+    cell_second : (op : Operator) (type : Primitive) (line c : ℕ) (b : Expression) (pc pc' : ℕ) (st : List ℤ) → commutes op ≡ true → Runs b
+        → StandsAt code pc (expression_code b ++ (Load c ∷ Operate op type line ∷ [])) pc'
+        → Comes code f (point pc st q sp f) (after (value_of b (at f)) (λ y. binary op type line (at f c) y)) (on_top st pc')
+    cell_second op type line c b pc pc' st same runs h =
+        let x = at f c in
+        let (m, hb, l) = split code pc pc' (expression_code b) _ h in
+        comes_then (value_of b (at f)) (λ y. binary op type line x y) (runs pc m st hb)
+        (λ y e. comes_on (binary op type line x y) (steps_to m (y ∷ st) q sp _ (point (m + 1) (x ∷ y ∷ st) q sp f) l.0 refl)
+        (comes_at (point (m + 1) (x ∷ y ∷ st) q sp f) (binary op type line x y) (m + 1 + 1) pc' (on_top st) l.1.1
+        (comes_by (m + 1) (x ∷ y ∷ st) q sp _ (binary op type line x y) (on_top st (m + 1 + 1)) l.1.0 (ap (λ v. going (m + 1) f v (on_top st (m + 1 + 1))) (swapped op type line y x same)))))
+
+    -- both operands, in either order, and the operator
+    operands_run : (op : Operator) (type : Primitive) (line : ℕ) (a b : Expression) (pc pc' : ℕ) (st : List ℤ) (second : Bool) → comes_second op a b ≡ second → Runs a → Runs b
+        → StandsAt code pc (both_operands second (expression_code a) (expression_code b) (Operate op type line ∷ [])) pc'
+        → Comes code f (point pc st q sp f) (value_of (Binary op type line a b) (at f)) (on_top st pc')
+    operands_run op type line a b pc pc' st false e runs runs' h =
+        let (m, ha, hb) = split code pc pc' (expression_code a) _ h in
+        let (n, hb', l) = split code m pc' (expression_code b) _ hb in
+        comes_then (value_of a (at f)) (λ x. after (value_of b (at f)) (λ y. binary op type line x y)) (runs pc m st ha)
+        (λ x e. comes_then (value_of b (at f)) (λ y. binary op type line x y) (runs' m n (x ∷ st) hb')
+        (λ y e'. comes_at (point n (y ∷ x ∷ st) q sp f) (binary op type line x y) (n + 1) pc' (on_top st) l.1 (comes_by n (y ∷ x ∷ st) q sp _ (binary op type line x y) (on_top st (n + 1)) l.0 refl)))
+    operands_run op type line a b pc pc' st true e runs runs' h =
+        let (c, is) = second_is_cell op a b e in
+        let h' : StandsAt code pc (expression_code b ++ (Load c ∷ Operate op type line ∷ [])) pc' = subst (λ i. StandsAt code pc (expression_code b ++ (expression_code i ++ Operate op type line ∷ [])) pc') is h in
+        subst (λ i. Comes code f (point pc st q sp f) (value_of (Binary op type line i b) (at f)) (on_top st pc')) (sym is)
+        (cell_second op type line c b pc pc' st (second_commutes op a b e) runs' h')
+
     -- over types of cells that have numbers
     module _ (types : ℕ → Option Primitive) (small : (c : ℕ) (t : Primitive) → types c ≡ Some t → IsTrue (is_number c)) where
       mutual
@@ -149,11 +182,7 @@ module _ (code : List (Instr ℕ)) (f : Variables) where
             (comes_by m (v ∷ st) q sp _ (subscript line (length text) v) (λ i. on_top st (m + 1) (get_or text i (pos 0))) l.0 (letter_loads line text m v st q sp f g.1))
             (λ i z. comes_at (on_top st (m + 1) (get_or text i (pos 0))) (Value (get_or text i (pos 0))) (m + 1) pc' (on_top st) l.1 (comes here)))
         expression_runs (Binary op type line a b) t g pc pc' st h =
-            let (m, ha, hb) = split code pc pc' (expression_code a) _ h in
-            let (n, hb', l) = split code m pc' (expression_code b) _ hb in
-            comes_then (value_of a (at f)) (λ x. after (value_of b (at f)) (λ y. binary op type line x y)) (expression_runs a type g.2 pc m st ha)
-            (λ x e. comes_then (value_of b (at f)) (λ y. binary op type line x y) (expression_runs b g.0 g.3 m n (x ∷ st) hb')
-            (λ y e'. comes_at (point n (y ∷ x ∷ st) q sp f) (binary op type line x y) (n + 1) pc' (on_top st) l.1 (comes_by n (y ∷ x ∷ st) q sp _ (binary op type line x y) (on_top st (n + 1)) l.0 refl)))
+            operands_run op type line a b pc pc' st (comes_second op a b) refl (λ from to st'. expression_runs a type g.2 from to st') (λ from to st'. expression_runs b g.0 g.3 from to st') h
         expression_runs (Unary op type line a) t g pc pc' st h =
             let u = operand types op type line a t g in
             let (m, ha, l) = split code pc pc' (expression_code a) _ h in

@@ -7,6 +7,7 @@ use Rattle.occ_term.specs.Uses.{components}
 use Rattle.occ_machine.specs.declared.instr.Instr.{Instr}
 use Rattle.occ_machine.specs.declared.instr.Instr.TheVariants.{Push, Load, LoadAt, LoadLetter, Subscript, Operate, OperateOne, ConvertTo, AndThen, OrElse, PartOne, PartMany, PartText, PartCounted, PartCountedText, SpotOne, SpotCounted, StoreParts, StoreNamed, StoreOne, ClearCells, CountedFrom, Fork, IfTrue, OpenSkip, OpenInput}
 use Rattle.occ_machine.specs.SameStop.{numbers_of}
+use Rattle.occ_code.specs.OperandOrder.{both_operands, comes_second}
 
 -- An instruction has the letters of a text as bytes, where a term has them as numbers.
 abbrev mutual
@@ -15,7 +16,7 @@ abbrev mutual
   expression_code (Cell c) = Load c ∷ []
   expression_code (Component p) = place_code p ++ LoadAt ∷ []
   expression_code (Letter line text e) = expression_code e ++ LoadLetter line (map nat_abs text) ∷ []
-  expression_code (Binary op type line a b) = expression_code a ++ (expression_code b ++ Operate op type line ∷ [])
+  expression_code (Binary op type line a b) = both_operands (comes_second op a b) (expression_code a) (expression_code b) (Operate op type line ∷ [])
   expression_code (Unary op type line a) = expression_code a ++ OperateOne op type line ∷ []
   expression_code (And a b) = expression_code a ++ AndThen (length (expression_code b)) ∷ expression_code b
   expression_code (Or a b) = expression_code a ++ OrElse (length (expression_code b)) ∷ expression_code b

@@ -1,3 +1,4 @@
+pub mod OperandOrder
 pub mod Expressions
 pub mod Within
 pub mod Layout

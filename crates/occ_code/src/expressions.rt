@@ -5,11 +5,14 @@ ghost use Rattle.occ_term.specs.ArraySizes.{AreFew};
 ghost use Rattle.occ_term.specs.Terms.{OfOne, OfMany, Into, IntoCounted, Naming};
 ghost use Rattle.occ_term.specs.View.{expression_of, place_of, array_of, item_of, items_of, target_of, targets_of, declaration_of, declarations_of, replicator_of};
 ghost use Rattle.occ_code.specs.Expressions.{expression_code, place_code, subscripts_code, components_at, item_code, items_code, target_code, targets_code, declaration_code, declarations_code, storing_code, counting_code, assignment_code, single_target, single_value};
+ghost use Rattle.occ_code.specs.OperandOrder as order;
 ghost use Rattle.occ_code.specs.Pieces.{AddsPiece, item_of_counted, target_of_counted, subscripts_among};
 
 use crate::pieces::{emitted, put, since};
 use occ_machine::Instr;
-use occ_term::{Array, Declaration, Item, Place, Primitive, Replicator, Target, TermExpr};
+use occ_term::{
+    Array, Declaration, Item, Operator, Place, Primitive, Replicator, Target, TermExpr,
+};
 use std::alloc::{AllocError, Global};
 
 /// The code of an expression.
@@ -31,8 +34,14 @@ pub(crate) fn emit_expression(
         }
         TermExpr::Binary(operator, primitive, line, left, right) => {
             put(code, Instr::Operate(*operator, *primitive, *line))?;
-            emit_expression(alloc, right.get(), code)?;
-            emit_expression(alloc, left.get(), code)?;
+            let (left, right) = (left.get(), right.get());
+            if comes_second(*operator, left, right) {
+                emit_expression(alloc, left, code)?;
+                emit_expression(alloc, right, code)?;
+            } else {
+                emit_expression(alloc, right, code)?;
+                emit_expression(alloc, left, code)?;
+            }
             Ok(())
         }
         TermExpr::Unary(operator, primitive, line, operand) => {
@@ -57,6 +66,45 @@ pub(crate) fn emit_expression(
             emit_before(alloc, operand.get(), Instr::ConvertTo(*to, *line), code)
         }
     }
+}
+
+/// Whether the left operand is put on the stack second: a cell, whose value can't fault, of an operator that commutes. With a cell
+/// or a constant on its right it is first.
+fn comes_second(operator: Operator, left: &TermExpr, right: &TermExpr) -> bool
+    ensures { result ≡ order.comes_second operator
+        (expression_of left.now) (expression_of right.now) }
+{
+    is_cell(left) && commutes(operator) && !is_cell_or_constant(right)
+}
+
+fn is_cell(e: &TermExpr) -> bool
+    ensures { result ≡ order.is_cell (expression_of e.now) }
+{
+    matches!(e, TermExpr::Cell(_, _))
+}
+
+fn is_cell_or_constant(e: &TermExpr) -> bool
+    ensures { result ≡ order.is_cell_or_constant (expression_of e.now) }
+{
+    matches!(e, TermExpr::Cell(_, _) | TermExpr::Constant(_))
+}
+
+/// Whether an operator comes to the same with its operands swapped.
+fn commutes(operator: Operator) -> bool
+    ensures { result ≡ order.commutes operator }
+{
+    matches!(
+        operator,
+        Operator::Add
+            | Operator::Multiply
+            | Operator::Plus
+            | Operator::Times
+            | Operator::BitAnd
+            | Operator::BitOr
+            | Operator::BitXor
+            | Operator::Equal
+            | Operator::Unequal
+    )
 }
 
 /// An expression, and then the instruction.

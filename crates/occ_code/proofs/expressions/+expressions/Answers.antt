@@ -1,14 +1,16 @@
 use Rattle.std.specs.Prelude.{nat_abs, OnOk}
-use Rattle.std.proofs.Common.{rules, map, pos, ◌≡◌, ◌∷◌, [], ◌++◌, ◌-◌, ◌<◌, ◌+◌, length, refl, ap, subst, sym, ◌∙◌, arith}
+use Rattle.std.proofs.Common.{rules, true, false, map, pos, ◌≡◌, ◌∷◌, [], ◌++◌, ◌-◌, ◌<◌, ◌+◌, length, refl, ap, subst, sym, ◌∙◌, arith}
 use Rattle.occ_term.specs.Messages.{product}
 use Rattle.occ_term.specs.ArraySizes.{AreFew}
 use Rattle.occ_term.proofs.Few.{few_behind, few_product}
+use Rattle.occ_term.specs.Terms.{Binary}
 use Rattle.occ_term.specs.View.{expression_of}
 use Rattle.occ_term.specs.declared.expression.TermExpr.{the_lemmas}
-use Rattle.occ_machine.specs.declared.instr.Instr.TheVariants.{AndThen, LoadLetter, OrElse, Operate}
+use Rattle.occ_machine.specs.declared.instr.Instr.TheVariants.{AndThen, LoadLetter, OrElse}
+use Rattle.occ_code.specs.OperandOrder.{comes_second}
 use Rattle.occ_code.specs.Expressions.{expression_code}
 use Rattle.occ_code.specs.Emits.{Emits}
-use Rattle.occ_code.proofs.Emitting.{emits_then, emits_as, emits_since, whole_rest, subscripts_first, subscripts_next, product_before}
+use Rattle.occ_code.proofs.Emitting.{emits_then, emits_as, emits_since, left_first, left_second, whole_rest, subscripts_first, subscripts_next, product_before}
 use Rattle.occ_code.proofs.Letters.{letters_back}
 use Rattle.occ_code.proofs.expressions.+expressions.Goals as goal
 
@@ -21,9 +23,17 @@ emit_expression-returns-in_ok-text-in-Letter t c =
 
 pub emit_expression-returns-in_ok-emit_expression-in-Binary-2 : goal.emit_expression-returns-in_ok-emit_expression-in-Binary-2
 emit_expression-returns-in_ok-emit_expression-in-Binary-2 t c =
-    let seen : expression_code (expression_of c.get-in-Binary-2.result.now) ++ (expression_code (expression_of c.get-in-Binary.result.now) ++ Operate c.in-Binary.operator c.in-Binary.primitive c.in-Binary.line ∷ []) ≡ expression_code (expression_of c.args.e.now) =
-    search (rules, the_lemmas) in
-    emits_as (emits_then (emits_then c.in_ok-put-in-Binary.ensures c.in_ok-emit_expression-in-Binary.ensures) c.in_ok-emit_expression-in-Binary-2.ensures) seen
+    let seen : Binary c.in-Binary.operator c.in-Binary.primitive c.in-Binary.line (expression_of c.get-left.result.now) (expression_of c.get-right.result.now) ≡ expression_of c.args.e.now = search (rules, the_lemmas) in
+    let second : comes_second c.in-Binary.operator (expression_of c.get-left.result.now) (expression_of c.get-right.result.now) ≡ true = sym c.comes_second.ensures ∙ c.if-comes_second.true in
+    emits_as (emits_then (emits_then c.in_ok-put-in-Binary.ensures c.in_ok-emit_expression-in-Binary.ensures) c.in_ok-emit_expression-in-Binary-2.ensures)
+    (left_second _ c.in-Binary.primitive c.in-Binary.line _ _ second ∙ ap expression_code seen)
+
+pub emit_expression-returns-in_ok-emit_expression-in-Binary-4 : goal.emit_expression-returns-in_ok-emit_expression-in-Binary-4
+emit_expression-returns-in_ok-emit_expression-in-Binary-4 t c =
+    let seen : Binary c.in-Binary.operator c.in-Binary.primitive c.in-Binary.line (expression_of c.get-left.result.now) (expression_of c.get-right.result.now) ≡ expression_of c.args.e.now = search (rules, the_lemmas) in
+    let first : comes_second c.in-Binary.operator (expression_of c.get-left.result.now) (expression_of c.get-right.result.now) ≡ false = sym c.comes_second.ensures ∙ c.if-comes_second.false in
+    emits_as (emits_then (emits_then c.in_ok-put-in-Binary.ensures c.in_ok-emit_expression-in-Binary-3.ensures) c.in_ok-emit_expression-in-Binary-4.ensures)
+    (left_first _ c.in-Binary.primitive c.in-Binary.line _ _ first ∙ ap expression_code seen)
 
 pub emit_expression-returns-in_ok-emit_expression-in-And-2 : goal.emit_expression-returns-in_ok-emit_expression-in-And-2
 emit_expression-returns-in_ok-emit_expression-in-And-2 t c =
