@@ -77,12 +77,14 @@ fn comes_second(operator: Operator, left: &TermExpr, right: &TermExpr) -> bool
     is_cell(left) && commutes(operator) && !is_cell_or_constant(right)
 }
 
+/// Whether an expression is the value of a cell.
 fn is_cell(e: &TermExpr) -> bool
     ensures { result ≡ order.is_cell (expression_of e.now) }
 {
     matches!(e, TermExpr::Cell(_, _))
 }
 
+/// Whether an expression is the value of a cell, or a constant.
 fn is_cell_or_constant(e: &TermExpr) -> bool
     ensures { result ≡ order.is_cell_or_constant (expression_of e.now) }
 {
