@@ -22,9 +22,21 @@ pub(crate) enum Kept {
 }
 
 impl Drop for Parts {
+    #[inline(always)]
     fn drop(self) {
-        let Parts { kept: _ } = self;
+        let Parts { kept } = self;
+        match kept {
+            // nothing is let go
+            Kept::None | Kept::One(Part::One(_, _)) => {}
+            heavy => let_go(heavy),
+        }
     }
+}
+
+/// Lets go of items that have blocks of memory.
+#[inline(never)]
+fn let_go(kept: Kept) {
+    let _kept = kept;
 }
 
 impl Model for Parts {
