@@ -1,5 +1,5 @@
 -- Frames that are read and written by the place of a cell.
-use Rattle.std.specs.Prelude.{nat_eq, option_map, if◌then◌else◌, replicate, unwrap_or}
+use Rattle.std.specs.Prelude.{IfSome, nat_eq, option_map, if◌then◌else◌, replicate, unwrap_or}
 use Rattle.std.proofs.Common.{◌≡◌, ◌∙◌, sym, refl, ap, ℕ, zero, suc, ◌+◌, ◌-◌, ◌<◌, ◌≤◌, Bool, true, false, Option, Some, None, List, [], ◌∷◌, ◌++◌, length, get_or, drop, take, ℤ, pos, add-zero, arith}
 use Rattle.std.proofs.Math.Seq.{drop-cons}
 use Rattle.std.proofs.Math.ListN.{set}
@@ -28,6 +28,18 @@ place_among_within (x ∷ xs) c = by_test (place_among_within xs c) (nat_eq x c)
     by_test : place_among xs c ≤ length xs → (b : Bool) → unwrap_or (if b then Some 0 else option_map suc (place_in xs c)) (suc (length xs)) ≤ suc (length xs)
     by_test h true = omega arith
     by_test h false = end_or_before (place_in xs c) (length xs) h
+
+place_next : (o : Option ℕ) (n : ℕ) → IfSome o (λ place. place < n) → IfSome (option_map suc o) (λ place. place < suc n)
+place_next None n h = h
+place_next (Some i) n h = omega (arith, h)
+
+pub place_within : (xs : List ℕ) (c : ℕ) → IfSome (place_in xs c) (λ place. place < length xs)
+place_within [] c = tt
+place_within (x ∷ xs) c = by_test (place_within xs c) (nat_eq x c)
+  where
+    by_test : IfSome (place_in xs c) (λ place. place < length xs) → (b : Bool) → IfSome (if b then Some 0 else option_map suc (place_in xs c)) (λ place. place < suc (length xs))
+    by_test h true = omega arith
+    by_test h false = place_next (place_in xs c) (length xs) h
 
 -- ---- what stands at a place
 
@@ -77,6 +89,19 @@ pub set_past : (vs : List ℤ) (i : ℕ) (v : ℤ) → length vs ≤ i → set v
 set_past [] i v h = refl
 set_past (w ∷ vs) zero v h = absurd (omega (arith, h))
 set_past (w ∷ vs) (suc i) v h = ap (λ ws. w ∷ ws) (set_past vs i v (omega arith))
+
+pub values_with_long : (xs : List ℕ) (vs : List ℤ) (c : ℕ) (v : ℤ) → length (values_with xs vs c v) ≡ length vs
+values_with_long [] vs c v = refl
+values_with_long (x ∷ xs) [] c v = refl
+values_with_long (x ∷ xs) (w ∷ vs) c v = by_test (values_with_long xs vs c v) (nat_eq x c)
+  where
+    by_test : length (values_with xs vs c v) ≡ length vs → (b : Bool) → length (if b then v ∷ vs else w ∷ values_with xs vs c v) ≡ suc (length vs)
+    by_test e true = refl
+    by_test e false = ap suc e
+
+pub span_with_long : (xs : List ℕ) (held : List ℤ) (first : ℕ) (vs : List ℤ) → length (span_with xs held first vs) ≡ length held
+span_with_long xs held first [] = refl
+span_with_long xs held first (v ∷ vs) = span_with_long xs (values_with xs held first v) (first + 1) vs ∙ values_with_long xs held first v
 
 pub value_there : (xs : List ℕ) (vs : List ℤ) (c : ℕ) (o : Option ℕ) → o ≡ place_in xs c → value_at xs vs c ≡ read_at o vs
 value_there xs vs c o e = value_by xs vs c ∙ ap (λ p. read_at p vs) (sym e)

@@ -5,6 +5,7 @@ pub mod OneResult
 pub mod Meetings
 pub mod Saturating
 pub mod Bounds
+pub mod Products
 pub mod TypedOperators
 pub mod TypedPlaces
 pub mod TypedValues

@@ -30,11 +30,14 @@ impl Drop for Frame {
 }
 
 impl Model for Frame {
+    ghost use Rattle.std.specs.Prelude.{◌≡◌, length};
     ghost use Rattle.occ_term.specs.Frames.{Variables};
 
     ghost Value = { Variables };
 
     ghost view = { λ f. record { cells = f.cells; values = f.values.items; left = f.left.items } };
+
+    ghost invariant = { λ f. length f.values.items ≡ length f.cells };
 }
 
 impl Frame {
@@ -76,7 +79,7 @@ impl Frame {
     pub fn value(&self, cell: u32) -> i64
         ensures { result ≡ at self.now cell }
     {
-        value_at(&self.cells, &self.values, u64::from(cell))
+        self.value_at(u64::from(cell))
     }
 
     /// The same of a cell whose number was computed.
@@ -84,7 +87,10 @@ impl Frame {
     pub fn value_at(&self, cell: u64) -> i64
         ensures { result ≡ at self.now cell }
     {
-        value_at(&self.cells, &self.values, cell)
+        match self.cells.place_of(cell) {
+            Some(place) => value_in(&self.values, place),
+            None => 0,
+        }
     }
 
     /// The values of so many cells in a row, from the first cell on. None where they aren't seen to stand in a row here.
@@ -110,7 +116,9 @@ impl Frame {
     pub fn set(&mut self, cell: u64, value: i64)
         ensures { self.new ≡ frame_with self.old cell value }
     {
-        set_value(&self.cells, &mut self.values, cell, value);
+        if let Some(place) = self.cells.place_of(cell) {
+            put_in(&mut self.values, place, value);
+        }
     }
 
     /// Puts this value at a place among those of the cells.
@@ -225,26 +233,21 @@ fn add_each(values: &mut Vec<i64>, row: &CellRow, from: &Frame) -> Result<(), Al
 }
 
 #[inline(always)]
-fn value_at(cells: &FrameCells, values: &[i64], cell: u64) -> i64
-    ensures { result ≡ value_at cells.now values.now cell }
-{
-    match cells.place_of(cell) {
-        Some(place) => value_in(values, place),
-        None => 0,
-    }
-}
-
-#[inline(always)]
 fn value_in(values: &[i64], place: usize) -> i64
+    requires { place < length values.now }
     ensures { result ≡ slice_index_or values.now place (pos 0) }
 {
-    match values.get(place) {
-        Some(value) => *value,
-        None => 0,
-    }
+    values[place]
 }
 
 #[inline(always)]
+fn put_in(values: &mut [i64], place: usize, value: i64)
+    requires { place < length values.old }
+    ensures { values.new ≡ slice_set values.old place value }
+{
+    values[place] = value;
+}
+
 fn set_value(cells: &FrameCells, values: &mut [i64], cell: u64, value: i64)
     ensures { values.new ≡ values_with cells.now values.old cell value }
 {
@@ -253,7 +256,6 @@ fn set_value(cells: &FrameCells, values: &mut [i64], cell: u64, value: i64)
     }
 }
 
-#[inline(always)]
 fn set_in(values: &mut [i64], place: usize, value: i64)
     ensures { values.new ≡ slice_set values.old place value }
 {

@@ -19,8 +19,8 @@ pub struct FrameCells {
     rows: Arc<Items<CellRow>, Global>,
     /// The first cell of the first row.
     first: u64,
-    /// The number after the last cell of the first row.
-    end: u64,
+    /// How many cells the first row has.
+    beginning: u64,
     count: usize,
     rising: bool,
 }
@@ -30,7 +30,7 @@ impl Drop for FrameCells {
         let FrameCells {
             rows: _,
             first: _,
-            end: _,
+            beginning: _,
             count: _,
             rising: _,
         } = self;
@@ -47,7 +47,7 @@ impl Model for FrameCells {
 
     ghost view = { λ h. cells_in (arc_value h.rows) };
 
-    ghost invariant = { λ h. HeldRows (arc_value h.rows) h.rising h.count h.first h.end };
+    ghost invariant = { λ h. HeldRows (arc_value h.rows) h.rising h.count h.first h.beginning };
 }
 
 impl FrameCells {
@@ -74,12 +74,12 @@ impl FrameCells {
         requires count { count ≡ length (cells_in rows.items) }
         ensures { IfOk result (λ h. h ≡ cells_in rows.items) }
     {
-        let (first, end) = first_bounds(&rows);
+        let (first, beginning) = first_bounds(&rows);
         let rows = Arc::new(alloc, Items::from_vec(rows))?;
         Ok(FrameCells {
             rows,
             first,
-            end,
+            beginning,
             count,
             rising,
         })
@@ -93,7 +93,7 @@ impl FrameCells {
         Ok(FrameCells {
             rows,
             first: self.first,
-            end: self.end,
+            beginning: self.beginning,
             count: self.count,
             rising: self.rising,
         })
@@ -138,21 +138,25 @@ impl FrameCells {
         }
     }
 
-    /// The first place that holds a cell.
+    /// The first place that holds a cell. One below the first row is seen to be so far from its first cell that it's not in it.
     #[inline(always)]
     pub(crate) fn place_of(&self, cell: u64) -> Option<usize>
-        ensures { result ≡ place_in self.now cell }
+        ensures is { result ≡ place_in self.now cell }
+        ensures within { IfSome result (λ place. place < length self.now) }
     {
-        if self.first <= cell && cell < self.end {
-            return Some((cell - self.first) as usize);
+        let behind = cell.wrapping_sub(self.first);
+        if behind < self.beginning {
+            return Some(behind as usize);
         }
         self.place_in_rows(cell)
     }
 
     /// The same, where the rows are looked through.
+    #[cold]
     #[inline(never)]
     fn place_in_rows(&self, cell: u64) -> Option<usize>
-        ensures { result ≡ place_in self.now cell }
+        ensures is { result ≡ place_in self.now cell }
+        ensures within { IfSome result (λ place. place < length self.now) }
     {
         let rows = self.rows.as_slice();
         if self.rising {
@@ -183,12 +187,13 @@ impl FrameCells {
     }
 }
 
-/// The first cell of the first row, and the number after its last one.
+/// The first cell of the first row, and how many cells it has.
 fn first_bounds(rows: &[CellRow]) -> (u64, u64)
-    ensures { HasFirstRow result.0 result.1 rows.now }
+    ensures is { HasFirstRow result.0 result.1 rows.now }
+    ensures short { result.0 + result.1 < 2 ^ 64 }
 {
     match rows {
-        [row, ..] => (row.first, row.end),
+        [row, ..] => (row.first, row.end.saturating_sub(row.first)),
         [] => (0, 0),
     }
 }

@@ -1,6 +1,7 @@
 //! Operators and conversions on values of 64 bits, whether they are within INT or not. What an operator makes of two of them is within
 //! words of 128 bits; where it has to be one of the type, words of 64 do.
-ghost use Rattle.std.specs.Prelude.{◌≡◌, ◌<◌, ◌≤◌, ◌^◌, ◌%◌, ◌*◌, ◌-◌, ◌+ℤ◌, ◌-ℤ◌, ◌*ℤ◌, neg_ℤ, int_rem, if◌then◌else◌, IfNone, IfOk, IfSome, None};
+ghost use Rattle.std.specs.Prelude.{◌≡◌, ◌<◌, ◌≤◌, ◌^◌, ◌%◌, ◌*◌, ◌-◌, ◌+ℤ◌, ◌-ℤ◌, ◌*ℤ◌, neg_ℤ, int_rem, if◌then◌else◌, IfNone, IfOk, IfSome, None, SomeIff, FitsSigned};
+ghost use Rattle.std.specs.Int.{w64};
 ghost use Rattle.occ_term.specs.Messages.{is_of};
 ghost use Rattle.occ_term.specs.Values as values;
 ghost use Rattle.occ_term.specs.Values.{bits_of, is_zero, of_bits, truth, width, wrapped};
@@ -58,7 +59,7 @@ pub fn common_value(
     match operator {
         Operator::Add => sum(primitive, a, b),
         Operator::Subtract => difference(primitive, a, b),
-        Operator::Multiply => if_in_type(primitive, a.checked_mul(b)?),
+        Operator::Multiply => product(primitive, a, b),
         Operator::Divide => if_in_type(primitive, a.checked_div(b)?),
         Operator::Remainder => rest(primitive, a, b),
         Operator::Equal => Some(truth(a == b)),
@@ -146,9 +147,18 @@ fn sum(primitive: Primitive, a: i64, b: i64) -> Option<i64>
     let value = if is_of(Primitive::Int, b) {
         a.wrapping_add(b)
     } else {
-        a.checked_add(b)?
+        wide_sum(a, b)?
     };
     if_in_type(primitive, value)
+}
+
+/// A sum that may wrap. It is rare and stands apart, so that what is common stands in a row.
+#[cold]
+#[inline(never)]
+fn wide_sum(a: i64, b: i64) -> Option<i64>
+    ensures { SomeIff result (FitsSigned w64 (a +ℤ b)) (a +ℤ b) }
+{
+    a.checked_add(b)
 }
 
 /// The difference, in the same way.
@@ -159,9 +169,36 @@ fn difference(primitive: Primitive, a: i64, b: i64) -> Option<i64>
     let value = if is_of(Primitive::Int, b) {
         a.wrapping_sub(b)
     } else {
-        a.checked_sub(b)?
+        wide_difference(a, b)?
     };
     if_in_type(primitive, value)
+}
+
+#[cold]
+#[inline(never)]
+fn wide_difference(a: i64, b: i64) -> Option<i64>
+    ensures { SomeIff result (FitsSigned w64 (a -ℤ b)) (a -ℤ b) }
+{
+    a.checked_sub(b)
+}
+
+/// The product. That of two INTs doesn't wrap.
+#[inline(always)]
+fn product(primitive: Primitive, a: i64, b: i64) -> Option<i64>
+    ensures { result ≡ if_in_type primitive (a *ℤ b) }
+{
+    if is_of(Primitive::Int, a) && is_of(Primitive::Int, b) {
+        return if_in_type(primitive, a * b);
+    }
+    if_in_type(primitive, wide_product(a, b)?)
+}
+
+#[cold]
+#[inline(never)]
+fn wide_product(a: i64, b: i64) -> Option<i64>
+    ensures { SomeIff result (FitsSigned w64 (a *ℤ b)) (a *ℤ b) }
+{
+    a.checked_mul(b)
 }
 
 /// What the quotient towards zero leaves, with the sign of the dividend; none by zero.
@@ -169,6 +206,9 @@ fn difference(primitive: Primitive, a: i64, b: i64) -> Option<i64>
 fn rest(primitive: Primitive, a: i64, b: i64) -> Option<i64>
     ensures { result ≡ (if is_zero b then None else if_in_type primitive (int_rem a b)) }
 {
+    if b > 0 {
+        return if_in_type(primitive, a.wrapping_rem(b));
+    }
     if b == 0 {
         return None;
     }
