@@ -81,7 +81,8 @@ fn place_for(ready: &[u32], number: u32) -> usize
     low
 }
 
-/// The place that a choice of `which` selects among so many.
+/// The place that a choice of `which` selects among so many. Mostly few are ready, and a division by a number that is known here is a
+/// multiplication, where the processor's own takes as long as twenty of them.
 #[inline(always)]
 pub(crate) fn place_among(which: u32, count: usize) -> usize
     requires { 0 < count }
@@ -91,8 +92,10 @@ pub(crate) fn place_among(which: u32, count: usize) -> usize
     if which < count {
         return which;
     }
-    if count == 1 {
-        return 0;
+    match count {
+        1 => 0,
+        2 => which % 2,
+        3 => which % 3,
+        _ => which % count,
     }
-    which % count
 }

@@ -5,5 +5,5 @@ use Rattle.occ_net_tables.proofs.ready.place_among.Goals as goal
 pub returns-then-which-count : goal.returns-then-which-count
 returns-then-which-count c = sym (mod-eq_of_lt c.if-which-count.true)
 
-pub returns-then-count-eq1 : goal.returns-then-count-eq1
-returns-then-count-eq1 c = sym (ap (λ (k : ℕ). c.args.which % k) c.if-count-eq1.true ∙ mod-one c.args.which)
+pub returns-in-1 : goal.returns-in-1
+returns-in-1 c = sym (ap (λ (k : ℕ). c.args.which % k) c.in-1.is ∙ mod-one c.args.which)
