@@ -182,15 +182,23 @@ fn wide_difference(a: i64, b: i64) -> Option<i64>
     a.checked_sub(b)
 }
 
-/// The product. That of two INTs doesn't wrap.
+/// The product.
 #[inline(always)]
 fn product(primitive: Primitive, a: i64, b: i64) -> Option<i64>
     ensures { result ≡ if_in_type primitive (a *ℤ b) }
 {
+    if_in_type(primitive, whole_product(a, b)?)
+}
+
+/// The product as it is, where it is a word of 64 bits, as that of two INTs always is.
+#[inline(always)]
+fn whole_product(a: i64, b: i64) -> Option<i64>
+    ensures { SomeIff result (FitsSigned w64 (a *ℤ b)) (a *ℤ b) }
+{
     if is_of(Primitive::Int, a) && is_of(Primitive::Int, b) {
-        return if_in_type(primitive, a * b);
+        return Some(a * b);
     }
-    if_in_type(primitive, wide_product(a, b)?)
+    wide_product(a, b)
 }
 
 #[cold]

@@ -1,10 +1,9 @@
 use Rattle.std.proofs.Common.{◌≡◌, ◌∙◌, ap, sym, true, ◌*ℤ◌, w64, to_z, of_z, FitsSigned}
 use Rattle.std.proofs.lemmas.Int.{to_z-of_z}
-use Rattle.occ_term.specs.CommonOperators.{if_in_type}
 use Rattle.occ_term.specs.Messages.{is_of}
 use Rattle.occ_term.specs.declared.primitive.Primitive.TheVariants.{Int}
 use Rattle.occ_term.proofs.Products.{int_small, product_fits}
-use Rattle.occ_term.proofs.operator.product.Goals as goal
+use Rattle.occ_term.proofs.operator.whole_product.Goals as goal
 
 pub returns-then-is_of-2 : goal.returns-then-is_of-2
 returns-then-is_of-2 c =
@@ -14,4 +13,4 @@ returns-then-is_of-2 c =
     let of_left : is_of Int c.args.a ≡ true = ap (is_of Int) (sym left) ∙ sym c.is_of.ensures ∙ c.if-is_of.true in
     let of_right : is_of Int c.args.b ≡ true = ap (is_of Int) (sym right) ∙ sym c.is_of-then-is_of.ensures ∙ c.if-is_of-2.true in
     let fits : FitsSigned w64 (c.args.a *ℤ c.args.b) = product_fits c.args.a c.args.b (int_small c.args.a of_left) (int_small c.args.b of_right) in
-    c.if_in_type.ensures ∙ ap (if_in_type c.args.primitive) (ap (λ x. to_z w64 (of_z w64 x)) both ∙ to_z-of_z w64 (c.args.a *ℤ c.args.b) fits)
+    (fits, ap (λ x. to_z w64 (of_z w64 x)) both ∙ to_z-of_z w64 (c.args.a *ℤ c.args.b) fits)
