@@ -1,12 +1,6 @@
-pub mod Messages
-pub mod Shifted
-pub mod Stacks
-pub mod Tested
-pub mod Walking
-pub mod Moving
-pub mod Quickly
+pub mod Mapped
+pub mod Turning
 pub mod Offered
-pub mod Parted
 mod Opened
 mod Rows
 pub mod Stretching

@@ -4,21 +4,13 @@
 
 mod arms;
 mod choices;
-mod common;
 mod common_arms;
-mod entries;
-mod jumps;
 mod opening;
-mod operands;
 mod parts;
-mod quick;
 mod replicating;
-mod results;
 pub mod scratch;
 pub mod segment;
 mod small_arms;
-mod spots;
-mod stack;
 mod step;
 mod stop;
 mod stores;

@@ -2,7 +2,7 @@ use Rattle.std.proofs.Common.{◌∙◌, ap, subst, sym}
 use Rattle.occ_term.specs.declared.message.Part.TheVariants.{Many, Counted}
 use Rattle.occ_machine.specs.Machine.{open_arm}
 use Rattle.occ_proc.specs.Doing.{IsArm}
-use Rattle.occ_proc.proofs.Stacks.{if_ok_map}
+use Rattle.occ_proc.proofs.Mapped.{if_ok_map}
 use Rattle.occ_proc.proofs.arms.open_arm.Goals as goal
 
 pub returns-in-Many : goal.returns-in-Many

@@ -4,7 +4,7 @@ use Rattle.occ_term.specs.Evaluation.{evaluated}
 use Rattle.occ_machine.specs.Machine as machine
 use Rattle.occ_machine.specs.declared.instr.Instr.TheVariants as instructions
 use Rattle.occ_proc.specs.Doing.{Does, OnStack, Puts}
-use Rattle.occ_proc.proofs.Stacks.{if_ok_map}
+use Rattle.occ_proc.proofs.Mapped.{if_ok_map}
 use Rattle.occ_proc.proofs.values.convert.Goals as goal
 
 pub returns : goal.returns

@@ -1,6 +1,6 @@
 use Rattle.std.proofs.Common.{ap, subst}
 use Rattle.occ_term.specs.declared.message.Message.{Message}
-use Rattle.occ_proc.proofs.Stacks.{on_ok_map}
+use Rattle.occ_proc.proofs.Mapped.{on_ok_map}
 use Rattle.occ_net_tables.specs.declared.tables.Tables.{Tables}
 use Rattle.occ_net_tables.specs.Settling.{GaveTo, HandsTo}
 use Rattle.occ_net_tables.proofs.tables.Tables.give_left.Goals as goal

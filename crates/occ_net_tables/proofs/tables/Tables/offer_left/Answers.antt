@@ -4,7 +4,7 @@ use Rattle.occ_term.specs.Messages.{message}
 use Rattle.occ_term.specs.declared.message.Message.{Message}
 use Rattle.occ_machine.specs.declared.task.Wait.TheVariants as W
 use Rattle.occ_proc.specs.Turns.{left_message}
-use Rattle.occ_proc.proofs.Stacks.{on_ok_map}
+use Rattle.occ_proc.proofs.Mapped.{on_ok_map}
 use Rattle.occ_term.specs.declared.communication.End.TheVariants.{Process}
 use Rattle.occ_net_tables.specs.declared.tables.Tables.{Tables}
 use Rattle.occ_net_tables.specs.Keys.{entry_in}

@@ -2,7 +2,7 @@ use Rattle.std.proofs.Common.{◌≡◌, ◌∙◌, ◌%◌, ℕ, refl, sym, ap,
 use Rattle.std.specs.Prelude.{slice_get}
 use Rattle.occ_machine.specs.SameStop.{ready_with}
 use Rattle.occ_proc.specs.Turns.{left_message, standing_at}
-use Rattle.occ_proc.proofs.Stacks.{on_ok_map}
+use Rattle.occ_proc.proofs.Mapped.{on_ok_map}
 use Rattle.occ_net_tables.specs.declared.tables.Tables.{Tables}
 use Rattle.occ_net_tables.specs.Settling.{IsTurnAt, tables_with}
 use Rattle.occ_net_tables.specs.Tasks.{EndedBy}
