@@ -58,9 +58,10 @@ abbrev pub answer_head : ℕ → Ending → List ℕ
 answer_head number ending = decimal number ++ 32 ∷ ending_text ending ++ codes ":\n"
 
 -- those, and the report by the answer's choices
-abbrev pub IsReported : Words → Inputs → (number : ℕ) → Answer → List ℕ → Type 0
-IsReported words inputs number a text =
-    (report : List ℕ) × ReportsRun words inputs a.choices.items report × (text ≡ answer_head number a.ending ++ report)
+pub record IsReported (words : Words) (inputs : Inputs) (number : ℕ) (a : Answer) (text : List ℕ) : Type 0 where
+  pub report : List ℕ
+  pub runs : ReportsRun words inputs a.choices.items report
+  pub is : text ≡ answer_head number a.ending ++ report
 
 -- What is told of an answer behind these: its report, where it has not ended and none of them has its ending; else nothing.
 abbrev pub TellsAnswer : Words → Inputs → (before : List Answer) → Answer → List ℕ → Type 0
