@@ -1,6 +1,6 @@
 #!/usr/bin/env python3
-"""Keeps the tables of tests equal to what users read: examples/ and docs/language.md. And keeps the manual page and the
-shells' completions equal to the words of the command line, in crates/occ_play_inputs/src/words.rt.
+"""Keeps three tables equal to what they are taken from: the causes of refusals, which docs/language.md has, and the words of the
+command line, in crates/occ_play_inputs/src/words.rt, from which the manual page and the shells' completions are made.
 
     python3 tools/tables.py           says which file differs; the status is 1 where one does
     python3 tools/tables.py --write   writes the files
@@ -10,120 +10,11 @@ import re
 import sys
 
 TOP = pathlib.Path(__file__).resolve().parent.parent
-STOPPING = "With --errors stop"
-FOLDERS = ["first_steps", "sequences", "pipelines", "selection", "sharing", "faults", "library"]
-# the last refusal of each kind
-KINDS = [(19, "LINES"), (29, "TREES"), (34, "NAMES"), (41, "USES"), (49, "PROGRAMS"), (59, "BRANCHES")]
 
 
 def literal(text):
-    """A literal of Rust: as it stands where it has several lines, with escapes where it has one."""
-    if text.count("\n") > 1:
-        return f'r#"{text}"#'
-    return '"' + text.replace("\\", "\\\\").replace('"', '\\"').replace("\n", "\\n") + '"'
-
-
-def block(head, title):
-    """The lines below a title of a program's first lines, none where it says nothing."""
-    found = re.search(rf"(?m)^-- {re.escape(title)}:(?: nothing\n|\n((?:--   .*\n)+))", head)
-    if not found:
-        sys.exit(f"no block {title}")
-    lines = (found[1] or "").splitlines()
-    return "".join(f"{line[5:]}\n" for line in lines), head[found.end() :].split("\n")[0]
-
-
-def runs(path):
-    """The runs that a program's first lines tell of: title, screen, ending and choices."""
-    head = re.match(r"(?:--.*\n)+", path.read_text())[0]
-    keyboard, _ = block(head, "Keyboard")
-    told = [("Screen", "")]
-    choices = path.with_suffix(".choices")
-    if choices.exists():
-        told.append((f"By {choices.name}", choices.read_text()))
-    if f"-- {STOPPING}:" in head:
-        told.append((STOPPING, ""))
-    for title, text in told:
-        screen, ending = block(head, title)
-        yield title, keyboard, text, screen, ending.removeprefix("-- Ends: ")
-
-
-def gallery():
-    """A table for each program, and a function for each folder: the proof of a table takes as long as its rows times its bytes."""
-    sources, tables, folders = [], [], []
-    for folder in FOLDERS:
-        calls = []
-        for path in sorted((TOP / "examples" / folder).glob("*.occ")):
-            # two folders may each have a file of one name
-            name = (f"{folder}_{path.stem}" if folder == "library" else path.stem).upper()
-            sources.append(f"const {name}: &str =\n    {literal(path.read_text())};\n")
-            rows = []
-            for title, keyboard, choices, screen, ending in runs(path):
-                fields = {"title": title, "keyboard": keyboard, "choices": choices, "screen": screen, "ending": ending}
-                rows.append((name, fields))
-            tables.append(table_of(f"RUNS_OF_{name}", rows))
-            calls.append(f"    check_runs(rt, alloc, &RUNS_OF_{name});\n")
-        folders.append(
-            f"/// The programs of the folder `{folder}`.\n"
-            f"pub(crate) fn in_{folder}(rt: &impl Abort, alloc: Global) {{\n{''.join(calls)}}}\n"
-        )
-    return (
-        "//! The programs of the folder `examples`, and what their first lines say. `tools/tables.py` writes this file.\n"
-        "use crate::examples::{Run, check_runs};\nuse std::alloc::Global;\nuse std::process::Abort;\n\n"
-        + "\n".join([*sources, *tables, *folders])
-    )
-
-
-def table_of(name, rows):
-    """The table of a program's runs, in the layout of the kit."""
-    deeper = "    " if len(rows) > 1 else ""
-    texts = []
-    for source, fields in rows:
-        told = "".join(f"{deeper}    {key}: {literal(text)},\n" for key, text in fields.items())
-        texts.append(f"Run {{\n{deeper}    source: {source},\n{told}{deeper}}}")
-    if len(rows) == 1:
-        return f"static {name}: [Run; 1] = [{texts[0]}];\n"
-    body = "".join(f"    {text},\n" for text in texts)
-    return f"static {name}: [Run; {len(rows)}] = [\n{body}];\n"
-
-
-def kind_of(answer):
-    """The table that an answer stands in: by the number of the refusal."""
-    found = re.match(r"refused (\d+)", answer)
-    if not found:
-        return "FAULTS"
-    number = int(found[1])
-    return next(kind for most, kind in KINDS if number <= most)
-
-
-def answers():
-    """The table of docs/language.md: the answer on the left of a source's first line. It is cut by what refuses the source."""
-    text = (TOP / "docs/language.md").read_text()
-    table = text.split("<!-- answers -->\n```\n")[1].split("```\n")[0]
-    rows = {}
-    for part in table.strip("\n").split("\n\n"):
-        lines = part.split("\n")
-        answer = lines[0][:WIDTH].strip()
-        source = "".join(f"{line[WIDTH:]}\n" for line in lines)
-        row = f"    Answer {{\n        source: {literal(source)},\n        answer: {literal(answer)},\n    }},\n"
-        rows.setdefault(kind_of(answer), []).append(row)
-    tables = [f"static {kind}: [Answer; {len(of)}] = [\n{''.join(of)}];\n" for kind, of in rows.items()]
-    calls = "".join(f"    check_answers(rt, alloc, &{kind});\n" for kind in rows)
-    return (
-        "//! The table of answers in `docs/language.md`. `tools/tables.py` writes this file.\n"
-        "use crate::reference::{Answer, check_answers};\nuse std::alloc::Global;\nuse std::process::Abort;\n\n"
-        + "\n".join(tables)
-        + f"\n/// All of them.\npub(crate) fn check_all(rt: &impl Abort, alloc: Global) {{\n{calls}}}\n"
-    )
-
-
-def explored():
-    """The examples that crates/rows_explore explores."""
-    names = ["faults/dining", "faults/livelock", "faults/waiter", "selection/merge", "sharing/pool"]
-    rows = []
-    for name in names:
-        text = literal((TOP / "examples" / f"{name}.occ").read_text())
-        rows.append(f"pub(crate) const {name.split('/')[1].upper()}: &str =\n    {text};\n")
-    return "//! Programs of the folder `examples`. `tools/tables.py` writes this file.\n\n" + "\n".join(rows)
+    """A literal of Rust."""
+    return '"' + text.replace("\\", "\\\\").replace('"', '\\"') + '"'
 
 
 def causes():
@@ -146,7 +37,7 @@ def words():
     text = (TOP / "crates/occ_play_inputs/src/words.rt").read_text()
     names = {name: re.findall(r'"(\w+)"', values) for name, values in re.findall(r"static (\w+): \[&str; \d+\] = \[(.*?)\];", text)}
     made = {head: body for head, body in re.findall(r"(?ms)^fn (\w+_word)<'a>\(alloc: Global\)[^{]*\{\n(.*?)^\}", text)}
-    for head in re.findall(r"(?:\.arg\(|with\(command, )(\w+_word)\(alloc\)", text):
+    for head in re.findall(r"(?m)^ +(?:\d+|_) => (?:Ok\()?(\w+_word)\(alloc\)", text):
         body = made[head]
         long, value = (re.search(rf'\.{field}\("([^"]+)"\)', body) for field in ("long", "value_name"))
         one_of = re.search(r"ValueParser::Names\((\w+)\.as_slice", body)
@@ -251,14 +142,9 @@ def in_fish():
     return "\n".join(lines) + "\n"
 
 
-# how wide the left side of the table of answers is
-WIDTH = 40
 differ = False
 TABLES = {
     "crates/occ_explain/src/cause_table.rt": causes,
-    "crates/rows_sources/src/gallery.rt": gallery,
-    "crates/rows_sources/src/answers.rt": answers,
-    "crates/rows_explore/src/sources.rt": explored,
     "docs/occam.1": manual,
     "tools/completions/occam.bash": in_bash,
     "tools/completions/_occam": in_zsh,

@@ -1,5 +1,6 @@
 //! Each process of a source is known: it has a PROC, and each of its stops a line.
 use crate::compared::check_count;
+use crate::sources::{ARMS, CELLS, MERGE, PIPELINE, TAGS};
 use occ_machine::{Code, Instr, Slot};
 use occ_places::{Places, places_of};
 use occ_play::{Options, code_of};
@@ -34,20 +35,30 @@ fn stops_in(code: &[Instr<Slot>]) -> usize {
     stops
 }
 
-/// Each process of a source that is accepted is known.
-pub(crate) fn check_known(rt: &impl Abort, alloc: Global, name: &str, source: &[u8]) {
-    if let Some(code) = code_of(&Options::plain(), alloc, source).ok() {
-        let places = known(alloc, source, &code).expect(rt, "not known");
-        check_places(rt, name, &code, &places);
-    }
+/// Each process of a source is known.
+fn check_known(rt: &impl Abort, alloc: Global, source: &[u8]) {
+    let code = code_of(&Options::plain(), alloc, source).ok();
+    let code = code.expect(rt, "refused");
+    let places = known(alloc, source, &code).expect(rt, "not known");
+    check_places(rt, &code, &places);
 }
 
 /// Each process of a code has a PROC, and each of its stops a line.
-fn check_places(rt: &impl Abort, name: &str, code: &Code, places: &Places) {
+fn check_places(rt: &impl Abort, code: &Code, places: &Places) {
     for number in 0..4096 {
         if let Some(body) = code.body(number as usize) {
-            assert!(rt; !places.name(number).is_empty(), "{name}");
-            check_count(rt, name, places.stops(number).len(), stops_in(body.code()));
+            assert!(rt; !places.name(number).is_empty());
+            let (stops, wanted) = (places.stops(number).len(), stops_in(body.code()));
+            check_count(rt, "stops", stops, wanted);
         }
+    }
+}
+
+static KNOWN: [&[u8]; 5] = [PIPELINE, MERGE, TAGS, ARMS, CELLS];
+
+#[test]
+fn processes_are_known(rt: HostRuntime) {
+    for source in &KNOWN {
+        check_known(&rt, rt.alloc(), source);
     }
 }

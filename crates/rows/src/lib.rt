@@ -1,18 +1,16 @@
-//! Tests of runs of whole programs, from a text to its answer.
+//! Tests of what only a caller of the libraries sees: the folder `tests` has what a built program shows.
 #![tactic(auto)]
 
 #[cfg(test)]
-mod choosing_networks;
+mod board;
 #[cfg(test)]
 mod compared;
 #[cfg(test)]
-mod crews;
+mod explored;
 #[cfg(test)]
-mod cut;
+mod growths;
 #[cfg(test)]
-mod drawn;
-#[cfg(test)]
-mod first_programs;
+mod inputs;
 #[cfg(test)]
 mod known;
 #[cfg(test)]
@@ -20,26 +18,20 @@ mod laws;
 #[cfg(test)]
 mod memory;
 #[cfg(test)]
-mod networks;
-#[cfg(test)]
 mod outcomes;
 #[cfg(test)]
-mod quanta;
+mod plans;
 #[cfg(test)]
-mod row;
+mod refused;
 #[cfg(test)]
-mod selection;
+mod settled;
 #[cfg(test)]
-mod sequential;
+mod sources;
 #[cfg(test)]
-mod sequential_programs;
+mod threads;
 #[cfg(test)]
-mod stepped;
+mod told;
 #[cfg(test)]
-mod stopping;
-#[cfg(test)]
-mod texts;
-#[cfg(test)]
-mod workers;
+mod turned;
 #[cfg(test)]
 mod writers;

@@ -1,7 +1,7 @@
 //! Runs in which a growth may be refused, for `tools/refuse --test rows memory::`: they pass whichever it is.
 ghost use Rattle.std.specs.Prelude.{◌≡◌};
 
-use crate::networks::{MERGE, PIPELINE, TAGS};
+use crate::sources::{MERGE, PIPELINE, TAGS};
 use occ_check::CheckFault;
 use occ_code::CodeFault;
 use occ_play::{

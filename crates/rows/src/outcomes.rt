@@ -1,4 +1,4 @@
-//! Plans, endings, faults and exit statuses.
+//! Plans, and the lines and exit statuses of what no short run comes to.
 use crate::compared::{check_count, check_text};
 use occ_check::CheckFault;
 use occ_code::CodeFault;
@@ -38,19 +38,8 @@ fn plans_have_choices(rt: HostRuntime) {
     assert!(rt; plan.at(2).is_none());
 }
 
-/// How runs end, the line that says so, and the exit status.
-static ENDINGS: [(Ending, &str, u8); 9] = [
-    (Ending::Ended, "ended", 0),
-    (Ending::Stopped, "stopped", 2),
-    (Ending::Limit, "limit", 4),
-    (
-        Ending::Fault(Fault {
-            kind: FaultKind::Arith,
-            line: 7,
-        }),
-        "fault ARITH line 7",
-        3,
-    ),
+/// Endings that no short run has, the line that says so, and the exit status.
+static ENDINGS: [(Ending, &str, u8); 2] = [
     (
         Ending::Fault(Fault {
             kind: FaultKind::Range,
@@ -60,35 +49,11 @@ static ENDINGS: [(Ending, &str, u8); 9] = [
         3,
     ),
     (
-        Ending::Fault(Fault {
-            kind: FaultKind::Convert,
-            line: 2,
-        }),
-        "fault CONVERT line 2",
-        3,
-    ),
-    (
-        Ending::Fault(Fault {
-            kind: FaultKind::Shift,
-            line: 1,
-        }),
-        "fault SHIFT line 1",
-        3,
-    ),
-    (
-        Ending::Fault(Fault {
-            kind: FaultKind::Count,
-            line: 10,
-        }),
-        "fault COUNT line 10",
-        3,
-    ),
-    (
         Ending::StoppedBy(Fault {
-            kind: FaultKind::Arith,
-            line: 7,
+            kind: FaultKind::Count,
+            line: 4294967295,
         }),
-        "stopped ARITH line 7",
+        "stopped COUNT line 4294967295",
         2,
     ),
 ];
@@ -130,41 +95,6 @@ fn check_played(
 
 fn check_fault(rt: &impl Abort, alloc: Global, fault: PlayFault, text: &str, status: u8) {
     check_played(rt, alloc, &Err(fault), text, status);
-}
-
-#[test]
-fn faults_of_texts_are_told(rt: HostRuntime) {
-    let alloc = rt.alloc();
-    let long = PlayFault::Text(TextFault::TooLong);
-    check_fault(&rt, alloc, long, "refused 1 TooLong", 1);
-    let byte = PlayFault::Text(TextFault::BadByte { line: 9 });
-    check_fault(&rt, alloc, byte, "refused 2 BadByte line 9", 1);
-    let level = PlayFault::Parse(ParseFault::Level { line: 7 });
-    check_fault(&rt, alloc, level, "refused 21 Level line 7", 1);
-}
-
-#[test]
-fn faults_of_programs_are_told(rt: HostRuntime) {
-    let alloc = rt.alloc();
-    let no_main = PlayFault::Check(CheckFault::NoMain);
-    check_fault(&rt, alloc, no_main, "refused 42 NoMain", 1);
-    let large = PlayFault::Code(CodeFault::TooLarge);
-    check_fault(&rt, alloc, large, "refused 60 TooLarge", 1);
-    let quantum = PlayFault::Code(CodeFault::BadQuantum);
-    check_fault(&rt, alloc, quantum, "refused 62 BadQuantum", 7);
-    let write = PlayFault::Write { written: 3 };
-    check_fault(&rt, alloc, write, "write failed", 6);
-}
-
-#[test]
-fn faults_of_usage_are_told(rt: HostRuntime) {
-    let alloc = rt.alloc();
-    let name = String::from_str(alloc, "n").expect(&rt, "memory");
-    let shared = PlayFault::Usage(UsageFault::SharedVariable { line: 5, name });
-    check_fault(&rt, alloc, shared, "refused 50 SharedVariable line 5 n", 1);
-    let name = String::from_str(alloc, "screen").expect(&rt, "memory");
-    let inputs = PlayFault::Usage(UsageFault::TwoInputs { line: 3, name });
-    check_fault(&rt, alloc, inputs, "refused 51 TwoInputs line 3 screen", 1);
 }
 
 #[test]

@@ -1,0 +1,5 @@
+use Rattle.rows.proofs.threads.held.check_held.Given as goal
+
+-- the board that was just opened
+abbrev pub ghosts-shown : goal.ghosts-shown
+ghosts-shown g a = record { book = a.opened }

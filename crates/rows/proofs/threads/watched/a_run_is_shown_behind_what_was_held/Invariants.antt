@@ -1,0 +1,5 @@
+use Rattle.rows.proofs.threads.watched.a_run_is_shown_behind_what_was_held.Given as goal
+
+-- the board that was just opened
+abbrev pub ghosts-held_and_shown : goal.ghosts-held_and_shown
+ghosts-held_and_shown g a = record { book = a.opened }

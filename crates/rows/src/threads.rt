@@ -1,0 +1,6 @@
+//! Tests of runs by several threads.
+
+mod held;
+mod meeting;
+mod runs;
+mod watched;

@@ -1,5 +1,0 @@
-use Rattle.rows_turns.proofs.workers.held.check_held.Given as goal
-
--- the board that was just opened
-abbrev pub ghosts-shown : goal.ghosts-shown
-ghosts-shown g a = record { book = a.opened }

@@ -1,8 +1,0 @@
-use Rattle.rows_turns.proofs.workers.watched.a_refused_run_ends_its_publisher.Given as goal
-
--- the board that was just opened
-abbrev pub ghosts-refusal : goal.ghosts-refusal
-ghosts-refusal g a = record { book = a.opened }
-
-abbrev pub ghosts-refusal-2 : goal.ghosts-refusal-2
-ghosts-refusal-2 g a = record { book = a.opened }

@@ -1,5 +1,0 @@
-use Rattle.rows_turns.proofs.workers.watched.eight_watchers_are_shown_the_trace.Given as goal
-
--- the board that was just opened
-abbrev pub ghosts-eight_shown : goal.ghosts-eight_shown
-ghosts-eight_shown g a = record { book = a.opened }

@@ -1,7 +1,0 @@
-//! Tests of runs by several threads.
-
-mod held;
-mod meeting;
-mod runs;
-mod sources;
-mod watched;

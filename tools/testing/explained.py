@@ -1,0 +1,128 @@
+"""Tries --explain over the texts of tests/mistakes.txt and the programs of examples/.
+
+Of each text the first line on standard error and the status have to be those without the word. Behind it come the place, with the words
+of what is wrong, the line of the source behind its number, a caret under the place, and the words of the hint. A text of
+tests/mistakes.txt stands below a line `=== ` with its mistake, and above a line `--- ` with the place, the words of what is wrong, a `/`
+and the words of the hint; semicolons part the words.
+
+Each program of examples/, and each of tests/runs, tests/choices and tests/explored, is played for some numbers of turns. In the report of a run that hasn't ended each process has to have a PROC of
+the text, and a line unless it can go on or met a fault; and what it stands at has to be in that line. So it is
+with the stops of its first turns, as --steps writes them.
+"""
+import re
+
+from .cases import all_cases
+from .running import TOP, Job, room, run
+
+TURNS = [1, 2, 3, 5, 8, 13, 21, 34, 55, 89, 144, 10000]
+FEW_TURNS = [2, 5, 13, 10000]
+STANDS = re.compile(r"  p\d+ (?P<name>[\w.]+)(?:, line (?P<line>\d+))?: (?P<text>.*)")
+# whom it waits for
+WAITS = re.compile(r"  (?P<one>p\d+) [^:]*: (?:offers|awaits) .*, which (?P<other>p\d+) (?:reads|writes)")
+CIRCLE = "  in a circle, each waits for the next: "
+# how what a process stands at begins, or ends, and what the line then has
+HAS = {
+    "offers ": "!",
+    "awaits ": "?",
+    "chooses": "ALT",
+    "waits for ": "PAR",
+    "halted by STOP": "STOP",
+    "the IF is TRUE": "IF",
+    "for the value": "CASE",
+    "has the tag": "?",
+    "ALT is closed": "ALT",
+}
+# how what a turn stops at begins, and one of what its line then has
+STOPS = {"offers ": ["!"], "awaits ": ["?"], "chooses": ["ALT"], "waits for ": ["PAR"], "halted": ["STOP", "IF", "CASE", "?", "ALT"]}
+STEP = re.compile(r"\d+ ready (?:p\d+ )+took p\d+ pick \d+ (?:line (?P<line>\d+): )?(?P<text>.*)")
+# texts that are no UTF-8, or that are cut within a character: a title, the text, the line, the column, what is wrong and the hint
+ODD = [
+    ("a comment in another code", b"PROC main (CHAN OF BYTE keyboard, screen)\n  INT x: -- caf\xe9\n  x = 1 -- caf\xe9\n:\n", 3, 5, "`=`", ":="),
+    ("a letter of another code", b"PROC main (CHAN OF BYTE keyboard, screen)\n  screen ! '\xe9'\n:\n", 2, 13, "a byte", "ASCII"),
+    ("a byte that begins a control sequence", b"PROC main (CHAN OF BYTE keyboard, screen)\n  INT x:\n  x = 1 -- \xc2\x9b2J\n:\n", 3, 5, "`=`", ":="),
+]
+MISTAKES = re.compile(r"(?ms)^=== (.*?)\n(.*?)^--- (\d+):(\d+) (.*?) /(.*?)$")
+
+
+def mistaken(program, source, line, column, wrong, hint):
+    """Faults of what is told of one text."""
+    with room({"x.occ": source}) as folder:
+        (status, _, plain), (status_too, _, explained) = (run(program, folder, [*words, "x.occ"]) for words in ([], ["--explain"]))
+    if (status, status_too) != (1, 1) or not explained.startswith(plain):
+        yield "another first line or status"
+    lines = explained.removeprefix(plain).decode("ascii", "replace").split("\n")
+    if not lines[0].startswith(f"x.occ:{line}:{column}: "):
+        yield f"another place: {lines[0]}"
+    shown = re.sub(rb"[^\x20-\x7e]", b"?", source.split(b"\n")[line - 1]).decode("ascii")
+    caret = f"{' ' * len(str(line))} | {' ' * (column - 1)}^"
+    if lines[1:3] != [f"{line} | {shown}", caret]:
+        yield f"another line: {lines[1:3]}"
+    for words, text in ((wrong, lines[0]), (hint, "\n".join(lines[3:]))):
+        for word in words.split(";"):
+            if word.strip() not in text:
+                yield f"no {word.strip()} in {text}"
+
+
+def misplaced(program, folder, source, turns):
+    """The lines of the report of a run of so many turns that tell no place, or another one."""
+    status, _, err = run(program, folder, ["x.occ", "--explain", "--limit", str(turns)])
+    told = err.decode("utf-8").split("\n")[1:-1] if status in (2, 3, 4) else []
+    others = {}
+    for line in told:
+        if line.startswith(CIRCLE):
+            numbers = line.removeprefix(CIRCLE).split()
+            if any(others.get(one) != other for one, other in zip(numbers, numbers[1:] + numbers[:1])):
+                yield f"no circle: {line}"
+            continue
+        stands = STANDS.fullmatch(line)
+        waits = WAITS.fullmatch(line)
+        if waits:
+            others[waits["one"]] = waits["other"]
+        if not stands or f"PROC {stands['name']} (" not in source:
+            yield f"no PROC: {line}"
+        elif stands["line"]:
+            has = [word for text, word in HAS.items() if stands["text"].startswith(text) or stands["text"].endswith(text)]
+            if not has or has[0] not in source.split("\n")[int(stands["line"]) - 1]:
+                yield f"another line: {line}"
+        elif stands["text"] != "can go on" and not stands["text"].startswith("fault "):
+            yield f"no line: {line}"
+
+
+def unplaced(program, folder, source):
+    """The lines of --steps for a program's first turns that tell no line of the source, or another one."""
+    run(program, folder, ["x.occ", "--steps", "turns", "--limit", "1000"])
+    lines = source.split("\n")
+    for line in (folder / "turns").read_text().splitlines():
+        step = STEP.fullmatch(line)
+        has = next((has for text, has in STOPS.items() if step and step["text"].startswith(text)), None)
+        if has and not (step["line"] and any(word in lines[int(step["line"]) - 1] for word in has)):
+            yield f"another line: {line}"
+        if not has and not (step and step["text"].startswith(("can go on", "ends", "fault "))):
+            yield f"no turn: {line}"
+
+
+def reports(program, source, all_turns):
+    """Faults of the reports of a program's runs of some numbers of turns."""
+    with room({"x.occ": source}) as folder:
+        for turns in all_turns:
+            for fault in misplaced(program, folder, source, turns):
+                yield f"{turns} turns: {fault}"
+        yield from unplaced(program, folder, source)
+
+
+def jobs():
+    """A test for each text, for each example, and for each program of the tests that is not refused."""
+    found = MISTAKES.findall((TOP / "tests/mistakes.txt").read_text(encoding="utf-8"))
+    texts = [(title, text.encode("utf-8"), int(line), int(column), wrong, hint) for title, text, line, column, wrong, hint in found]
+    for title, *told in texts + ODD:
+        yield Job(f"explained: {title}", lambda program, told=told: mistaken(program, *told))
+    for path in sorted((TOP / "examples").rglob("*.occ")):
+        source = path.read_text(encoding="utf-8")
+        yield Job(f"explained: {path.relative_to(TOP)}", lambda program, source=source: reports(program, source, TURNS))
+    sources = {}
+    for case in all_cases():
+        if re.match("tests/(runs|choices|explored)/", case.where) and not case.wanted[0].is_refused:
+            text = case.source if isinstance(case.source, bytes) else case.source.read_bytes()
+            sources.setdefault(text, case.where)
+    for text, where in sources.items():
+        yield Job(f"explained: {where}", lambda program, source=text.decode(): reports(program, source, FEW_TURNS))

@@ -1,0 +1,83 @@
+"""What is given beside the source: files of choices, and words of the command line."""
+from .running import Job, put, room, run
+
+HEAD = "PROC main (CHAN OF BYTE keyboard, screen)\n"
+# it takes a turn for each choice that there is
+ENDLESS = HEAD + "  WHILE TRUE\n    SKIP\n:\n"
+LETTER = HEAD + "  screen ! 'A'\n:\n"
+# a file of choices, and the choices that are recorded of a run by it, or the refusal
+CHOICES = [
+    (b"", ""),
+    (b"0 0\r\n1 0\n", "0 0\n1 0\n"),
+    (b"0 0\n1 0", "0 0\n1 0\n"),
+    (b"007 0000000010\n", "7 10\n"),
+    (b"4294967295 7\n", "4294967295 7\n"),
+    (b"0  0\n", "refused 90 BadChoice line 1"),
+    (b"0 0\n4294967296 0\n", "refused 90 BadChoice line 2"),
+    (b"0 0\n\n", "refused 90 BadChoice line 2"),
+    (b"0 0 \n", "refused 90 BadChoice line 1"),
+    (b" 0 0\n", "refused 90 BadChoice line 1"),
+    (b"0\n", "refused 90 BadChoice line 1"),
+    (b"0 \n", "refused 90 BadChoice line 1"),
+    (b"+1 0\n", "refused 90 BadChoice line 1"),
+    (b"00000000001 0\n", "refused 90 BadChoice line 1"),
+    (b"0 0\r", "refused 90 BadChoice line 1"),
+    (b"0 a\n", "refused 90 BadChoice line 1"),
+    (b"0 0\n" * 10_000_001, "refused 91 TooMany"),
+]
+# words that are wrong
+WRONG = [
+    # a number outside of its range, or none
+    "--limit=10000001", "--limit=4294967296", "--limit=-1", "--limit=x", "--limit=", "--limit", "--quantum=0", "--quantum=65537",
+    "--workers=0", "--workers=65", "--arrows=4294967296", "--seed=1000000001", "--seed=1 --tries=0", "--explore --states=0",
+    "--explore --states=10000001",
+    # a word that is not one of those allowed, none at all, and one too many
+    "--errors=both", "--errors=STOP", "--explore=all", "--chart", "--trace=yes", "--nope", "-t", "g.occ",
+    # a word twice
+    "--limit=1 --limit=1", "--trace --trace",
+    # words of one run beside a search, or beside a check
+    "--explore --limit=1", "--workers=2 --explore", "--explore --choices=c", "--explore --trace", "--explore --watch",
+    "--explore --chart=s", "--explore --arrows=5", "--explore --steps=u", "--check --trace",
+    # words that exclude one another, and words that need another one
+    "--chart=s --last=5 --arrows=5", "--seed=1 --workers=2", "--states=5", "--arrows=5", "--last=5", "--tries=2", "--json",
+    # one file named twice
+    "--record=x.occ", "--chart=x.occ", "--record=f --choices=f", "--chart=f --choices=f", "--record=f --chart=f", "--trace-to=x.occ",
+    "--chart=f --trace-to=f", "--steps=x.occ", "--steps=f --trace-to=f",
+]
+# words that are allowed
+ALLOWED = [
+    "--limit 10000000 --trace", "--trace --limit=2", "--errors halt", "--quantum=65536 --errors=stop --workers=64 --watch --explain",
+    "--chart=s.svg --arrows=0", "--explore", "--explore=full", "--explore=endings --states=10000000 --quantum=7 --errors=stop --record=r",
+    "--check", "--seed=1000000000 --tries=2 --trace-to=t --json --steps=u --chart=s --last=3", "--record=g --chart=h --steps=s",
+]
+
+
+def by_choices(program, text, wanted):
+    """What is wrong with a run by this file of choices."""
+    with room({"x.occ": ENDLESS, "choices": text}) as folder:
+        status, out, err = run(program, folder, ["--choices", "choices", "--record", "used", "x.occ"])
+        if wanted.startswith("refused"):
+            if (status, out, err.decode()) != (7, b"", wanted + "\n"):
+                yield f"status {status}, {err[:80]!r}, and not {wanted}"
+        elif (status, (folder / "used").read_text()) != (4, wanted):
+            yield f"status {status}, and recorded {(folder / 'used').read_text()[:80]!r}"
+
+
+def by_words(program, words, is_wrong):
+    """What is wrong with a run by these words."""
+    with room({"x.occ": LETTER}) as folder:
+        put(folder, {"c": "0 0\n0 0\n"})
+        status, out, err = run(program, folder, ["x.occ", *words.split()])
+        if is_wrong and (status != 7 or out or not err.startswith(b"error: ")):
+            yield f"status {status}, {out[:40]!r}, {err[:80]!r}, and not wrong words"
+        if not is_wrong and status:
+            yield f"status {status}, {err[:80]!r}"
+
+
+def jobs():
+    """A test for each file of choices, and for each list of words."""
+    for text, wanted in CHOICES:
+        yield Job(f"choices: {text[:30]!r}", lambda program, text=text, wanted=wanted: by_choices(program, text, wanted))
+    for is_wrong, lists in ((True, WRONG), (False, ALLOWED)):
+        for words in lists:
+            yield Job(f"words: {words}", lambda program, words=words, is_wrong=is_wrong: by_words(program, words, is_wrong))
