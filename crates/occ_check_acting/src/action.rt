@@ -33,12 +33,20 @@ pub enum Listed {
 }
 
 /// The constants that stand in the options of a CASE so far, and whether ELSE does.
-#[derive(Drop)]
 pub struct Chosen {
     /// The constants, in order.
     pub constants: IndexSet<i64>,
     /// Whether ELSE stands there.
     pub has_else: bool,
+}
+
+impl Drop for Chosen {
+    fn drop(self) {
+        let Chosen {
+            constants: _,
+            has_else: _,
+        } = self;
+    }
 }
 
 /// An assignment: its targets and its items.

@@ -15,12 +15,20 @@ use occ_term::{Protocol, Tag};
 use std::alloc::Global;
 
 /// The tags of a protocol by their names, and those that are listed.
-#[derive(Drop)]
 pub struct Tags {
     /// The number of each name: of the first tag that has it.
     pub numbers: IndexMap<Letters, usize>,
     /// The numbers that are listed so far, in order.
     pub listed: IndexSet<u32>,
+}
+
+impl Drop for Tags {
+    fn drop(self) {
+        let Tags {
+            numbers: _,
+            listed: _,
+        } = self;
+    }
 }
 
 impl Tags {

@@ -6,3 +6,4 @@ pub mod Compiled
 pub mod Indices
 pub mod Made
 pub mod Looking
+pub mod Flat

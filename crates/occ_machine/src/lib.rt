@@ -6,6 +6,7 @@
 pub mod body;
 mod channels;
 pub mod code;
+mod flat;
 pub mod indices;
 pub mod instr;
 pub mod quick;

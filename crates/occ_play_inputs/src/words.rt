@@ -50,6 +50,15 @@ pub const MOST_STATES: u32 = 10_000_000;
 /// What a word may say of a search: what it tells, or that it comes to all states for what it tells.
 static TOLD: [&str; 3] = ["answers", "endings", "full"];
 
+/// How many words there are.
+const WORDS: u32 = 21;
+
+/// The words that say something of one run.
+static OF_ONE_RUN: [&str; 13] = [
+    "limit", "workers", "choices", "chart", "arrows", "last", "trace", "trace-to", "json", "steps",
+    "seed", "tries", "watch",
+];
+
 /// What is told below the words.
 const MORE_HELP: &str =
     r#"A turn is what one process does up to its next stop: an output, an input, an ALT, a PAR,
@@ -142,10 +151,23 @@ pub struct Words<'a> {
 /// an error of the kind `DisplayHelp`, and one for the version of the kind `DisplayVersion`.
 pub fn read_words<'a>(alloc: Global, words: &'a [&'a str]) -> Result<Words<'a>, Error> {
     let mut command = command(alloc)?;
+    read_by(&mut command, words)
+}
+
+/// What the command finds in the words.
+fn read_by<'a>(command: &mut Command<'a>, words: &'a [&'a str]) -> Result<Words<'a>, Error> {
     let matches = command.try_get_matches_from_mut(words)?;
     match words_of(&matches) {
         Ok(words) => Ok(words),
-        Err(told) => Err(command.error(ErrorKind::ValueValidation, told)?),
+        Err(told) => Err(refused(command, told)),
+    }
+}
+
+/// The error that tells this of the words.
+fn refused<'a>(command: &mut Command<'a>, told: &str) -> Error {
+    match command.error(ErrorKind::ValueValidation, told) {
+        Ok(error) => error,
+        Err(error) => Error::from(error),
     }
 }
 
@@ -298,32 +320,42 @@ fn is_full(given: Option<&str>) -> bool
 
 /// The words that the program takes.
 fn command<'a>(alloc: Global) -> Result<Command<'a>, Error> {
-    let command = Command::new(alloc, "occam")
+    let mut command = Command::new(alloc, "occam")
         .about("Compiles and runs an occam 2 program.")
         .version(VERSION)
         .override_usage("occam [FILE] [OPTIONS]")
-        .after_help(MORE_HELP)
-        .arg(limit_word(alloc))?
-        .arg(quantum_word(alloc))?
-        .arg(errors_word(alloc))?
-        .arg(workers_word(alloc))?;
-    let command = with(command, seed_word(alloc))?;
-    let command = with(command, tries_word(alloc))?
-        .arg(choices_word(alloc))?
-        .arg(record_word(alloc))?
-        .arg(chart_word(alloc))?;
-    let command = with(command, arrows_word(alloc))?;
-    let command = with(command, last_word(alloc))?
-        .arg(trace_word(alloc))?
-        .arg(trace_to_word(alloc))?;
-    let command = with(command, json_word(alloc))?
-        .arg(steps_word(alloc))?
-        .arg(watch_word(alloc))?
-        .arg(explain_word(alloc))?;
-    let command = with(command, explore_word(alloc))?;
-    let command = with(command, states_word(alloc))?;
-    let command = with(command, check_word(alloc))?.arg(file_word(alloc))?;
+        .after_help(MORE_HELP);
+    for number in 0..WORDS {
+        command = with(command, word_of(alloc, number))?;
+    }
     Ok(command)
+}
+
+/// The word with this number, of those that the program takes, in the order in which help tells of them.
+fn word_of<'a>(alloc: Global, number: u32) -> Result<Arg<'a>, AllocError> {
+    match number {
+        0 => Ok(limit_word(alloc)),
+        1 => Ok(quantum_word(alloc)),
+        2 => Ok(errors_word(alloc)),
+        3 => Ok(workers_word(alloc)),
+        4 => seed_word(alloc),
+        5 => tries_word(alloc),
+        6 => Ok(choices_word(alloc)),
+        7 => Ok(record_word(alloc)),
+        8 => Ok(chart_word(alloc)),
+        9 => arrows_word(alloc),
+        10 => last_word(alloc),
+        11 => Ok(trace_word(alloc)),
+        12 => Ok(trace_to_word(alloc)),
+        13 => json_word(alloc),
+        14 => Ok(steps_word(alloc)),
+        15 => Ok(watch_word(alloc)),
+        16 => Ok(explain_word(alloc)),
+        17 => explore_word(alloc),
+        18 => states_word(alloc),
+        19 => check_word(alloc),
+        _ => Ok(file_word(alloc)),
+    }
 }
 
 /// The command with this word too, where there was room for it.
@@ -495,19 +527,7 @@ fn explore_word<'a>(alloc: Global) -> Result<Arg<'a>, AllocError> {
 
 /// A word beside which those that say something of one run may not stand.
 fn but_one_run<'a>(word: Arg<'a>) -> Result<Arg<'a>, AllocError> {
-    word.conflicts_with("limit")?
-        .conflicts_with("workers")?
-        .conflicts_with("choices")?
-        .conflicts_with("chart")?
-        .conflicts_with("arrows")?
-        .conflicts_with("last")?
-        .conflicts_with("trace")?
-        .conflicts_with("trace-to")?
-        .conflicts_with("json")?
-        .conflicts_with("steps")?
-        .conflicts_with("seed")?
-        .conflicts_with("tries")?
-        .conflicts_with("watch")
+    word.conflicts_with_all(OF_ONE_RUN.as_slice())
 }
 
 fn states_word<'a>(alloc: Global) -> Result<Arg<'a>, AllocError> {

@@ -1,11 +1,12 @@
-use Rattle.std.proofs.Common.{rules, pos, ◌≡◌, ◌∷◌, [], ◌++◌, ◌-◌, ◌+◌, length, drop, refl, sym, ap, ◌∙◌, arith}
+use Rattle.std.proofs.Common.{rules, pos, subst, ◌≡◌, ◌∷◌, [], ◌++◌, ◌-◌, ◌+◌, length, drop, refl, sym, ap, ◌∙◌, arith}
 use Rattle.occ_term.specs.Storing.{index_of}
-use Rattle.occ_term.specs.View.{arm_of, arms_of, choice_of, choices_of, declaration_of, declarations_of, expression_of, option_of, options_of, place_of, reception_of, replicator_of, targets_of, term_of, test_of, variant_of}
+use Rattle.occ_term.specs.View.{arm_of, arms_of, branches_of, choice_of, choices_of, declaration_of, declarations_of, expression_of, items_of, option_of, options_of, place_of, reception_of, replicator_of, targets_of, term_of, terms_of, test_of, variant_of, variants_of}
 use Rattle.occ_term.specs.declared.term.Term.{the_lemmas}
-use Rattle.occ_machine.specs.declared.instr.Instr.TheVariants.{BackToChoice, Begin, Choose, ChooseArm, DropOne, IfAmong, IfTag, Jump, LoopBack, NextChoice, Pass, Push}
-use Rattle.occ_code.specs.Expressions.{counting_code, declaration_code, declarations_code, expression_code, input_opening, skip_opening, storing_code}
-use Rattle.occ_code.specs.Emitted.{arm_code, arms_code, choices_code, declared_arms_code, each_arm_code, else_code, list_code, options_code, term_code, variants_code}
-use Rattle.occ_code.proofs.Emitting.{emits_then, emits_as, emits_from, emits_length, drop_all}
+use Rattle.occ_machine.specs.declared.instr.Instr.TheVariants.{BackToChoice, Begin, Choose, ChooseArm, DropOne, Halt, IfAmong, IfTag, Jump, LoopBack, NextChoice, Pass, Push, Receive}
+use Rattle.occ_code.specs.Expressions.{assignment_code, counting_code, declaration_code, declarations_code, expression_code, input_opening, par_code, place_code, skip_opening, storing_code}
+use Rattle.occ_code.specs.Emitted.{arm_code, arms_code, choices_code, declared_arms_code, each_arm_code, else_code, list_code, options_code, term_code, terms_code, variants_code}
+use Rattle.occ_code.specs.Pieces.{AddsPiece, input_code, output_code}
+use Rattle.occ_code.proofs.Emitting.{emits_then, emits_as, emits_from, emits_length, emits_none, drop_all}
 use Rattle.occ_code.proofs.EmittingArms.{declared_arms, each_arms, number_is, one_arm}
 use Rattle.occ_code.proofs.EmittingTerms.{among_others, behind, beyond, chosen, guarded, options_next, tagged}
 use Rattle.occ_code.proofs.statements.+terms.Goals as goal
@@ -167,3 +168,124 @@ emit_term-returns-in_ok-emit_passes-in-Each t c =
     ∷ Pass c.args.slot (index_of (replicator_of c.in-Each.over)) (length (term_code (c.args.slot + 2) (term_of c.get-in-Each.result.now)) + 1)
     ∷ (term_code (c.args.slot + 2) (term_of c.get-in-Each.result.now) ++ LoopBack (length (term_code (c.args.slot + 2) (term_of c.get-in-Each.result.now)) + 1) ∷ []) ≡ term_code c.args.slot (term_of c.args.term.now) = search (rules, the_lemmas) in
     emits_as (c.in_ok-emit_passes-in-Each.ensures c.args.code.now.items B (sym c.emitted-place-in-Each.ensures) (behind c.in_ok-put-in-Each.ensures c.in_ok-emit_term-in-Each.ensures)) seen
+
+-- ---- what each call asks for
+
+pub emit_arm-emit_each_value-requires : goal.emit_arm-emit_each_value-requires
+emit_arm-emit_each_value-requires t c = omega (arith, c.emitted-before.ensures, emits_length c.in_ok-put-in-EachArm.ensures, emits_length c.in_ok-put-in-EachArm-2.ensures, emits_length c.in_ok-emit_arms-in-EachArm.ensures)
+
+pub emit_choice-emit_next-requires : goal.emit_choice-emit_next-requires
+emit_choice-emit_next-requires t c = omega (arith, c.emitted-place.ensures, emits_length c.in_ok-put-in-EachChoice.ensures, emits_length c.in_ok-emit_choices-in-EachChoice.ensures)
+
+pub emit_term-emit_alt-requires : goal.emit_term-emit_alt-requires
+emit_term-emit_alt-requires t c = omega (arith, c.emitted-end.ensures, emits_length c.in_ok-put-in-Alt.ensures, emits_length c.in_ok-emit_arms-in-Alt.ensures)
+
+pub emit_term-emit_test-requires : goal.emit_term-emit_test-requires
+emit_term-emit_test-requires t c = omega (arith, c.emitted-place.ensures, emits_length c.in_ok-put-in-While.ensures, emits_length c.in_ok-emit_term-in-While.ensures)
+
+pub emit_term-emit_passes-requires : goal.emit_term-emit_passes-requires
+emit_term-emit_passes-requires t c = omega (arith, c.emitted-place-in-Each.ensures, emits_length c.in_ok-put-in-Each.ensures, emits_length c.in_ok-emit_term-in-Each.ensures)
+
+-- ---- terms and receptions without a loop of their own
+
+pub emit_term-returns-in-Skip : goal.emit_term-returns-in-Skip
+emit_term-returns-in-Skip t c =
+    let seen : [] ≡ term_code c.args.slot (term_of c.args.term.now) = search (rules, the_lemmas) in
+    emits_as (emits_none c.args.code.now.items) seen
+
+pub emit_term-returns-in-Stop : goal.emit_term-returns-in-Stop
+emit_term-returns-in-Stop t c =
+    let seen : Halt ∷ [] ≡ term_code c.args.slot (term_of c.args.term.now) = search (rules, the_lemmas) in
+    subst (λ p. AddsPiece c.put.result c.args.code.now c.put.new.code p) seen c.put.ensures
+
+pub emit_term-returns-in-Assign : goal.emit_term-returns-in-Assign
+emit_term-returns-in-Assign t c =
+    let seen : assignment_code (targets_of c.as_slice.result.now) (items_of c.as_slice-in-Assign.result.now) ≡ term_code c.args.slot (term_of c.args.term.now) = search (rules, the_lemmas) in
+    subst (λ p. AddsPiece c.emit_assignment.result c.args.code.now c.emit_assignment.new.code p) seen c.emit_assignment.ensures
+
+pub emit_term-returns-in-Input : goal.emit_term-returns-in-Input
+emit_term-returns-in-Input t c =
+    let seen : input_code (place_of c.in-Input.channel) (targets_of c.as_slice-in-Input.result.now) ≡ term_code c.args.slot (term_of c.args.term.now) = search (rules, the_lemmas) in
+    subst (λ p. AddsPiece c.emit_input.result c.args.code.now c.emit_input.new.code p) seen c.emit_input.ensures
+
+pub emit_term-returns-in-Output : goal.emit_term-returns-in-Output
+emit_term-returns-in-Output t c =
+    let seen : output_code (place_of c.in-Output.channel) c.in-Output.tag (items_of c.as_slice-in-Output.result.now) ≡ term_code c.args.slot (term_of c.args.term.now) = search (rules, the_lemmas) in
+    subst (λ p. AddsPiece c.emit_output.result c.args.code.now c.emit_output.new.code p) seen c.emit_output.ensures
+
+pub emit_term-returns-in_ok-emit_place_before-in-VariantInput : goal.emit_term-returns-in_ok-emit_place_before-in-VariantInput
+emit_term-returns-in_ok-emit_place_before-in-VariantInput t c =
+    let seen : (place_code (place_of c.in-VariantInput.channel) ++ Receive ∷ []) ++ variants_code c.args.slot (variants_of c.as_slice-in-VariantInput.result.now) ≡ term_code c.args.slot (term_of c.args.term.now) = search (rules, the_lemmas) in
+    emits_as (emits_then c.in_ok-emit_variants-in-VariantInput.ensures c.in_ok-emit_place_before-in-VariantInput.ensures) seen
+
+pub emit_term-returns-in-Seq : goal.emit_term-returns-in-Seq
+emit_term-returns-in-Seq t c =
+    let seen : terms_code c.args.slot (terms_of c.as_slice-in-Seq.result.now) ≡ term_code c.args.slot (term_of c.args.term.now) = search (rules, the_lemmas) in
+    subst (λ p. AddsPiece c.emit_terms.result c.args.code.now c.emit_terms.new.code p) seen c.emit_terms.ensures
+
+pub emit_term-returns-in-Par : goal.emit_term-returns-in-Par
+emit_term-returns-in-Par t c =
+    let seen : par_code (branches_of c.as_slice-in-Par.result.now) ≡ term_code c.args.slot (term_of c.args.term.now) = search (rules, the_lemmas) in
+    subst (λ p. AddsPiece c.emit_par.result c.args.code.now c.emit_par.new.code p) seen c.emit_par.ensures
+
+pub emit_term-returns-in_ok-emit_choices-in-If : goal.emit_term-returns-in_ok-emit_choices-in-If
+emit_term-returns-in_ok-emit_choices-in-If t c =
+    let one : length c.put-in-If.new.code.items - c.emitted-end-in-If.result ≡ 1 = omega (arith, emits_length c.in_ok-put-in-If.ensures, c.emitted-end-in-If.ensures) in
+    let inner = emits_as c.in_ok-emit_choices-in-If.ensures (ap (λ n. choices_code c.args.slot (choices_of c.as_slice-in-If.result.now) n) one) in
+    let seen : choices_code c.args.slot (choices_of c.as_slice-in-If.result.now) 1 ++ Halt ∷ [] ≡ term_code c.args.slot (term_of c.args.term.now) = search (rules, the_lemmas) in
+    emits_as (emits_then c.in_ok-put-in-If.ensures inner) seen
+
+pub emit_list-returns-in_ok-emit_storing-in-Plain : goal.emit_list-returns-in_ok-emit_storing-in-Plain
+emit_list-returns-in_ok-emit_storing-in-Plain t c =
+    let seen : storing_code (targets_of c.as_slice.result.now) ++ term_code c.args.slot (term_of c.in-Plain.body) ≡ list_code c.args.slot (reception_of c.args.list.now) = search (rules, the_lemmas) in
+    emits_as (emits_then c.in_ok-emit_term-in-Plain.ensures c.in_ok-emit_storing-in-Plain.ensures) seen
+
+pub emit_list-returns-in-Tagged : goal.emit_list-returns-in-Tagged
+emit_list-returns-in-Tagged t c =
+    let seen : variants_code c.args.slot (variants_of c.as_slice-in-Tagged.result.now) ≡ list_code c.args.slot (reception_of c.args.list.now) = search (rules, the_lemmas) in
+    subst (λ p. AddsPiece c.emit_variants.result c.args.code.now c.emit_variants.new.code p) seen c.emit_variants.ensures
+
+-- ---- lists
+
+pub emit_terms-loop-count-init : goal.emit_terms-loop-count-init
+emit_terms-loop-count-init t c =
+    let all = c.args.parts.now in
+    (omega arith, emits_as (emits_none c.args.code.now.items) (sym (ap (λ xs. terms_code c.args.slot (terms_of xs)) (drop_all all (length all) (omega arith)))))
+
+pub emit_terms-returns : goal.emit_terms-returns
+emit_terms-returns t c =
+    let none : c.loop-count.count ≡ 0 = omega (arith, c.loop-count-test.false) in
+    emits_as c.loop-count.invariant.1 (ap (λ n. terms_code c.args.slot (terms_of (drop n c.args.parts.now))) none)
+
+pub emit_choices-loop-count-init : goal.emit_choices-loop-count-init
+emit_choices-loop-count-init t c =
+    let all = c.args.choices.now in
+    (omega arith, emits_as (emits_none c.args.code.now.items) (sym (ap (λ xs. choices_code c.args.slot (choices_of xs) (length c.args.code.now.items - c.args.end)) (drop_all all (length all) (omega arith)))))
+
+pub emit_choices-returns : goal.emit_choices-returns
+emit_choices-returns t c =
+    let none : c.loop-count.count ≡ 0 = omega (arith, c.loop-count-test.false) in
+    emits_as c.loop-count.invariant.1 (ap (λ n. choices_code c.args.slot (choices_of (drop n c.args.choices.now)) (length c.args.code.now.items - c.args.end)) none)
+
+pub emit_arms-loop-count-init : goal.emit_arms-loop-count-init
+emit_arms-loop-count-init t c =
+    let all = c.args.arms.now in
+    (omega arith, emits_as (emits_none c.args.code.now.items) (sym (ap (λ xs. arms_code c.args.slot (arms_of xs) (length c.args.code.now.items - c.args.end)) (drop_all all (length all) (omega arith)))))
+
+pub emit_arms-returns : goal.emit_arms-returns
+emit_arms-returns t c =
+    let none : c.loop-count.count ≡ 0 = omega (arith, c.loop-count-test.false) in
+    emits_as c.loop-count.invariant.1 (ap (λ n. arms_code c.args.slot (arms_of (drop n c.args.arms.now)) (length c.args.code.now.items - c.args.end)) none)
+
+pub emit_options-loop-count-init : goal.emit_options-loop-count-init
+emit_options-loop-count-init t c =
+    let all = c.args.options.now in
+    (omega arith, emits_as (emits_none c.args.code.now.items) (sym (ap (λ xs. options_code c.args.slot (options_of xs) (length c.args.code.now.items - c.args.end)) (drop_all all (length all) (omega arith)))))
+
+pub emit_options-returns : goal.emit_options-returns
+emit_options-returns t c =
+    let none : c.loop-count.count ≡ 0 = omega (arith, c.loop-count-test.false) in
+    emits_as c.loop-count.invariant.1 (ap (λ n. options_code c.args.slot (options_of (drop n c.args.options.now)) (length c.args.code.now.items - c.args.end)) none)
+
+pub emit_else-loop-option-init : goal.emit_else-loop-option-init
+emit_else-loop-option-init t c = (refl, refl)
