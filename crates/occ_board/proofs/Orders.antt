@@ -15,22 +15,24 @@ use Rattle.occ_board.specs.Traces.{applied_to, added, IsAhead}
 use Rattle.occ_board.proofs.Prefixes.{prefix_self, prefix_trans, prefix_more}
 
 -- a new watcher has seen nothing
-pub admits : (b : Book) (xs : List Entry) (f : Reached) (views : List (List Entry)) → KeepsViews b xs f views → KeepsViews b xs f (views ++ [] ∷ [])
-admits b xs f views k =
-    (k.0, k.1, λ seat v at. ⊎_elim (k.2 seat v) (λ (new : [] ≡ v). subst (λ (l : List Entry). IsPrefix l xs) new (xs, refl)) (at_snoc views [] v seat at))
+pub admits : (b : Book) (may : List Entry → Type 0) (xs : List Entry) (f : Reached) (views : List (List Entry)) → KeepsViews b may xs f views → KeepsViews b may xs f (views ++ [] ∷ [])
+admits b may xs f views k =
+    (k.0, k.1, k.2, λ seat v at. ⊎_elim (k.3 seat v) (λ (new : [] ≡ v). subst (λ (l : List Entry). IsPrefix l xs) new (xs, refl)) (at_snoc views [] v seat at))
 
 -- what is shown goes from xs to ys, which begins with xs, and one seat sees it
-pub steps : (b : Book) (seat : ℕ) (v xs ys : List Entry) (d f : Reached) → IsPrefix xs ys → f.book ≡ b → f.edition.entries ≡ ys
-    → (views : List (List Entry)) → KeepsViews b xs d views → get_elem? views seat ≡ some v → (w : List Entry) × KeepsViews b ys f (set views seat w) × EntersView b v xs ys f w
-steps b seat v xs ys d f up of is views k at = (
+pub steps : (b : Book) (may : List Entry → Type 0) (seat : ℕ) (v xs ys : List Entry) (d f : Reached) → IsPrefix xs ys → f.book ≡ b → f.edition.entries ≡ ys → may ys
+    → (views : List (List Entry)) → KeepsViews b may xs d views → get_elem? views seat ≡ some v
+    → (w : List Entry) × KeepsViews b may ys f (set views seat w) × EntersView b may v xs ys f w
+steps b may seat v xs ys d f up of is shows views k at = (
   ys,
   (
     of,
     is,
+    shows,
     λ j u there. ⊎_elim (λ (t : (j ≡ seat) × (ys ≡ u)). subst (λ (l : List Entry). IsPrefix l ys) t.1 (prefix_self ys))
-        (λ (t : (j ≢ seat) × (get_elem? views j ≡ some u)). prefix_trans u xs ys (k.2 j u t.1) up) (at_set views seat j ys u there),
+        (λ (t : (j ≢ seat) × (get_elem? views j ≡ some u)). prefix_trans u xs ys (k.3 j u t.1) up) (at_set views seat j ys u there),
   ),
-  (k.2 seat v at, refl, of, is),
+  (k.3 seat v at, refl, of, is, shows),
 )
 
 pub added_append : (cs ds : List Change) → added (cs ++ ds) ≡ added cs ++ added ds

@@ -20,10 +20,10 @@ book_head b = record { tracked = true; key = 0; book = b }
 abbrev pub AddsEdition : Step Edition → View Edition ℕ → ℕ → View Edition ℕ → Type 0
 AddsEdition s v found w = found ≡ s.old → (w.0 ≡ v.0 ++ s.ask ∷ []) × IsLegal w.0
 
--- what is shown is an edition of the board's history, and begins with what each watcher saw
-abbrev pub KeepsViews : Book → List Entry → Reached → List (List Entry) → Type 0
-KeepsViews book entries f views = (f.book ≡ book) × (f.edition.entries ≡ entries) × ((seat : ℕ) (v : List Entry) → get_elem? views seat ≡ some v → IsPrefix v entries)
+-- what is shown is an edition of the board's history and may be shown, and begins with what each watcher saw
+abbrev pub KeepsViews : Book → (may : List Entry → Type 0) → List Entry → Reached → List (List Entry) → Type 0
+KeepsViews book may entries f views = (f.book ≡ book) × (f.edition.entries ≡ entries) × may entries × ((seat : ℕ) (v : List Entry) → get_elem? views seat ≡ some v → IsPrefix v entries)
 
--- what was shown began with the view, and what is shown afterwards is the new view
-abbrev pub EntersView : Book → List Entry → List Entry → List Entry → Reached → List Entry → Type 0
-EntersView book v before after f w = IsPrefix v before × (w ≡ after) × (f.book ≡ book) × (f.edition.entries ≡ after)
+-- what was shown began with the view, and what is shown afterwards is the new view, and may be shown
+abbrev pub EntersView : Book → (may : List Entry → Type 0) → List Entry → List Entry → List Entry → Reached → List Entry → Type 0
+EntersView book may v before after f w = IsPrefix v before × (w ≡ after) × (f.book ≡ book) × (f.edition.entries ≡ after) × may after

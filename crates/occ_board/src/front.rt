@@ -46,15 +46,23 @@ impl Play<Edition, u64> for Add {
     ghost then = { AddsEdition };
 }
 
-/// Which board it is. A function that is generic over it has one board; each call of such a function names another, by `Brand`.
+/// Which board it is, and which lists it may show. A function that is generic over it has one board; each call of such a function
+/// names another, by `Brand`.
 pub trait Naming {
+    ghost use Rattle.std.specs.Prelude.{List};
     ghost use Rattle.logbook.specs.Pages.{Book};
+    ghost use Rattle.occ_term.specs.Runs.{Entry};
 
     ghost book: { Book };
+
+    // Of each list that is shown.
+    ghost may: { List Entry → Type 0 };
 }
 
 impl Naming for Brand {
     ghost book = { record { number = 0; log_name = 0; cells_name = 0 } };
+
+    ghost may = { λ xs. Unit {0} };
 }
 
 /// The stored length of the history, which its publisher has. Contracts see which history it is.
@@ -126,7 +134,7 @@ impl Front {
     }
 
     /// Adds an edition, unless there are more than this front has.
-    pub(crate) fn add<X, M: Plain<X, Edition, u64>>(&self, head: &Head, about: &X) -> Option<Front>
+    pub fn add<X, M: Plain<X, Edition, u64>>(&self, head: &Head, about: &X) -> Option<Front>
         requires head { head.now ≡ self.now.book }
         requires next { Follows self.now.edition (M.ask about.now) × (M.state about.now ≡ None) }
         ensures { IfSome result (λ f. f ≡ reached self.now.book (M.ask about.now)) }

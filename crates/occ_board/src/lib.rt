@@ -9,7 +9,7 @@ mod shown;
 mod trace;
 mod watcher;
 
-pub use front::Naming;
+pub use front::{Front, Head, Naming, open_history};
 pub use publisher::{Board, BoardFault, Opened, Publisher};
 pub use shown::{Edition, Shown};
 pub use watcher::{Note, Watcher};

@@ -5,7 +5,7 @@ ghost use Rattle.left_right.specs.Sides.{view};
 ghost use Rattle.occ_board.specs.declared.publisher.BoardFault.TheVariants.{BadWatchers};
 ghost use Rattle.occ_board.specs.Editions.{blank, edition, reached};
 ghost use Rattle.occ_board.specs.FaultTexts.{fault_text};
-ghost use Rattle.occ_board.specs.Traces.{all_published, publishing, watching, PutsEntry};
+ghost use Rattle.occ_board.specs.Traces.{all_published, held_by, publishing, watching, PutsEntry};
 ghost use Rattle.occ_board.specs.Writers.{held_in, pending_in, published_in, HasReached, ShowsAll};
 
 use crate::front::{Front, Head, Naming, open_history};
@@ -119,7 +119,7 @@ impl<J: Naming> Plain<TraceWriter<J>, Edition, u64> for Last {
 }
 
 impl Board {
-    /// A board that has published nothing, and so many watchers.
+    /// A board that has published nothing, which it may show, and so many watchers.
     ///
     /// # Errors
     ///
@@ -129,7 +129,8 @@ impl Board {
         alloc: Global,
         watchers: u32,
     ) -> Result<(Publisher<J>, Vec<Watcher<J>>), BoardFault>
-        requires { opened ≡ J.book }
+        requires book { opened ≡ J.book }
+        requires may { J.may [] }
         ensures bad { (watchers ≡ 0) ⊎ (8 < watchers) → result ≡ Err BadWatchers }
         ensures good { 0 < watchers → watchers ≤ 8 → result ≢ Err BadWatchers }
         ensures publisher { IfOk result (λ r. r.0 ≡ publishing [] [] false) }
@@ -167,7 +168,8 @@ fn empty_writer<J: Naming>(
     front: &Front,
     readers: usize,
 ) -> Result<TraceWriter<J>, AllocError>
-    requires { (front.now ≡ reached J.book blank) × (0 < readers) × (readers ≤ 8) }
+    requires blank { (front.now ≡ reached J.book blank) × (0 < readers) × (readers ≤ 8) }
+    requires may { J.may [] }
     ensures empty { IfOk result (λ w. published_in w ≡ []) }
     ensures blank { IfOk result (λ w. w.desk.shown.value.front ≡ reached J.book blank) }
     ensures none_behind { IfOk result (λ w. drop w.behind w.log.items ≡ []) }
@@ -225,7 +227,7 @@ fn recorded<J: Naming>(
 
 // Shows all that is pending, as the edition `next`, and says whether it did.
 fn show<J: Naming, R: Wait>(rt: &R, writer: TraceWriter<J>, next: Front) -> (TraceWriter<J>, bool)
-    requires { (next.book ≡ J.book) × (next.edition.entries ≡ held_in writer) }
+    requires { (next.book ≡ J.book) × (next.edition.entries ≡ held_in writer) × J.may (held_in writer) }
     ensures shown { IsTrue result.1 → ShowsAll result.0 next }
     ensures kept { IsFalse result.1 → result.0.desk.shown.value ≡ writer.desk.shown.value }
     ensures pending { IsFalse result.1 → pending_in result.0 ≡ pending_in writer }
@@ -252,6 +254,7 @@ fn exchange<J: Naming, R: Wait>(
 ) -> (TraceWriter<J>, Front, bool)
     requires going { (head.now ≡ J.book) × (front.edition.last ≡ false) }
     requires ahead { HasReached J.book writer front }
+    requires may { J.may (held_in writer) }
     ensures shown { IsTrue result.2
         → (published_in result.0 ≡ held_in writer) × (pending_in result.0 ≡ []) }
     ensures last { IsTrue result.2 → result.1.edition.last ≡ last }
@@ -290,26 +293,28 @@ impl<J: Naming> Publisher<J> {
         Err((shown, AllocError))
     }
 
-    /// Publishes all that is pending. It waits for watchers that still look at the list from before the last call.
+    /// Publishes all that is pending, which the board may show behind what is published. It waits for watchers that still look at the list from before the last call.
     ///
     /// # Errors
     ///
     /// `Refused`; what is published and what is pending stay as they were.
     pub fn publish<R: Wait>(self, rt: &R) -> (Publisher<J>, Result<(), BoardFault>)
-        requires { self.closed ≡ false }
+        requires going { self.closed ≡ false }
+        requires may { J.may (held_by self) }
         ensures { MatchResult result.1 (λ _. result.0 ≡ all_published self false)
             (λ _. result.0 ≡ self) }
     {
         self.put_out(rt, false)
     }
 
-    /// Publishes all that is pending, for the last time; it may be nothing.
+    /// Publishes all that is pending, for the last time; it may be nothing. The board may show it behind what is published.
     ///
     /// # Errors
     ///
     /// `Refused`, as of `publish`. From then on each call of this and of `publish` answers it.
     pub fn close<R: Wait>(self, rt: &R) -> (Publisher<J>, Result<(), BoardFault>)
-        requires { self.closed ≡ false }
+        requires going { self.closed ≡ false }
+        requires may { J.may (held_by self) }
         ensures { MatchResult result.1 (λ _. result.0 ≡ all_published self true)
             (λ _. result.0 ≡ self) }
     {
@@ -317,7 +322,8 @@ impl<J: Naming> Publisher<J> {
     }
 
     fn put_out<R: Wait>(self, rt: &R, last: bool) -> (Publisher<J>, Result<(), BoardFault>)
-        requires { self.closed ≡ false }
+        requires going { self.closed ≡ false }
+        requires may { J.may (held_by self) }
         ensures { MatchResult result.1 (λ _. result.0 ≡ all_published self last)
             (λ _. result.0 ≡ self) }
     {

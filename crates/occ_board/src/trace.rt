@@ -47,7 +47,8 @@ impl Absorb<Change> for Trace {
     }
 }
 
-/// What is shown is as its edition says, which is of the board's history, and it begins with all that each watcher saw.
+/// What is shown is as its edition says, which is of the board's history, and may be shown, and it begins with all that each
+/// watcher saw.
 pub struct Ordered<J> {
     of: PhantomData<J>,
 }
@@ -56,12 +57,12 @@ impl<J: Naming> Protocol<Trace, [Shown; 0]> for Ordered<J> {
     ghost use Rattle.std.specs.Prelude.{[]};
     ghost use Rattle.occ_board.specs.Rules.{KeepsViews};
 
-    ghost holds = { λ x. KeepsViews J.book x.entries.items x.front };
+    ghost holds = { λ x. KeepsViews J.book J.may x.entries.items x.front };
 
     ghost first = { [] };
 }
 
-/// A step after which the view is the list that is shown. It began with the view before.
+/// A step after which the view is the list that is shown, which may be shown. It began with the view before.
 pub struct Sees<J> {
     of: PhantomData<J>,
 }
@@ -69,7 +70,7 @@ pub struct Sees<J> {
 impl<J: Naming> Outcome<Trace, [Shown; 0]> for Sees<J> {
     ghost use Rattle.occ_board.specs.Rules.{EntersView};
 
-    ghost then = { λ v x y w. EntersView J.book v x.entries.items y.entries.items y.front w };
+    ghost then = { λ v x y w. EntersView J.book J.may v x.entries.items y.entries.items y.front w };
 }
 
 pub type TraceWriter<J> = Writer<Trace, Change, [Shown; 0], Ordered<J>>;

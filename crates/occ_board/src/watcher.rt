@@ -1,5 +1,5 @@
 //! Watchers, and the notes that they are told.
-ghost use Rattle.std.specs.Prelude.{◌≡◌, ◌⊎◌, true, MatchResult};
+ghost use Rattle.std.specs.Prelude.{◌≡◌, ◌⊎◌, true, IfOk, MatchResult};
 ghost use Rattle.std.specs.Fn.{FnOnceReturnsAt};
 ghost use mathlib.Core.List.{IsPrefix};
 ghost use Rattle.occ_board.specs.Editions.{Extends};
@@ -50,8 +50,8 @@ impl<J: Naming> Model for Watcher<J> {
 }
 
 impl<J: Naming> Watcher<J> {
-    /// Lends the published list to `f`, and hands on what `f` answers. The list begins with all that this watcher saw before,
-    /// and with all that it was told of.
+    /// Lends the published list to `f`, and hands on what `f` answers. The list is one that the board may show, and begins with
+    /// all that this watcher saw before, and with all that it was told of.
     ///
     /// # Errors
     ///
@@ -66,6 +66,7 @@ impl<J: Naming> Watcher<J> {
         ensures seen { MatchResult result (λ r. SeesOn self r.0) (λ w. IsPrefix self.seen w.seen) }
         ensures known { MatchResult result (λ r. Learns self r.0)
             (λ w. IsPrefix w.seen w.known.entries) }
+        ensures may { IfOk result (λ r. J.may r.0.seen) }
     {
         let Watcher { reader, known } = self;
         let Some(reader) = reader else {

@@ -1,2 +1,4 @@
 mod Growth
 mod Told
+mod OfRuns
+mod OfStepRuns

@@ -17,7 +17,6 @@ use Rattle.occ_term.specs.Runs.{main_ended, still_by, EndsBy, by_fault, by_end, 
 use Rattle.occ_term.specs.StepUses.{IsPartOf, uses_of_left}
 use Rattle.occ_term.specs.Steps.{Do, Left, left, status, is_ended}
 use Rattle.occ_term.specs.System.{Process, process, Processes, no_processes, System, system, start, MayGo}
-use Rattle.occ_term.specs.System as S
 use Rattle.occ_term.specs.TermTyping.{Declared, TermHas}
 use Rattle.occ_term.specs.Terms.{Term}
 use Rattle.occ_term.specs.UnfoldedProgram.{NumberedFrom}
@@ -149,7 +148,7 @@ module _ (d : Declared) (p : Program) (procs : List Numbered) (protocol : d.prot
   -- ---- endings
 
   mutual
-    step_at : {n : ℕ} {own : Left} {ps : Processes} {q : Process} {s : Store} → At n own ps q → CanStep (process n own ps) s → CanStep q s
+    pub step_at : {n : ℕ} {own : Left} {ps : Processes} {q : Process} {s : Store} → At n own ps q → CanStep (process n own ps) s → CanStep q s
     step_at here c = c
     step_at (below x) c = branch_step (step_among x c)
 

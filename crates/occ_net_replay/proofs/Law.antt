@@ -65,10 +65,10 @@ module _ (u : UnfoldedProgram) (p : Program) (quantum : ℕ) (kb : List ℕ) (w 
   pub belongs : (n : ℕ) (t : Term) → slice_get procs n ≡ Some (numbered n t) → Belongs d p procs n
   belongs n t e = let y = does_at d 0 p.bodies procs n (numbered n t) from.bodies e in record { term = t; body = y.body; entry = e; code = y.code; does = y.does }
 
-  main_belongs : Belongs d p procs 0
+  pub main_belongs : Belongs d p procs 0
   main_belongs = belongs 0 (meaning u) refl
 
-  main_term : main_belongs.term ≡ meaning u
+  pub main_term : main_belongs.term ≡ meaning u
   main_term = one_term (sym main_belongs.entry)
 
   pub record AllFollowed (k : ℕ) (net : Net) : Type 0 where
@@ -82,20 +82,23 @@ module _ (u : UnfoldedProgram) (p : Program) (quantum : ℕ) (kb : List ℕ) (w 
     pub output : (c : ℕ) → net.output c ≡ messages_on c net.trace
     pub input : (c : ℕ) → net.input c ≡ messages_on c net.trace
 
-  pub all_followed : (cs : List Choice) (net : Net) (k : ℕ) → k + length cs < 2 ^ 64 → Replays p kb cs net → AllFollowed k net
-  all_followed cs net k small begins =
-      let bound : k < 2 ^ 64 = omega (arith, small) in
+  -- the start
+  abbrev pub first_followed : (k : ℕ) → k < 2 ^ 64 → AllFollowed k (first_net p kb)
+  first_followed k few =
       record {
         events = [];
         now = start (meaning u) kb;
         run = no_turn;
         turns = refl;
         communicates = refl;
-        follows = first_follows d p procs (keyboard_protocol u w) quantum k bound kb (meaning u) bytes refl w.numbers lawful.branches w.typed main_belongs main_term;
+        follows = first_follows d p procs (keyboard_protocol u w) quantum k few kb (meaning u) bytes refl w.numbers lawful.branches w.typed main_belongs main_term;
         fits = tt;
         output = λ c. refl;
         input = λ c. refl;
       }
+
+  pub all_followed : (cs : List Choice) (net : Net) (k : ℕ) → k + length cs < 2 ^ 64 → Replays p kb cs net → AllFollowed k net
+  all_followed cs net k small begins = first_followed k (omega (arith, small))
   all_followed cs net k small (replays_on {cs = ds} {c = c} {a = a} r e o) =
       let bound : suc k + length ds < 2 ^ 64 = for_one_more k ds c small in
       let before = all_followed ds a (suc k) bound r in
@@ -112,7 +115,7 @@ module _ (u : UnfoldedProgram) (p : Program) (quantum : ℕ) (kb : List ℕ) (w 
         input = λ i. x.input i ∙ ap (λ l. l ++ messages_on i (listed x.met)) (before.input i) ∙ sym (on-append i a.trace (listed x.met)) ∙ ap (messages_on i) (sym x.trace);
       }
 
-  abbrev followed_by : (k : ℕ) (net : Net) → AllFollowed k net → Followed u kb quantum p.errors net
+  abbrev pub followed_by : (k : ℕ) (net : Net) → AllFollowed k net → Followed u kb quantum p.errors net
   followed_by k net x =
       record { events = x.events; system = x.now; run = x.run; turns = x.turns; communicates = x.communicates; output = x.output; input = x.input; fits = λ c. fit_on d.protocols c net.trace x.fits; noted = ap noted_in x.follows.is ∙ x.follows.faults; ends = ends_as d p procs (keyboard_protocol u w) quantum k net x.now x.follows }
 
@@ -125,7 +128,7 @@ module _ (u : UnfoldedProgram) (p : Program) (quantum : ℕ) (kb : List ℕ) (w 
   shared : (cs : List Choice) (net : Net) → length cs < 2 ^ 64 → Replays p kb cs net → (f : Followed u kb quantum p.errors net) × SharesStore p net f.system
   shared cs net small r = let x = from_start cs net small r in (followed_by 0 net x, shares_store d p procs (keyboard_protocol u w) quantum belongs 0 net x.now x.follows)
 
-  is_moment : (k : ℕ) (net : Net) (x : AllFollowed k net) → IsMoment p net x.now
+  pub is_moment : (k : ℕ) (net : Net) (x : AllFollowed k net) → IsMoment p net x.now
   is_moment k net x =
       record {
         alike = subst (λ z. StandAlike net.tasks (main_process z)) (sym x.follows.is) (stand_alike d p procs k net.tasks x.follows.proc x.follows.store x.follows.state);

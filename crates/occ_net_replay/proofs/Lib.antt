@@ -11,6 +11,8 @@ pub mod Quiet
 mod States
 mod Meeting
 mod Still
+mod Sending
+mod Joinable
 mod TakingTurns
 mod Forks
 mod Merging
@@ -23,6 +25,7 @@ pub mod Settling
 mod Beginning
 mod Sharing
 mod Whole
+mod Turned
 pub mod Examples
 mod Moments
 pub mod Law
@@ -36,3 +39,14 @@ pub mod Choosing
 pub mod Earlier
 pub mod TwoTurns
 pub mod OneRun
+pub mod Converse
+mod Trees
+mod Parts
+mod Lagging
+mod Ahead
+mod Simulating
+mod Arriving
+mod Communicating
+mod Pairing
+mod Resting
+pub mod Stepping

@@ -92,6 +92,24 @@ module _ (d : Declared) (Go : Task → Left → Type 0) (t : Task) (k : List Con
       let at = same_at (ready_arms arms) (ready_enabled es) (if pri then 0 else pick % length (ready_arms arms)) a same q in
       record { enabled = at.enabled; is = ap (λ n. slice_get (ready_enabled es) (if pri then 0 else pick % n)) (sym (as_many (ready_arms arms) (ready_enabled es) same)) ∙ at.is; same = at.same }
 
+  pub record ArmAt (x : Option Arm) (e : Enabled) : Type 0 where
+    pub arm : Arm
+    pub is : x ≡ Some arm
+    pub same : SameArm d Go t k arm e
+
+  arm_at : (arms : List Arm) (es : List Enabled) (i : ℕ) (e : Enabled) → SameArms d Go t k arms es → slice_get es i ≡ Some e → ArmAt (slice_get arms i) e
+  arm_at arms [] i e h q = absurd cc
+  arm_at [] (x ∷ es) i e h q = absurd h
+  arm_at (a ∷ arms) (x ∷ es) zero e h q = let y : x ≡ e = cc in record { arm = a; is = refl; same = subst (λ z. SameArm d Go t k a z) y h.0 }
+  arm_at (a ∷ arms) (x ∷ es) (suc i) e h q = arm_at arms es i e h.1 q
+
+  -- the arm that the rule chooses for the process is one that it chooses for the task
+  pub chosen_back : (pri : Bool) (pick : ℕ) (arms : List Arm) (es : List Enabled) (e : Enabled) → SameArms d Go t k arms es → chosen pri pick offers es ≡ Some e → ArmAt (arm_chosen pri pick offers arms) e
+  chosen_back pri pick arms es e h q =
+      let same = both_ready arms es h in
+      let at = arm_at (ready_arms arms) (ready_enabled es) (if pri then 0 else pick % length (ready_enabled es)) e same q in
+      record { arm = at.arm; is = ap (λ n. slice_get (ready_arms arms) (if pri then 0 else pick % n)) (as_many (ready_arms arms) (ready_enabled es) same) ∙ at.is; same = at.same }
+
   none_there : (arms : List Arm) (es : List Enabled) → SameArms d Go t k arms es → arms ≡ [] → es ≡ []
   none_there [] [] h e = refl
   none_there [] (x ∷ es) h e = absurd h
@@ -137,7 +155,7 @@ enabled_placed p lo hi (x ∷ es) e (suc i) q h = enabled_placed p lo hi es e i 
 -- ---- offers of the system
 
 mutual
-  at_offers : {n : ℕ} {own : Left} {ps : Processes} {q : Process} → (c : ℕ) → At n own ps q → IsTrue (offers_at (status own) c) → IsTrue (offers_in q c)
+  pub at_offers : {n : ℕ} {own : Left} {ps : Processes} {q : Process} → (c : ℕ) → At n own ps q → IsTrue (offers_at (status own) c) → IsTrue (offers_in q c)
   at_offers {own = own} {ps = ps} c here h = or_first (offers_at (status own) c) (offers_all ps c) h
   at_offers c (below {a = a} {qs = qs} x) h = or_second (offers_at (status a) c) (offers_all qs c) (among_offers c x h)
 
@@ -145,7 +163,7 @@ mutual
   among_offers c (first {p = p} {qs = qs} x) h = or_first (offers_in p c) (offers_all qs c) (at_offers c x h)
   among_offers c (later {p = p} {qs = qs} x) h = or_second (offers_in p c) (offers_all qs c) (among_offers c x h)
 
-record OffersIn (q : Process) (c : ℕ) : Type 0 where
+pub record OffersIn (q : Process) (c : ℕ) : Type 0 where
   pub number : ℕ
   pub own : Left
   pub branches : Processes
@@ -168,7 +186,7 @@ either_one q qs c (inl x) f g = let y = f x in record { number = y.number; own =
 either_one q qs c (inr x) f g = let y = g x in record { number = y.number; own = y.own; branches = y.branches; at = later y.at; offers = y.offers }
 
 mutual
-  offers_from : (q : Process) (c : ℕ) → IsTrue (offers_in q c) → OffersIn q c
+  pub offers_from : (q : Process) (c : ℕ) → IsTrue (offers_in q c) → OffersIn q c
   offers_from (process n own ps) c h = either_way n own ps c (or_else (offers_at (status own) c) (offers_all ps c) h) (λ k. offers_from_all ps c k)
 
   offers_from_all : (qs : Processes) (c : ℕ) → IsTrue (offers_all qs c) → OffersAll qs c
@@ -304,12 +322,12 @@ module _ (d : Declared) (p : Program) (procs : List Numbered) where
 
     -- ---- an arm is chosen
 
-    record Picked (standing : ℕ → Bool) (pri : Bool) (pick : ℕ) (es : List Enabled) (e : Enabled) (lo hi : ℕ) (u : Uses) : Type 0 where
+    pub record Picked (standing : ℕ → Bool) (pri : Bool) (pick : ℕ) (es : List Enabled) (e : Enabled) (lo hi : ℕ) (u : Uses) : Type 0 where
       pub typed : EnabledHave d es → EnabledHas d e
       pub placed : AllEnabledPlaced procs lo hi es → EnabledPlaced procs lo hi e
       pub uses : IsPartOf (uses_of_all es) u → IsPartOf (uses_of_enabled e) u
 
-    picked : (standing : ℕ → Bool) (pri : Bool) (pick : ℕ) (es : List Enabled) (e : Enabled) (lo hi : ℕ) (u : Uses) → chosen pri pick standing es ≡ Some e → Picked standing pri pick es e lo hi u
+    pub picked : (standing : ℕ → Bool) (pri : Bool) (pick : ℕ) (es : List Enabled) (e : Enabled) (lo hi : ℕ) (u : Uses) → chosen pri pick standing es ≡ Some e → Picked standing pri pick es e lo hi u
     picked standing pri pick es e lo hi u q =
         let r = ready_is_one standing es (if pri then 0 else pick % length (ready_among waits_for standing es)) e q in
         record { typed = enabled_typed d es e r.place r.is; placed = enabled_placed procs lo hi es e r.place r.is; uses = enabled_part es e r.place u r.is }

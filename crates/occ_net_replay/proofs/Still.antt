@@ -197,6 +197,18 @@ module _ (d : Declared) (p : Program) (procs : List Numbered) where
     meets_nobody (by_message part m) = no_meeting m
     meets_nobody (by_skip m) = no_skip m
 
+    -- branches that have all ended are done
+    pub all_done : (bs : Branches) (ps : Processes) → SameNumbers bs ps → AllHold d p procs k s net.tasks ps → AllEnded ps → AreDone net.tasks (numbers_of bs)
+    all_done no_branches no_processes m h e = tt
+    all_done no_branches (and_process q qs) m h e = absurd m
+    all_done (and_branch i b bs) no_processes m h e = absurd m
+    all_done (and_branch i b bs) (and_process (process j own no_processes) ps) m h e =
+        let o = h.0.0 in (
+          subst (λ z. IsTrue (done_at net.tasks z)) m.0 (done_has net.tasks j o.task o.has_task (ended_done d p procs k o.belongs.body o.task own no_processes o.but o.stands e.0)),
+          all_done bs ps m.1 h.1 e.1,
+        )
+    all_done (and_branch i b bs) (and_process (process j own (and_process q qs)) ps) m h e = absurd e
+
     -- ---- no private step
 
     module _ (none : (i : ℕ) (t : Task) → HasTask net.tasks i t → IsTrue (may_go t.wait) → ⊥) where
@@ -210,17 +222,6 @@ module _ (d : Declared) (p : Program) (procs : List Numbered) where
       no_step n body t own ps but h (is_halted w) (faults f) = elim f [ ]
       no_step n body t own ps but h (has_failed w) (faults f) = elim f [ ]
       no_step n body t own ps but h (has_ended w) (faults f) = elim f [ ]
-
-      pub all_done : (bs : Branches) (ps : Processes) → SameNumbers bs ps → AllHold d p procs k s net.tasks ps → AllEnded ps → AreDone net.tasks (numbers_of bs)
-      all_done no_branches no_processes m h e = tt
-      all_done no_branches (and_process q qs) m h e = absurd m
-      all_done (and_branch i b bs) no_processes m h e = absurd m
-      all_done (and_branch i b bs) (and_process (process j own no_processes) ps) m h e =
-          let o = h.0.0 in (
-            subst (λ z. IsTrue (done_at net.tasks z)) m.0 (done_has net.tasks j o.task o.has_task (ended_done d p procs k o.belongs.body o.task own no_processes o.but o.stands e.0)),
-            all_done bs ps m.1 h.1 e.1,
-          )
-      all_done (and_branch i b bs) (and_process (process j own (and_process q qs)) ps) m h e = absurd e
 
       no_join : (n : ℕ) (body : Body) (t : Task) (bs : Branches) (j : List Context) (ps : Processes) (but : Numbers) → HasTask net.tasks n t → Stands d p procs k body t (left (Forking bs) j) ps but → AllHold d p procs k s net.tasks ps → AllEnded ps → ⊥
       no_join n body t bs j ps but h (may_turn g x a) all e = none n t h g

@@ -68,6 +68,25 @@ ready_at from (t ∷ ts) i n e = by t (goes t) refl i e (λ j f. ready_step from
     by t true g (suc i) e r = r i e
     by t false g i e r = r i e
 
+pub record ReadyPlace (n : ℕ) (ready : List ℕ) : Type 0 where
+  pub place : ℕ
+  pub is : slice_get ready place ≡ Some n
+
+-- a task that may go is one of those that are ready
+pub ready_place : (from : ℕ) (tasks : Tasks) (n : ℕ) (t : Task) → HasTask tasks n t → IsTrue (may_go t.wait) → ReadyPlace (from + n) (ready_from from tasks)
+ready_place from [] n t h g = absurd cc
+ready_place from (x ∷ ts) zero t h g =
+    let same : x ≡ Some t = cc in
+    let number : from ≡ from + zero = omega arith in
+    subst (λ b. ReadyPlace (from + zero) (if b then from ∷ ready_from (from + 1) ts else ready_from (from + 1) ts)) (sym (ap goes same ∙ g)) (record { place = 0; is = ap Some number })
+ready_place from (x ∷ ts) (suc n) t h g =
+    let number : from + 1 + n ≡ from + suc n = omega arith in
+    by (goes x) (subst (λ i. ReadyPlace i (ready_from (from + 1) ts)) number (ready_place (from + 1) ts n t h g))
+  where
+    by : (b : Bool) → ReadyPlace (from + suc n) (ready_from (from + 1) ts) → ReadyPlace (from + suc n) (if b then from ∷ ready_from (from + 1) ts else ready_from (from + 1) ts)
+    by true r = record { place = suc r.place; is = r.is }
+    by false r = r
+
 -- where nobody is ready, no task may go
 pub none_ready : (from : ℕ) (tasks : Tasks) → ready_from from tasks ≡ [] → (i : ℕ) (t : Task) → HasTask tasks i t → IsTrue (may_go t.wait) → ⊥
 none_ready from [] e i t h g = absurd cc

@@ -27,13 +27,13 @@ pub record Kept (d : Declared) (a b : Left) (s s' : Store) : Type 0 where
   pub only : ChangesOnly (uses_of_left a).writes s s'
 
 module _ (d : Declared) where
-  step_kept : {a b : Left} {s s' : Store} → Step a s b s' → LeftHas d a → StoreHas d s → Kept d a b s s'
+  pub step_kept : {a b : Left} {s s' : Store} → Step a s b s' → LeftHas d a → StoreHas d s → Kept d a b s s'
   step_kept {a = a} {b = b} {s = s} {s' = s'} x h k =
       let y = steps_keep_types d a b s s' h k x in
       let z = steps_keep_to_their_use d a b s s' h x in
       record { typed = y.0; typed_store = y.1; uses = z.0; only = z.1 }
 
-  kept_again : {a b c : Left} {s s' s'' : Store} → Kept d a b s s' → Kept d b c s' s'' → Kept d a c s s''
+  pub kept_again : {a b c : Left} {s s' s'' : Store} → Kept d a b s s' → Kept d b c s' s'' → Kept d a c s s''
   kept_again {a = a} {b = b} {c = c} x y =
       record {
         typed = y.typed;
@@ -42,11 +42,11 @@ module _ (d : Declared) where
         only = λ n h. y.only n (λ m. h (x.uses.writes n m)) ∙ x.only n h;
       }
 
-  steps_kept : {a b : Left} {s s' : Store} → Steps a s b s' → LeftHas d a → StoreHas d s → Kept d a b s s'
+  pub steps_kept : {a b : Left} {s s' : Store} → Steps a s b s' → LeftHas d a → StoreHas d s → Kept d a b s s'
   steps_kept {a = a} none h k = record { typed = h; typed_store = k; uses = whole_part (uses_of_left a); only = λ n m. refl }
   steps_kept (more x r xs) h k = let y = step_kept x h k in kept_again y (steps_kept xs y.typed y.typed_store)
 
-  single_kept : {a b : Left} {s s' : Store} → SingleTurn a s b s' → LeftHas d a → StoreHas d s → Kept d a b s s'
+  pub single_kept : {a b : Left} {s s' : Store} → SingleTurn a s b s' → LeftHas d a → StoreHas d s → Kept d a b s s'
   single_kept (single_turn xs x r) h k = let y = steps_kept xs h k in kept_again y (step_kept x y.typed y.typed_store)
 
   pub turn_kept : {q : ℕ} {a b : Left} {s s' : Store} → Turn q a s b s' → LeftHas d a → StoreHas d s → Kept d a b s s'

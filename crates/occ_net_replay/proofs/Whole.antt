@@ -59,20 +59,17 @@ all_at P xs i x h e = subst P (get_or_from_slice_get xs i x x e) (h i x (slice_g
 module _ (d : Declared) (p : Program) (procs : List Numbered) (protocol : d.protocols 0 ≡ Some (Simple [] Byte)) (quantum : ℕ) (same_quantum : All (λ b. b.quantum ≡ quantum) p.bodies) (belongs_at : (n : ℕ) (t : Term) → slice_get procs n ≡ Some (numbered n t) → Belongs d p procs n) where
   -- ---- a turn
 
-  module _ (k n pick : ℕ) (net : Net) (sys : System) (f : Follows d p procs protocol quantum (suc k) net sys) (going : MayGo p.errors net.noted) (before after : Task) (there : HasTask net.tasks n before) (may : IsTrue (may_go before.wait)) (body : Body) (has_body : slice_get p.bodies n ≡ Some body) (stop : Stopping body before after) where
-    l : Live d p procs (suc k) net.tasks f.proc f.store n before
-    l = live_at d p procs (suc k) net.tasks f.proc f.store n before f.state there (joins_ready before.wait may)
-
-    its_quantum : l.mine.belongs.body.quantum ≡ quantum
+  module _ (k n pick : ℕ) (net : Net) (sys : System) (f : Follows d p procs protocol quantum (suc k) net sys) (going : MayGo p.errors net.noted) (before after : Task) (there : HasTask net.tasks n before) (may : IsTrue (may_go before.wait)) (body : Body) (has_body : slice_get p.bodies n ≡ Some body) (stop : Stopping body before after) (l : Live d p procs (suc k) net.tasks f.proc f.store n before) where
+    pub its_quantum : l.mine.belongs.body.quantum ≡ quantum
     its_quantum = all_at (λ b. b.quantum ≡ quantum) p.bodies n l.mine.belongs.body same_quantum l.mine.belongs.code
 
-    its_stop : Stopping l.mine.belongs.body before after
+    pub its_stop : Stopping l.mine.belongs.body before after
     its_stop = subst (λ b. Stopping b before after) (one_body (sym has_body ∙ l.mine.belongs.code)) stop
 
-    r : Ran d p procs k quantum n net.tasks l.mine.belongs.body l.mine.belongs.term l.own l.branches f.store after
+    pub r : Ran d p procs k quantum n net.tasks l.mine.belongs.body l.mine.belongs.term l.own l.branches f.store after
     r = ran d p procs k quantum n net.tasks f.proc f.store f.state l.own l.branches l.at l.mine l.all before after l.same there may its_quantum its_stop
 
-    system_turns : SystemTurn p.errors quantum n sys (system net.keyboard (put l.at r.rest (begun (status r.rest))) r.store (net.noted ++ fault_noted (status r.rest)))
+    pub system_turns : SystemTurn p.errors quantum n sys (system net.keyboard (put l.at r.rest (begun (status r.rest))) r.store (net.noted ++ fault_noted (status r.rest)))
     system_turns =
         subst (λ x. SystemTurn p.errors quantum n x (system net.keyboard (put l.at r.rest (begun (status r.rest))) r.store (net.noted ++ fault_noted (status r.rest)))) (sym f.is)
         (subst (λ ns. SystemTurn p.errors quantum n (system net.keyboard f.proc f.store f.noted) (system net.keyboard (put l.at r.rest (begun (status r.rest))) r.store (ns ++ fault_noted (status r.rest)))) f.faults
@@ -87,7 +84,7 @@ module _ (d : Declared) (p : Program) (procs : List Numbered) (protocol : d.prot
       abbrev new : Net
       new = record now { tasks = with_branches p.bodies after.frame ns now.tasks }
 
-      st : State d p procs k new.tasks (put l.at (left (Forking bs) j) (branches_of bs)) r.store
+      pub st : State d p procs k new.tasks (put l.at (left (Forking bs) j) (branches_of bs)) r.store
       st = forked d p procs belongs_at k quantum n net.tasks f.proc f.store f.state l.own l.branches l.at l.mine l.all before after l.same there may its_quantum its_stop r bs j is ns w numbers go
 
       its_place : LeftPlaced procs (n + 1) (n + 1 + size l.mine.belongs.term) (left (Forking bs) j)
@@ -154,7 +151,7 @@ module _ (d : Declared) (p : Program) (procs : List Numbered) (protocol : d.prot
           by (inl e) = let same : t ≡ after = its_task t (subst (λ z. HasTask new.tasks z t) e h) in let q : ms ≡ ns = (let u : W.Joins ms ≡ W.Joins ns = sym v ∙ ap (λ z. z.wait) same ∙ w in cc) in not_all (subst (AreDone new.tasks) q all)
           by (inr e) = f.quiet.unjoined i t ms (other i t (was_there i t h (still_not v refl)) e) v (done_map net.tasks new.tasks ms before_done all)
 
-      fork_quiet : Quiet new
+      pub fork_quiet : Quiet new
       fork_quiet = quiet_again net new n f.quiet (λ i t h g e. other i t (was_there i t h g) e) (λ c h. h) (λ t h. ap (λ z. is_calm z.wait) (its_task t h) ∙ ap is_calm w) fork_unjoined
 
       next_forked : Next d p procs protocol quantum k n net new sys
@@ -205,19 +202,19 @@ module _ (d : Declared) (p : Program) (procs : List Numbered) (protocol : d.prot
       by going may
     where
       by : (going : MayGo p.errors net.noted) → (may : IsTrue (may_go o.before.wait)) → Next d p procs protocol quantum k o.number net next sys
-      by going may = arriving (r k o.number c.pick net sys f going o.before o.after o.has_task may o.body o.has_body o.stops).rest refl (arrives d p procs k m.belongs.body o.after (r k o.number c.pick net sys f going o.before o.after o.has_task may o.body o.has_body o.stops).rest o.after.wait refl (r k o.number c.pick net sys f going o.before o.after o.has_task may o.body o.has_body o.stops).same)
+      by going may = arriving (r k o.number c.pick net sys f going o.before o.after o.has_task may o.body o.has_body o.stops live).rest refl (arrives d p procs k m.belongs.body o.after (r k o.number c.pick net sys f going o.before o.after o.has_task may o.body o.has_body o.stops live).rest o.after.wait refl (r k o.number c.pick net sys f going o.before o.after o.has_task may o.body o.has_body o.stops live).same)
         where
           live : Live d p procs (suc k) net.tasks f.proc f.store o.number o.before
-          live = l k o.number c.pick net sys f going o.before o.after o.has_task may o.body o.has_body o.stops
+          live = live_at d p procs (suc k) net.tasks f.proc f.store o.number o.before f.state o.has_task (joins_ready o.before.wait may)
 
           m : Own d p procs (suc k) f.store net.tasks o.number live.own live.branches
           m = live.mine
 
           its : Ran d p procs k quantum o.number net.tasks m.belongs.body m.belongs.term live.own live.branches f.store o.after
-          its = r k o.number c.pick net sys f going o.before o.after o.has_task may o.body o.has_body o.stops
+          its = r k o.number c.pick net sys f going o.before o.after o.has_task may o.body o.has_body o.stops live
 
           turns_to : SystemTurn p.errors quantum o.number sys (system net.keyboard (put live.at its.rest (begun (status its.rest))) its.store (net.noted ++ fault_noted (status its.rest)))
-          turns_to = system_turns k o.number c.pick net sys f going o.before o.after o.has_task may o.body o.has_body o.stops
+          turns_to = system_turns k o.number c.pick net sys f going o.before o.after o.has_task may o.body o.has_body o.stops live
 
           no_fork : (rest : Left) → its.rest ≡ rest → Stands d p procs k m.belongs.body o.after rest no_processes empty_set → (ns : List ℕ) → o.after.wait ≡ W.Joins ns → ⊥
           no_fork rest e' stands ns w = some_not x.branches x.same (subst (LeftPlaced procs (o.number + 1) (o.number + 1 + size m.belongs.term)) (e' ∙ x.own_is) its.placed).0.1
@@ -233,9 +230,9 @@ module _ (d : Declared) (p : Program) (procs : List Numbered) (protocol : d.prot
           arriving rest e' (arrived q stands) =
               let here_stands : Stands d p procs k m.belongs.body o.after its.rest no_processes empty_set = subst (λ z. Stands d p procs k m.belongs.body o.after z no_processes empty_set) (sym e') stands in
               let none : begun (status its.rest) ≡ no_processes = ap (λ z. begun (status z)) e' ∙ q in
-              let st = turned d p procs k quantum o.number net.tasks f.proc f.store f.state live.own live.branches live.at m live.all o.before o.after live.same o.has_task may (its_quantum k o.number c.pick net sys f going o.before o.after o.has_task may o.body o.has_body o.stops) (its_stop k o.number c.pick net sys f going o.before o.after o.has_task may o.body o.has_body o.stops) its here_stands in
+              let st = turned d p procs k quantum o.number net.tasks f.proc f.store f.state live.own live.branches live.at m live.all o.before o.after live.same o.has_task may (its_quantum k o.number c.pick net sys f going o.before o.after o.has_task may o.body o.has_body o.stops live) (its_stop k o.number c.pick net sys f going o.before o.after o.has_task may o.body o.has_body o.stops live) its here_stands in
               settle_next d p procs protocol quantum k o.number c.pick net sys o.before o.after (put live.at its.rest no_processes) its.store (net.noted ++ fault_noted (status its.rest)) o.has_task f.quiet going f.bytes
               (subst (λ z. SystemTurn p.errors quantum o.number sys (system net.keyboard (put live.at its.rest z) its.store (net.noted ++ fault_noted (status its.rest)))) none turns_to)
               (ap (λ z. net.noted ++ z) (stands_noted d p procs k m.belongs.body o.after its.rest no_processes empty_set here_stands)) st o.settles (no_fork rest e' stands)
           arriving rest e' (at_fork {ns = ns} {bs = bs} {j = j} w numbers go) =
-              fork_next k o.number c.pick net sys f going o.before o.after o.has_task may o.body o.has_body o.stops bs j e' ns w numbers go o.settles
+              fork_next k o.number c.pick net sys f going o.before o.after o.has_task may o.body o.has_body o.stops live bs j e' ns w numbers go o.settles

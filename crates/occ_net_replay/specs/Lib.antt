@@ -7,3 +7,5 @@ pub mod OneReplay
 pub mod Moments
 pub mod MomentExamples
 pub mod Choosing
+pub mod Converse
+pub mod StepConverse

@@ -2,6 +2,8 @@
 
 ghost use Rattle.occ_term.specs.Priority.{PriorityTakesFirst};
 ghost use Rattle.occ_machine.specs.declared.task.Arm.{Arm};
+ghost use Rattle.occ_net_replay.specs.Converse.{EndedRunsAreReplays, RunsAreAsShort, RunsAreReplays};
+ghost use Rattle.occ_net_replay.specs.StepConverse.{EndedStepRunsAreRuns, StepRunsAreRuns};
 ghost use Rattle.occ_net_replay.specs.Choosing.{ChoicesTakeReadyArms, OffersReachChoices};
 ghost use Rattle.occ_net_replay.specs.Examples.{ChoiceRows, ClosedRows, EndingRows, ForkRows, LateOfferRows, ListenRows, MeetingRows, NotedRows, FirstWithPriority, SkipRows, StopRows, TurnRows};
 ghost use Rattle.occ_net_replay.specs.Following.{NotedNeverEnd, OneNeverForks, ReadyTasksStop, ReplaysAreRuns};
@@ -133,6 +135,22 @@ pub fn one_run_for_all()
     ensures { OneRunForAll }
 {}
 
+/// Each run of the program is that of some choices: their replay has its turns, its communications, its
+/// faults and its ending, and comes to its very system.
+pub fn runs_are_replays()
+    ensures { RunsAreReplays }
+{}
+
+/// Where a run has come to an ending, some list of choices comes to it too, with the run's communications.
+pub fn ended_runs_are_replays()
+    ensures { EndedRunsAreReplays }
+{}
+
+/// Where no replay has more turns than so many, no run of the program has.
+pub fn runs_are_as_short()
+    ensures { RunsAreAsShort }
+{}
+
 /// A process that a choice may select goes on in the run.
 pub fn ready_go_on()
     ensures { ReadyGoOn }
@@ -157,4 +175,16 @@ pub fn turns_hear_no_screen()
 /// Where the main process may take a turn, nobody else may.
 pub fn main_turns_alone()
     ensures { MainTurnsAlone }
+{}
+
+/// In whatever order its steps are taken, a program has the communications of some run by turns, and so of
+/// the replay of some choices.
+pub fn step_runs_are_runs()
+    ensures { StepRunsAreRuns }
+{}
+
+/// Where a program has come to an ending, in whatever order its steps were taken, some run by turns and the
+/// replay of some choices have come to it, with the same communications.
+pub fn ended_step_runs_are_runs()
+    ensures { EndedStepRunsAreRuns }
 {}

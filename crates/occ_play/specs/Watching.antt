@@ -7,12 +7,14 @@ use Rattle.occ_machine.specs.Compiled.{Program}
 use Rattle.occ_net_replay.specs.declared.choice.Choice.{Choice}
 use Rattle.occ_net_tables.specs.declared.running.Outcome.{Outcome}
 use Rattle.occ_net_tables.specs.Outcomes.{IsOutcome}
-use Rattle.occ_shown.specs.Answers.{names_of}
+use Rattle.occ_shown.specs.Answers.{entries_in, names_of}
+use Rattle.occ_term.specs.declared.communication.Communication.{Communication}
 use Rattle.occ_shown.specs.declared.counted.Counted.{Counted}
 use Rattle.occ_play.specs.declared.playing.Options.{Options}
 use Rattle.occ_play.specs.declared.playing.Played.{Played}
 use Rattle.occ_play.specs.declared.fault.PlayFault.{PlayFault}
-use Rattle.occ_play.specs.Playing.{AfterFault, IsAnswer, Refuses, Wrote}
+use Rattle.occ_play.specs.Playing.{AfterFault, IsAnswer, IsTextsCode, Refuses, Wrote}
+use Rattle.occ_run.specs.Telling.{IsTraceOf, MayTell}
 use Rattle.occ_play.specs.Working.{IsAnswerWithin}
 
 -- An answer by workers. The board is closed, and has published what its publisher held before and then the trace of the run that
@@ -25,6 +27,17 @@ pub record IsWatched (options : Options) (source keyboard : List ℕ) (limit : �
 abbrev pub PlaysWatched : {W N : Type 0} → (W → Option (List ℕ)) → Options → (source keyboard : List ℕ) → ℕ → Bool → Publishing → (old new : Counted W) → Played × Publishing × N → Type 0
 PlaysWatched contents options source keyboard limit trace publisher old new r =
     Wrote contents (IsWatched options source keyboard limit trace (held_by publisher) r.1 r.0) old new
+
+-- what was held may be shown, and behind it the communications of each replay of the text's code on this keyboard, of no more choices
+-- than the limit
+abbrev pub MayTellText : (may : List Entry → Type 0) → Options → (source keyboard : List ℕ) → (limit : ℕ) → (held : List Entry) → Type 0
+MayTellText may options source keyboard limit held = (p : Program) → IsTextsCode options source p → MayTell may p keyboard limit held
+
+-- What a board may show of a text that has held nothing: nothing, or the communications of such a replay. A board with this `may` meets
+-- `MayTellText` with nothing held.
+pub data IsTextsTrace (options : Options) (source keyboard : List ℕ) (limit : ℕ) : List Entry → Type 0 where
+  nothing_yet : IsTextsTrace options source keyboard limit []
+  of_replay : {p : Program} {xs : List Communication} → IsTextsCode options source p → IsTraceOf p keyboard limit xs → IsTextsTrace options source keyboard limit (entries_in p.channels xs)
 
 -- ---- private contracts alone cite what follows
 

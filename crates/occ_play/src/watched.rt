@@ -1,10 +1,11 @@
 //! Plays a program by several threads, at whose communications others look meanwhile.
 ghost use Rattle.std.specs.Prelude.{◌≡◌, ◌<◌, ◌-◌, ◌^◌, false, true, IfOk};
 ghost use Rattle.occ_board.specs.Editions.{edition};
+ghost use Rattle.occ_board.specs.Traces.{held_by};
 ghost use Rattle.occ_shown.specs.Counting.{failures_of};
 ghost use Rattle.occ_choices.specs.Crews.{IsCrew};
 ghost use Rattle.occ_play.specs.Playing.{Ran};
-ghost use Rattle.occ_play.specs.Watching.{ToldPlay, UntoldPlay, WatchedPlay};
+ghost use Rattle.occ_play.specs.Watching.{MayTellText, ToldPlay, UntoldPlay, WatchedPlay};
 ghost use Rattle.occ_play.specs.Working.{FaultBy};
 
 use crate::fault::PlayFault;
@@ -21,7 +22,8 @@ use std::thread::Threads;
 
 /// Plays a program as `play_workers_in` does, and publishes its communications while it runs. In the end the publisher has
 /// published what it held at the call, published and pending, and then the run's trace, and its board is closed; the note is of
-/// all that. Watchers may look until the publisher is ended.
+/// all that. Watchers may look until the publisher is ended; what they are shown meanwhile is what was held, and behind it the
+/// communications of a replay of the program's code.
 ///
 /// # Errors
 ///
@@ -41,6 +43,7 @@ pub fn play_watched<J: Naming, R: Threads + Wait + Sync, G: Gate + Sync, W: Writ
 ) -> Result<(Played, Publisher<J>, Note<J>), PlayFault>
     requires room { failures_of out.old < 2 ^ 64 - 1 }
     requires going { publisher.closed ≡ false }
+    requires may { MayTellText J.may options.now source.now keyboard.now limit (held_by publisher) }
     ensures played { WatchedPlay result W.contents options.now source.now keyboard.now limit trace publisher
         out.old out.new }
     ensures note { IfOk result (λ r. r.2 ≡ edition r.1.published true) }

@@ -89,12 +89,12 @@ module _ (u : UnfoldedProgram) (p : Program) (quantum : ℕ) (kb : List ℕ) (cs
 -- ---- of a network
 
 -- where a replay came from
-record Came (p : Program) (kb : List ℕ) (cs : List Choice) (c : Choice) (net : Net) : Type 0 where
+pub record Came (p : Program) (kb : List ℕ) (cs : List Choice) (c : Choice) (net : Net) : Type 0 where
   pub from : Net
   pub replays : Replays p kb cs from
   pub turn : OneTurn p c from net
 
-came : (p : Program) (kb : List ℕ) (all cs : List Choice) (c : Choice) (net : Net) → Replays p kb all net → all ≡ cs ++ c ∷ [] → Came p kb cs c net
+pub came : (p : Program) (kb : List ℕ) (all cs : List Choice) (c : Choice) (net : Net) → Replays p kb all net → all ≡ cs ++ c ∷ [] → Came p kb cs c net
 came p kb all cs c net begins e = absurd (none cs e)
   where
     none : (xs : List Choice) → [] ≡ xs ++ c ∷ [] → ⊥

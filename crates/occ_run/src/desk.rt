@@ -1,21 +1,26 @@
 //! What lies under the lock: how far the workers have come, beside the token that knows which turns are out. So a turn that comes
 //! back is the network's own.
-ghost use Rattle.std.specs.Prelude.{◌≡◌, IfSome, None};
+ghost use Rattle.std.specs.Prelude.{◌≡◌, IfOk, IfSome, None};
 ghost use Rattle.crossbeam_utils.specs.Seq.{cell_view};
 ghost use Rattle.occ_net.specs.Networks.{fresh};
 ghost use Rattle.occ_run.specs.Held.{IsConcluded};
 ghost use Rattle.occ_run.specs.Steps.{IsWake, first_stop};
+ghost use Rattle.occ_board.specs.Editions.{blank, reached};
+ghost use Rattle.occ_run.specs.Telling.{Takes};
 ghost use Rattle.occ_run.specs.Tokens.{opening, teller};
 ghost use Rattle.occ_run.specs.declared.progress.Stop.TheVariants as stop;
 
 use crate::gate::Gate;
 use crate::progress::{Done, Next, Progress, Wake};
 use crate::stretch::take_turns;
+use crate::taking::all_of;
 use crate::tokens::{Token, Tokens, come_back, end, go_out};
+use occ_board::{Front, Head};
 use occ_machine::Task;
 use occ_net::Lease;
+use occ_net_trace::{Mark, News};
 use occ_proc::Scratch;
-use std::alloc::Global;
+use std::alloc::{AllocError, Global};
 use std::marker::{Brand, Model, PhantomData};
 use std::sync::Wait;
 
@@ -23,6 +28,7 @@ use std::sync::Wait;
 pub trait OneRun {
     ghost use Rattle.std.specs.Prelude.{List, ℕ};
     ghost use Rattle.atomic_table.specs.Seated.{TableId};
+    ghost use Rattle.logbook.specs.Pages.{Book};
     ghost use Rattle.occ_machine.specs.Compiled.{Program};
 
     ghost program: { Program };
@@ -32,6 +38,8 @@ pub trait OneRun {
     ghost limit: { ℕ };
 
     ghost tokens: { TableId };
+
+    ghost takings: { Book };
 }
 
 impl OneRun for Brand {
@@ -45,6 +53,8 @@ impl OneRun for Brand {
     ghost limit = { 0 };
 
     ghost tokens = { no_tokens };
+
+    ghost takings = { record { number = 0; log_name = 0; cells_name = 0 } };
 }
 
 /// A token of a run that a thread has. Contracts see what it knows.
@@ -119,6 +129,9 @@ pub(crate) enum Step<U: OneRun> {
 pub(crate) struct Desk<U: OneRun> {
     progress: Progress,
     keeper: Token,
+    /// How much of the trace was taken.
+    head: Head,
+    told: Front,
     run: PhantomData<U>,
 }
 
@@ -127,12 +140,13 @@ impl<U: OneRun> Model for Desk<U> {
     ghost use Rattle.crossbeam_utils.specs.Seq.{cell_view};
     ghost use Rattle.occ_run.specs.declared.progress.Progress.{Progress};
     ghost use Rattle.occ_run.specs.Held.{IsHeld};
+    ghost use Rattle.occ_run.specs.Telling.{IsBehind};
 
     ghost Value = { Progress };
 
     ghost view = { λ d. d.progress };
 
-    ghost invariant = { λ d. (d.keeper.table_id ≡ U.tokens) × IsHeld U.program U.keyboard U.limit d.progress (cell_view d.keeper) };
+    ghost invariant = { λ d. (d.keeper.table_id ≡ U.tokens) × IsHeld U.program U.keyboard U.limit d.progress (cell_view d.keeper) × IsBehind U.takings U.program d.progress.network d.head d.told };
 }
 
 impl<U: OneRun> Turn<U> {
@@ -150,16 +164,19 @@ impl<U: OneRun> Turn<U> {
 
 impl<U: OneRun> Desk<U> {
     /// The start of a run.
-    pub fn new(progress: Progress, keeper: Token) -> Desk<U>
+    pub fn new(progress: Progress, keeper: Token, head: Head, told: Front) -> Desk<U>
         requires network { progress.network ≡ fresh U.program U.keyboard }
         requires limit { progress.limit ≡ U.limit }
         requires stop { progress.stop ≡ None }
         requires opening_keeper { (keeper.table_id ≡ U.tokens) × (cell_view keeper ≡ opening) }
+        requires takings { (head ≡ U.takings) × (told ≡ reached U.takings blank) }
         ensures { result ≡ progress }
     {
         Desk {
             progress,
             keeper,
+            head,
+            told,
             run: PhantomData,
         }
     }
@@ -169,6 +186,34 @@ impl<U: OneRun> Desk<U> {
         ensures { result.now ≡ self.now }
     {
         &self.progress
+    }
+
+    /// Takes the trace: copies what it has behind the mark into `news`, and puts the mark behind all of it. What was taken before
+    /// by the one who asks begins it. None where another takes too.
+    pub fn take(
+        &mut self,
+        mine: &Front,
+        mark: &mut Mark,
+        news: &mut News,
+    ) -> Result<Option<Front>, AllocError>
+        requires { mine.now.book ≡ U.takings }
+        ensures same { self.new ≡ self.old }
+        ensures takes { IfOk result
+            (λ next. IfSome next (λ f. Takes U.takings U.program U.keyboard U.limit mine.now mark.old f mark.new news.new)) }
+    {
+        self.progress.network.replayed();
+        if mine.goes_past(&self.told) {
+            return Ok(None);
+        }
+        let trace = self.progress.network.trace();
+        let Some(next) = all_of::<U>(&self.head, &self.told, trace) else {
+            return Ok(None);
+        };
+        trace.copy_behind(mark, news)?;
+        let _count = trace.len();
+        *mark = trace.mark();
+        self.told = next.again();
+        Ok(Some(next))
     }
 
     /// What a worker does next. A turn that it takes is out.
@@ -260,6 +305,8 @@ impl<U: OneRun> Desk<U> {
         let Desk {
             progress,
             mut keeper,
+            head: _head,
+            told: _told,
             run: _,
         } = self;
         let Ticket { token, run: _ } = ended;

@@ -10,6 +10,7 @@ pub mod gate;
 mod progress;
 pub mod run;
 mod stretch;
+mod taking;
 mod tokens;
 pub mod watched;
 mod workers;

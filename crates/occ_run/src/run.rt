@@ -10,6 +10,7 @@ use crate::gate::Gate;
 use crate::progress::{Progress, Stop};
 use crate::tokens::new_tokens;
 use crate::workers::run_all;
+use occ_board::open_history;
 use occ_choices::is_crew;
 use occ_machine::Code;
 use occ_net::{Network, Outcome};
@@ -69,7 +70,10 @@ pub fn run_network<R: Threads + Wait + Sync, G: Gate + Sync>(
     }
     let progress = beginning(alloc, code, keyboard, limit)?;
     let (tokens, keeper) = new_tokens(alloc)?;
-    let progress = run_all::<Brand, R, G>(rt, alloc, progress, tokens, keeper, workers, gate);
+    let (head, told) = open_history();
+    let progress = run_all::<Brand, R, G>(
+        rt, alloc, progress, tokens, keeper, head, told, workers, gate,
+    );
     gathered(progress)
 }
 

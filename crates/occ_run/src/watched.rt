@@ -1,17 +1,19 @@
 //! A run by several threads, at whose communications others look while it goes on.
-ghost use Rattle.std.specs.Prelude.{◌≡◌, ◌<◌, ◌↔◌, ◌⊎◌, ◌≢◌, [], drop, false, true, IfErr, IfOk, IfSome, IsErrOf, None};
+ghost use Rattle.std.specs.Prelude.{◌≡◌, ◌+◌, ◌++◌, ◌∷◌, ◌<◌, ◌^◌, ◌↔◌, ◌⊎◌, ◌≢◌, [], drop, false, length, true, IfErr, IfOk, IfSome, IsErrOf, None};
 ghost use mathlib.Core.List.{IsPrefix};
-ghost use Rattle.occ_board.specs.Editions.{edition};
-ghost use Rattle.occ_board.specs.Traces.{held_by, publishing};
+ghost use Rattle.occ_board.specs.Editions.{blank, edition, reached};
+ghost use Rattle.occ_board.specs.Traces.{all_published, held_by, publishing};
 ghost use Rattle.occ_choices.specs.Crews.{most_workers};
 ghost use Rattle.crossbeam_utils.specs.Seq.{cell_view};
 ghost use Rattle.occ_net.specs.Networks.{fresh};
+ghost use Rattle.occ_term.specs.Runs.{entries};
+ghost use Rattle.occ_shown.specs.Answers.{names_of};
 ghost use Rattle.occ_run.specs.Gathered.{IsGathered, IsRunOf};
 ghost use Rattle.occ_run.specs.Held.{IsConcluded};
-ghost use Rattle.occ_run.specs.Telling.{TellsTrace};
+ghost use Rattle.occ_run.specs.Telling.{HasTold, MayTell, Takes, TellsTrace};
 ghost use Rattle.occ_run.specs.Tokens.{opening};
 
-use crate::desk::OneRun;
+use crate::desk::{Desk, OneRun};
 use crate::fault::RunFault;
 use crate::gate::Gate;
 use crate::progress::Progress;
@@ -19,7 +21,7 @@ use crate::run::{beginning, gathered, outcome_of};
 use crate::tokens::{Token, Tokens, new_tokens};
 use crate::workers::{Shared, work};
 use core::mem::replace_with;
-use occ_board::{Naming, Note, Publisher, Shown};
+use occ_board::{Front, Head, Naming, Note, Publisher, Shown, open_history};
 use occ_choices::is_crew;
 use occ_machine::Code;
 use occ_net::{Network, Outcome};
@@ -28,7 +30,7 @@ use occ_shown::{is_shown, shown_as};
 use occ_term::Channel;
 use std::alloc::{AllocError, Global};
 use std::marker::Brand;
-use std::sync::Wait;
+use std::sync::{MutexGuard, Wait};
 use std::thread;
 use std::thread::Threads;
 
@@ -52,6 +54,7 @@ pub fn run_watched<J: Naming, R: Threads + Wait + Sync, G: Gate + Sync>(
     publisher: Publisher<J>,
 ) -> Result<(Outcome, Publisher<J>, Note<J>), RunFault>
     requires going { publisher.closed ≡ false }
+    requires may { MayTell J.may code.now keyboard.now limit (held_by publisher) }
     ensures run { IfOk result (λ r. IsRunOf code.now keyboard.now limit r.0) }
     ensures shown { IfOk result
         (λ r. TellsTrace code.now.channels (held_by publisher) r.0.network r.1) }
@@ -87,6 +90,7 @@ pub fn watch_network<J: Naming, R: Threads + Wait + Sync, G: Gate + Sync>(
     publisher: Publisher<J>,
 ) -> Result<(Network, Publisher<J>, Note<J>), RunFault>
     requires going { publisher.closed ≡ false }
+    requires may { MayTell J.may code.now keyboard.now limit (held_by publisher) }
     ensures run { IfOk result (λ r. IsGathered code.now keyboard.now limit r.0) }
     ensures shown { IfOk result (λ r. TellsTrace code.now.channels (held_by publisher) r.0 r.1) }
     ensures note { IfOk result (λ r. r.2 ≡ edition r.1.published true) }
@@ -117,6 +121,7 @@ fn watched<J: Naming, R: Threads + Wait + Sync, G: Gate + Sync>(
     publisher: Publisher<J>,
 ) -> Result<(Network, Publisher<J>, Note<J>), RunFault>
     requires going { (publisher.pending ≡ []) × (publisher.closed ≡ false) }
+    requires may { MayTell J.may code.now keyboard.now limit publisher.published }
     ensures run { IfOk result (λ r. IsGathered code.now keyboard.now limit r.0) }
     ensures shown { IfOk result (λ r. TellsTrace code.now.channels publisher.published r.0 r.1) }
     ensures note { IfOk result (λ r. r.2 ≡ edition r.1.published true) }
@@ -153,6 +158,7 @@ fn lent<J: Naming, R: Threads + Wait + Sync, G: Gate + Sync>(
     publisher: &mut Publisher<J>,
 ) -> Result<(Network, Note<J>), RunFault>
     requires going { (publisher.old.pending ≡ []) × (publisher.old.closed ≡ false) }
+    requires may { MayTell J.may code.now keyboard.now limit publisher.old.published }
     ensures run { IfOk result (λ r. IsGathered code.now keyboard.now limit r.0) }
     ensures shown { IfOk result
         (λ r. TellsTrace code.now.channels publisher.old.published r.0 publisher.new) }
@@ -162,12 +168,15 @@ fn lent<J: Naming, R: Threads + Wait + Sync, G: Gate + Sync>(
     let held = publisher.published().len();
     let progress = beginning(alloc, code, keyboard, limit)?;
     let (tokens, keeper) = new_tokens(alloc)?;
+    let (head, told) = open_history();
     let (progress, note) = run_told::<J, Brand, R, G>(
         rt,
         alloc,
         progress,
         tokens,
         keeper,
+        head,
+        told,
         workers,
         gate,
         code.channels(),
@@ -208,16 +217,23 @@ fn tell_crew<J: Naming, U: OneRun + Send + Sync, R: Threads + Wait + Sync, G: Ga
     workers: u32,
     gate: &G,
     channels: &[Channel],
+    first: Front,
     publisher: &mut Publisher<J>,
 ) -> Result<Note<J>, AllocError>
-    requires { (publisher.old.pending ≡ []) × (publisher.old.closed ≡ false) }
+    requires going { (publisher.old.pending ≡ []) × (publisher.old.closed ≡ false) }
+    requires channels { channels.now ≡ U.program.channels }
+    requires first { first ≡ reached U.takings blank }
+    requires may { MayTell J.may U.program U.keyboard U.limit publisher.old.published }
     ensures { IfOk result (λ n. IsPrefix publisher.old.published n.entries × (n.last ≡ true)) }
 {
     thread::scope(
         thread::scope_env(),
         rt,
         |scope| -> Result<Note<J>, AllocError>
-            requires { (publisher.now.pending ≡ []) × (publisher.now.closed ≡ false) }
+            requires going { (publisher.now.pending ≡ []) × (publisher.now.closed ≡ false) }
+            requires channels { channels.now ≡ U.program.channels }
+            requires first { first ≡ reached U.takings blank }
+            requires may { MayTell J.may U.program U.keyboard U.limit publisher.now.published }
             ensures { IfOk result (λ n. IsPrefix publisher.entry.now.published n.entries
                 × (n.last ≡ true)) }
         {
@@ -227,7 +243,7 @@ fn tell_crew<J: Naming, U: OneRun + Send + Sync, R: Threads + Wait + Sync, G: Ga
                     break;
                 }
             }
-            tell(rt, alloc, shared, channels, publisher)
+            tell(rt, alloc, shared, channels, first.again(), publisher)
         },
     )
 }
@@ -239,6 +255,8 @@ fn run_told<J: Naming, U: OneRun + Send + Sync, R: Threads + Wait + Sync, G: Gat
     progress: Progress,
     tokens: Tokens,
     keeper: Token,
+    head: Head,
+    told: Front,
     workers: u32,
     gate: &G,
     channels: &[Channel],
@@ -249,13 +267,17 @@ fn run_told<J: Naming, U: OneRun + Send + Sync, R: Threads + Wait + Sync, G: Gat
     requires stop { progress.stop ≡ None }
     requires tokens { tokens.table.shared.table_id ≡ U.tokens }
     requires opening_keeper { (keeper.table_id ≡ U.tokens) × (cell_view keeper ≡ opening) }
+    requires takings { (head ≡ U.takings) × (told ≡ reached U.takings blank) }
     requires going { (publisher.old.pending ≡ []) × (publisher.old.closed ≡ false) }
+    requires channels { channels.now ≡ U.program.channels }
+    requires may { MayTell J.may U.program U.keyboard U.limit publisher.old.published }
     ensures concluded { IsConcluded U.program U.keyboard U.limit result.0 }
     ensures noted { IfOk result.1 (λ n. IsPrefix publisher.old.published n.entries
         × (n.last ≡ true)) }
 {
-    let shared: Shared<U> = Shared::new(progress, tokens, keeper);
-    let note = tell_crew(rt, alloc, &shared, workers, gate, channels, publisher);
+    let first = told.again();
+    let shared: Shared<U> = Shared::new(progress, tokens, keeper, head, told);
+    let note = tell_crew(rt, alloc, &shared, workers, gate, channels, first, publisher);
     let ended = shared.wait_for_end(rt);
     (shared.into_progress(rt, ended), note)
 }
@@ -266,12 +288,16 @@ fn tell<J: Naming, U: OneRun, R: Wait>(
     alloc: Global,
     shared: &Shared<U>,
     channels: &[Channel],
+    first: Front,
     publisher: &mut Publisher<J>,
 ) -> Result<Note<J>, AllocError>
-    requires { (publisher.old.pending ≡ []) × (publisher.old.closed ≡ false) }
+    requires going { (publisher.old.pending ≡ []) × (publisher.old.closed ≡ false) }
+    requires channels { channels.now ≡ U.program.channels }
+    requires first { first ≡ reached U.takings blank }
+    requires may { MayTell J.may U.program U.keyboard U.limit publisher.old.published }
     ensures { IfOk result (λ n. IsPrefix publisher.old.published n.entries × (n.last ≡ true)) }
 {
-    let told = follow(rt, alloc, shared, channels, publisher);
+    let told = follow(rt, alloc, shared, channels, first, publisher);
     if told.is_err() {
         shared.refuse_growth(rt);
     }
@@ -283,16 +309,22 @@ fn follow<J: Naming, U: OneRun, R: Wait>(
     alloc: Global,
     shared: &Shared<U>,
     channels: &[Channel],
+    first: Front,
     publisher: &mut Publisher<J>,
 ) -> Result<Note<J>, AllocError>
-    requires { (publisher.old.pending ≡ []) × (publisher.old.closed ≡ false) }
+    requires going { (publisher.old.pending ≡ []) × (publisher.old.closed ≡ false) }
+    requires channels { channels.now ≡ U.program.channels }
+    requires first { first ≡ reached U.takings blank }
+    requires may { MayTell J.may U.program U.keyboard U.limit publisher.old.published }
     ensures { IfOk result (λ n. IsPrefix publisher.old.published n.entries × (n.last ≡ true)) }
 {
     let mut mark = Trace::new(alloc).mark();
     let mut news = News::new(alloc);
+    let mut front = first;
     let mut number = 0;
     for _ in rt.forever() {
-        let over = take_news(rt, shared, number, &mut mark, &mut news)?;
+        let (next, over) = take_news(rt, shared, number, &front, &mut mark, &mut news)?;
+        front = next;
         number = append_news(alloc, channels, number, &news, publisher)?;
         if over {
             return close(rt, publisher);
@@ -302,27 +334,43 @@ fn follow<J: Naming, U: OneRun, R: Wait>(
     unreachable!()
 }
 
-/// Waits until there are more than so many communications or no further turn is settled, and takes those behind the mark, which
-/// then stands behind them. Answers whether no further turn is settled.
-fn take_news<U: OneRun, R: Wait>(
+/// Waits until there are more than so many communications or no further turn is settled, and answers whether it is so that none
+/// is settled.
+fn wait_for_news<'a, U: OneRun, R: Wait>(
     rt: &R,
-    shared: &Shared<U>,
+    shared: &'a Shared<U>,
     count: u64,
-    mark: &mut Mark,
-    news: &mut News,
-) -> Result<bool, AllocError> {
+) -> (MutexGuard<'a, Desk<U>>, bool) {
     let mut desk = shared.enter(rt);
     for _ in rt.forever() {
         let over = desk.progress().next_pick().is_none();
-        let trace = desk.progress().network.trace();
-        if over || trace.len() as u64 > count {
-            trace.copy_behind(mark, news)?;
-            *mark = trace.mark();
-            return Ok(over);
+        if over || desk.progress().network.trace().len() as u64 > count {
+            return (desk, over);
         }
         desk = shared.grown.wait(rt, desk);
     }
     unreachable!()
+}
+
+/// Takes the communications behind the mark, which then stands behind them, when there are more than so many or no further turn is
+/// settled. Answers all of them as an edition, and whether no further turn is settled.
+fn take_news<U: OneRun, R: Wait>(
+    rt: &R,
+    shared: &Shared<U>,
+    count: u64,
+    mine: &Front,
+    mark: &mut Mark,
+    news: &mut News,
+) -> Result<(Front, bool), AllocError>
+    requires { mine.now.book ≡ U.takings }
+    ensures { IfOk result
+        (λ r. Takes U.takings U.program U.keyboard U.limit mine.now mark.old r.0 mark.new news.new) }
+{
+    let (mut desk, over) = wait_for_news(rt, shared, count);
+    match desk.take(mine, mark, news)? {
+        Some(next) => Ok((next, over)),
+        None => Err(AllocError),
+    }
 }
 
 /// Appends the news, numbered on from a number, and gives the last number.
@@ -333,13 +381,15 @@ fn append_news<J: Naming>(
     news: &News,
     publisher: &mut Publisher<J>,
 ) -> Result<u64, AllocError>
-    requires { publisher.old.closed ≡ false }
-    ensures published { IfOk result (λ _. publisher.new.published ≡ publisher.old.published) }
-    ensures going { IfOk result (λ _. publisher.new.closed ≡ false) }
+    requires going { publisher.old.closed ≡ false }
+    requires few { number + length news.now < 2 ^ 63 }
+    ensures appended { IfOk result (λ _. publisher.new
+        ≡ publishing publisher.old.published (publisher.old.pending ++ entries (names_of channels.now) (number + 1) news.now) false) }
+    ensures number { IfOk result (λ n. n ≡ number + length news.now) }
 {
     let mut number = number;
     for communication in news.entries() {
-        number = number.saturating_add(1);
+        number += 1;
         let shown = shown_as(alloc, number, &communication, channels)?;
         append(shown, publisher)?;
     }
@@ -348,24 +398,25 @@ fn append_news<J: Naming>(
 
 fn append<J: Naming>(shown: Shown, publisher: &mut Publisher<J>) -> Result<(), AllocError>
     requires { publisher.old.closed ≡ false }
-    ensures { (publisher.new.published ≡ publisher.old.published) × (publisher.new.closed ≡ false) }
+    ensures { IfOk result (λ _. publisher.new
+        ≡ publishing publisher.old.published (publisher.old.pending ++ shown ∷ []) false) }
 {
     publisher.append(shown).map_err(|_| AllocError)
 }
 
 /// Publishes what is pending.
 fn publish<J: Naming, R: Wait>(rt: &R, publisher: &mut Publisher<J>) -> Result<(), AllocError>
-    requires { publisher.old.closed ≡ false }
-    ensures going { IfOk result
-        (λ _. (publisher.new.pending ≡ []) × (publisher.new.closed ≡ false)) }
-    ensures more { IfOk result (λ _. IsPrefix publisher.old.published publisher.new.published) }
+    requires going { publisher.old.closed ≡ false }
+    requires may { J.may (held_by publisher.old) }
+    ensures { IfOk result (λ _. publisher.new ≡ all_published publisher.old false) }
 {
     replace_with(publisher, rt, |publisher, rt| publisher.publish(rt)).map_err(|_| AllocError)
 }
 
 /// Publishes what is pending for the last time.
 fn shut<J: Naming, R: Wait>(rt: &R, publisher: &mut Publisher<J>) -> Result<(), AllocError>
-    requires { publisher.old.closed ≡ false }
+    requires going { publisher.old.closed ≡ false }
+    requires may { J.may (held_by publisher.old) }
     ensures closed { IfOk result (λ _. publisher.new.closed ≡ true) }
     ensures more { IfOk result (λ _. IsPrefix publisher.old.published publisher.new.published) }
 {
@@ -381,7 +432,8 @@ fn noted<J: Naming>(publisher: &mut Publisher<J>) -> Note<J>
 
 /// Closes the board and notes what is published.
 fn close<J: Naming, R: Wait>(rt: &R, publisher: &mut Publisher<J>) -> Result<Note<J>, AllocError>
-    requires { publisher.old.closed ≡ false }
+    requires going { publisher.old.closed ≡ false }
+    requires may { J.may (held_by publisher.old) }
     ensures { IfOk result (λ n. IsPrefix publisher.old.published n.entries × (n.last ≡ true)) }
 {
     shut(rt, publisher)?;

@@ -1,6 +1,7 @@
 //! The threads of a run.
 ghost use Rattle.std.specs.Prelude.{◌≡◌, None};
 ghost use Rattle.crossbeam_utils.specs.Seq.{cell_view};
+ghost use Rattle.occ_board.specs.Editions.{blank, reached};
 ghost use Rattle.occ_net.specs.Networks.{fresh};
 ghost use Rattle.occ_run.specs.Held.{IsConcluded};
 ghost use Rattle.occ_run.specs.Tokens.{opening, teller};
@@ -9,6 +10,7 @@ use crate::desk::{Desk, OneRun, Ran, Step, Ticket, Turn};
 use crate::gate::Gate;
 use crate::progress::{Progress, Wake};
 use crate::tokens::{Token, Tokens};
+use occ_board::{Front, Head};
 use occ_proc::Scratch;
 use std::alloc::Global;
 use std::hint::spin_loop;
@@ -35,15 +37,22 @@ pub(crate) struct Shared<U: OneRun> {
 }
 
 impl<U: OneRun> Shared<U> {
-    pub(crate) fn new(progress: Progress, tokens: Tokens, keeper: Token) -> Shared<U>
+    pub(crate) fn new(
+        progress: Progress,
+        tokens: Tokens,
+        keeper: Token,
+        head: Head,
+        told: Front,
+    ) -> Shared<U>
         requires network { progress.network ≡ fresh U.program U.keyboard }
         requires limit { progress.limit ≡ U.limit }
         requires stop { progress.stop ≡ None }
         requires tokens { tokens.table.shared.table_id ≡ U.tokens }
         requires opening_keeper { (keeper.table_id ≡ U.tokens) × (cell_view keeper ≡ opening) }
+        requires takings { (head ≡ U.takings) × (told ≡ reached U.takings blank) }
     {
         Shared {
-            desk: Mutex::new(Desk::new(progress, keeper)),
+            desk: Mutex::new(Desk::new(progress, keeper, head, told)),
             tokens,
             moved: Condvar::new(),
             grown: Condvar::new(),
@@ -193,6 +202,8 @@ pub(crate) fn run_all<U: OneRun + Send + Sync, R: Threads + Wait + Sync, G: Gate
     progress: Progress,
     tokens: Tokens,
     keeper: Token,
+    head: Head,
+    told: Front,
     workers: u32,
     gate: &G,
 ) -> Progress
@@ -201,9 +212,10 @@ pub(crate) fn run_all<U: OneRun + Send + Sync, R: Threads + Wait + Sync, G: Gate
     requires stop { progress.stop ≡ None }
     requires tokens { tokens.table.shared.table_id ≡ U.tokens }
     requires opening_keeper { (keeper.table_id ≡ U.tokens) × (cell_view keeper ≡ opening) }
+    requires takings { (head ≡ U.takings) × (told ≡ reached U.takings blank) }
     ensures { IsConcluded U.program U.keyboard U.limit result }
 {
-    let shared: Shared<U> = Shared::new(progress, tokens, keeper);
+    let shared: Shared<U> = Shared::new(progress, tokens, keeper, head, told);
     run_crew(rt, alloc, &shared, workers, gate);
     let ended = shared.wait_for_end(rt);
     shared.into_progress(rt, ended)

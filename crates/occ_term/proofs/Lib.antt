@@ -14,6 +14,7 @@ pub mod TypedSteps
 pub mod KeptStores
 pub mod KeptSteps
 pub mod RestOnReads
+pub mod StepReads
 pub mod FrameWrites
 pub mod RowsOfCells
 pub mod FirstRows

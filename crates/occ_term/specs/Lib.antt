@@ -19,6 +19,7 @@ pub mod Evaluation
 pub mod TypedSteps
 pub mod StepUses
 pub mod ReadUses
+pub mod StepReads
 pub mod View
 pub mod UnfoldedProgram
 pub mod Sizes

@@ -1,6 +1,7 @@
 //! What a term uses, which terms keep the usage rules, and what rests on a use. Each function's contract is the law; its body does nothing.
 
 ghost use Rattle.occ_term.specs.ReadUses.{ItemsRestOnReads, ValuesRestOnReads};
+ghost use Rattle.occ_term.specs.StepReads.{StepsRestOnReads};
 ghost use Rattle.occ_term.specs.StepUses.{StepsKeepToTheirUse};
 ghost use Rattle.occ_term.specs.UsageExamples.{Accepts, ReadsClash, Unlawful, UseRows};
 
@@ -32,6 +33,11 @@ pub fn values_rest_on_reads()
 /// What an item is, rests on the cells that it reads.
 pub fn items_rest_on_reads()
     ensures { ItemsRestOnReads }
+{}
+
+/// In two stores that agree on the cells that it reads, what is left has the same step, and changes both alike.
+pub fn steps_rest_on_reads()
+    ensures { StepsRestOnReads }
 {}
 
 /// A private step changes only cells that it writes, and what is left then uses no more.

@@ -1,4 +1,4 @@
-use Rattle.std.proofs.Common.{◌≡◌, ◌∙◌, List, [], ◌∷◌, ◌++◌, drop, fold, sym, ap}
+use Rattle.std.proofs.Common.{◌≡◌, ◌∙◌, List, [], ◌∷◌, ◌++◌, drop, fold, sym, ap, subst}
 use Rattle.std.proofs.lemmas.List.{append-nil}
 use Rattle.occ_board.specs.declared.trace.Change.{Change}
 use Rattle.occ_board.specs.declared.trace.Change.TheVariants.{Reach}
@@ -16,8 +16,8 @@ publish_as-writer-requires g c next is views k at =
     let entries : next.entries.items ≡ shown.entries.items ++ added pending = ap (λ t. t.0) state in
     let front : next.front ≡ c.args.next = ap (λ t. t.1) state in
     let whole : c.args.next.edition.entries ≡ shown.entries.items ++ added pending = c.requires.1 ∙ ap (λ d. d.shown.value.entries.items ++ added pending) (sym desk) in
-    steps _ _ _ shown.entries.items next.entries.items shown.front next.front (added pending, sym entries) (ap (λ f. f.book) front ∙ c.requires.0)
-    (ap (λ f. f.edition.entries) front ∙ (whole ∙ sym entries)) views k at
+    steps _ g.J.Naming.may _ _ shown.entries.items next.entries.items shown.front next.front (added pending, sym entries) (ap (λ f. f.book) front ∙ c.requires.0)
+    (ap (λ f. f.edition.entries) front ∙ (whole ∙ sym entries)) (subst g.J.Naming.may (sym c.requires.1 ∙ (whole ∙ sym entries)) c.requires.2) views k at
 
 pub returns-in_default-published-clause-kept : goal.returns-in_default-published-clause-kept
 returns-in_default-published-clause-kept g c failed =

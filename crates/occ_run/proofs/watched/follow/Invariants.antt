@@ -1,7 +1,7 @@
-use Rattle.std.proofs.Common.{◌≡◌, [], false}
-use mathlib.Core.List.{IsPrefix}
+use Rattle.occ_run.specs.Telling.{HasTold}
 use Rattle.occ_run.proofs.watched.follow.Given as goal
 
--- nothing is pending, and what was published at first begins what is
+-- what was held is published, and behind it the trace of a replay
 abbrev pub invariant-loop : goal.invariant-loop
-invariant-loop g l = (l.publisher.pending ≡ []) × (l.publisher.closed ≡ false) × IsPrefix l.fn.publisher.published l.publisher.published
+invariant-loop g l =
+    let u = g.U.OneRun in HasTold u.takings u.program u.keyboard u.limit l.fn.publisher.published l.front l.mark l.number l.publisher
