@@ -277,7 +277,9 @@ fn run_told<J: Naming, U: OneRun + Send + Sync, R: Threads + Wait + Sync, G: Gat
 {
     let first = told.again();
     let shared: Shared<U> = Shared::new(progress, tokens, keeper, head, told);
-    let note = tell_crew(rt, alloc, &shared, workers, gate, channels, first, publisher);
+    let note = tell_crew(
+        rt, alloc, &shared, workers, gate, channels, first, publisher,
+    );
     let ended = shared.wait_for_end(rt);
     (shared.into_progress(rt, ended), note)
 }
