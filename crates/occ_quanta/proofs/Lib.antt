@@ -3,6 +3,6 @@ mod Happening
 mod Rows
 mod Totals
 mod Single
-mod Longer
+pub mod Longer
 mod Counted
 mod Exact
