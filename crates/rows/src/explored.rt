@@ -1,7 +1,7 @@
 //! Searches as a caller gets them: the bytes of each answer, the turns of a run that goes on for ever, the number of states that
 //! were found, and a search of all states for endings alone.
 use crate::compared::check_text;
-use occ_explore::{Answer, Asked, Exploration, Lasting, Untold, explore};
+use occ_explore::{Answer, Asked, Exploration, Lasting, Untold, Verdict, explore};
 use occ_machine::Code;
 use occ_play::{Options, code_of};
 use std::alloc::{AllocError, Global};
@@ -31,30 +31,30 @@ static ROWS: [Row; 5] = [
         b"xy",
         Asked::Endings,
         1_000,
-        "ended by 14 [xy-|]\nwithin 14\n54 true\n",
+        "ended by 14 [xy-|]\nall within 14\n54\n",
     ),
     Row(
         ERRORS,
         b"",
         Asked::Answers,
         1_000,
-        "ended by 10 [|a]\nended by 10 [|b]\nwithin 10\n44 true\n",
+        "ended by 10 [|a]\nended by 10 [|b]\nall within 10\n44\n",
     ),
     Row(
         BUSY,
         b"",
         Asked::Answers,
         1_000,
-        "for ever by 1 and 1\n30 true\n",
+        "all, for ever by 1 and 1\n30\n",
     ),
     Row(
         SKIP,
         b"",
         Asked::Answers,
         10,
-        "ended by 1 [|]\nwithin 1\n2 true\n",
+        "ended by 1 [|]\nall within 1\n2\n",
     ),
-    Row(SKIP, b"", Asked::Answers, 1, "1 false\n"),
+    Row(SKIP, b"", Asked::Answers, 1, "more\n1\n"),
 ];
 
 fn write_bytes(text: &mut String, bytes: &[u8]) -> Result<(), AllocError> {
@@ -74,31 +74,30 @@ fn write_answer(text: &mut String, answer: &Answer) -> Result<(), AllocError> {
     text.push_str("]\n")
 }
 
-fn write_lasting(text: &mut String, lasting: &Option<Lasting>) -> Result<(), AllocError> {
-    match lasting {
-        Some(Lasting::Within(turns)) => {
+fn write_verdict(text: &mut String, verdict: &Verdict) -> Result<(), AllocError> {
+    match verdict {
+        Verdict::All(Lasting::Within(turns)) => {
             let turns = *turns;
-            writeln!(text, "within {turns}")
+            writeln!(text, "all within {turns}")
         }
-        Some(Lasting::Forever { way, round }) => {
+        Verdict::All(Lasting::Forever { way, round }) => {
             let way = way.len();
             let round = round.len();
-            writeln!(text, "for ever by {way} and {round}")
+            writeln!(text, "all, for ever by {way} and {round}")
         }
-        None => Ok(()),
+        Verdict::More => text.push_str("more\n"),
     }
 }
 
-/// A line for each answer, one for how long runs go on, and one for the whole.
+/// A line for each answer, one for the verdict, and one for the number of states.
 fn told(alloc: Global, found: &Exploration) -> Result<String, AllocError> {
     let mut text = String::new(alloc);
     for answer in &found.answers {
         write_answer(&mut text, answer)?;
     }
-    write_lasting(&mut text, &found.lasting)?;
+    write_verdict(&mut text, &found.verdict)?;
     let states = found.states;
-    let all = found.all;
-    writeln!(text, "{states} {all}")?;
+    writeln!(text, "{states}")?;
     Ok(text)
 }
 
