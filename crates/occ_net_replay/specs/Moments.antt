@@ -1,6 +1,6 @@
 -- The run that a replay is followed by, at every moment: between two turns each process stands at the same stop in both.
 -- Manual: nothing; this is (own).
-use Rattle.std.specs.Prelude.{Bool, IsTrue, List, None, Option, [], false, length, nat_eq, ℕ, ⊤, ◌<◌, ◌^◌, ◌++◌, ◌||◌, ◌∷◌, ◌≡◌, ◌⊎◌, Some}
+use Rattle.std.specs.Prelude.{Bool, IsTrue, List, None, Option, [], false, length, nat_eq, ℕ, ⊤, ◌<◌, ◌^◌, ◌++◌, ◌||◌, ◌∷◌, ◌≡◌, ◌⊎◌}
 use Rattle.occ_term.specs.declared.fault.Fault.{Fault}
 use Rattle.occ_term.specs.declared.message.Message.{Message}
 use Rattle.occ_term.specs.Going.{IsGoing}
