@@ -109,20 +109,28 @@ fn action_opened<'t>(
 {
     match action {
         Action::Call(name, actuals) => call_opened(unfolder, alloc, here, name, actuals),
-        Action::Skip => Ok(done(here, unfolder.skipped(here.depth)?)),
-        Action::Stop => Ok(done(here, unfolder.stopped(here.depth)?)),
-        Action::Assign(variables, values) => {
-            let term = unfolder.assigned(alloc, here, variables, values)?;
-            Ok(done(here, term))
-        }
-        Action::Input(input) => {
-            let term = unfolder.received(alloc, here, input)?;
-            Ok(done(here, term))
-        }
-        Action::Output(channel, outs) => {
-            let term = unfolder.output(alloc, here, channel, outs)?;
-            Ok(done(here, term))
-        }
+        _ => Ok(done(here, line_done(unfolder, alloc, here, action)?)),
+    }
+}
+
+/// The term of a process of one line that is no call.
+fn line_done(
+    unfolder: &mut Unfolder<'_>,
+    alloc: Global,
+    here: Here,
+    action: &Action,
+) -> Result<Term, CheckFault>
+    requires { IsNoCall action.now }
+    ensures term { PerformsAt result unfolder.old unfolder.new here (action_of action.now) }
+    ensures kept { OpensNothing result unfolder.old unfolder.new }
+{
+    match action {
+        Action::Call(_, _) => unreachable!(),
+        Action::Skip => unfolder.skipped(here.depth),
+        Action::Stop => unfolder.stopped(here.depth),
+        Action::Assign(variables, values) => unfolder.assigned(alloc, here, variables, values),
+        Action::Input(input) => unfolder.received(alloc, here, input),
+        Action::Output(channel, outs) => unfolder.output(alloc, here, channel, outs),
     }
 }
 
