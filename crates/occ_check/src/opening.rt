@@ -7,11 +7,11 @@ ghost use Rattle.occ_tree_grammar.specs.declared.tree.process.Arm.TheBlock.{hidd
 ghost use Rattle.occ_term.specs.View.{term_of};
 ghost use Rattle.occ_check_meaning.specs.Performing.{acted};
 ghost use Rattle.occ_check_opened.specs.Opened.{Begins, IsReady, IsStepReady, LeavesWithin, OpensAt, left_weight, statement_left, step_left, step_weight, body_unfolded};
-ghost use Rattle.occ_check_opened.specs.Progress.{body_weight, counted, nodes_weight, weight_at, KeepsOpen};
-ghost use Rattle.occ_check.specs.Opening.{declarations_in, line_in, performing as statement_unfolded, statement_in, statement_size, par_of, seq_for, seq_of, while_of};
+ghost use Rattle.occ_check_opened.specs.Progress.{body_weight, counted, nodes_weight, weight_at, KeepsOpen, OpensNothing};
+ghost use Rattle.occ_check.specs.Opening.{IsNoCall, declarations_in, line_in, performing as statement_unfolded, statement_in, statement_size, par_of, seq_for, seq_of, while_of};
 ghost use Rattle.occ_check_opened.specs.Weights.{decl_nodes, process_nodes};
 ghost use Rattle.occ_check_opened.specs.declared.unfolder.Unfolder.{Unfolder as UnfolderState};
-ghost use Rattle.occ_check_opened.specs.OneLine.{call_action};
+ghost use Rattle.occ_check_opened.specs.OneLine.{PerformsAt, call_action};
 
 use occ_check_arms::arms::{arms_opened, each_arm_opened, listed_arms};
 use occ_check_arms::variants::{listed_variants, variants_opened};
