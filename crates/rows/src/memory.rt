@@ -1,5 +1,6 @@
 //! Runs in which a growth may be refused, for `tools/refuse --test rows memory::`: they pass whichever it is.
-ghost use Rattle.std.specs.Prelude.{◌≡◌};
+ghost use Rattle.std.specs.Prelude.{◌≡◌, List};
+ghost use Rattle.occ_term.specs.Runs.{Entry};
 
 use crate::sources::{MERGE, PIPELINE, TAGS};
 use occ_check::CheckFault;
@@ -150,7 +151,8 @@ fn watched<J: Naming, R: Threads + Wait + Sync + AllocGlobal>(
     source: &[u8],
     room: &mut [u8; 256],
 ) -> Option<Result<Played, PlayFault>>
-    requires { opened ≡ J.book }
+    requires book { opened ≡ J.book }
+    requires may { (xs : List Entry) → J.may xs }
 {
     let (publisher, _watchers) = match Board::new::<J>(opened, rt.alloc(), 1) {
         Ok(board) => board,
