@@ -16,7 +16,7 @@ use Rattle.occ_net_replay.specs.Replay.{Net, Replays, begins, first_net}
 use Rattle.occ_net_trace.specs.Places.{Place, StandBehind, place_behind}
 use Rattle.occ_shown.specs.Answers.{entries_in, names_of}
 use Rattle.occ_run.specs.Gathered.{IsOfRun}
-use Rattle.occ_run.specs.Telling.{IsBehind, IsNext, IsTake, IsTraceOf, MayTell, and_pending, entries_behind, taken}
+use Rattle.occ_run.specs.Telling.{IsBehind, IsNext, IsTake, IsTraceOf, MayTell, and_news, taken}
 use Rattle.occ_run.proofs.Growing.{entries_append, entries_back}
 
 -- The publisher has published what was held and the trace of a replay, of which it has the edition, the mark and the length.
@@ -67,11 +67,11 @@ module _ (book : Book) (p : Program) (keyboard : List ℕ) (limit : ℕ) (held :
   pub few : number + length news < 2 ^ 63
   few = let l = longer in let s = t.small in omega (arith, l, s)
 
-  module _ (c : Publishing) (pending : c ≡ and_pending b (entries_behind p.channels number news)) where
+  module _ (c : Publishing) (pending : c ≡ and_news b p.channels number news) where
     behind_all : c ≡ publishing (held ++ entries_in p.channels h.all) (entries (names_of p.channels) (1 + length h.all) news) false
     behind_all =
         pending
-        ∙ (ap (λ (x : Publishing). and_pending x (entries_behind p.channels number news)) h.published
+        ∙ (ap (λ (x : Publishing). and_news x p.channels number news) h.published
         ∙ ap (λ (n : ℕ). publishing (held ++ entries_in p.channels h.all) (entries (names_of p.channels) n news) false) (let n = h.counted in omega (arith, n)))
 
     pub holds : held_by c ≡ held ++ entries_in p.channels t.all

@@ -61,10 +61,10 @@ pub record IsTake (p : Program) (keyboard : List ℕ) (limit : ℕ) (mine : Reac
 
 -- ---- what is published of it
 
--- the entries of news that come behind so many communications
-abbrev pub entries_behind : List Channel → (number : ℕ) → (news : List Communication) → List Entry
-entries_behind channels number news = entries (names_of channels) (number + 1) news
-
 -- these entries are pending too, and the board is open
 abbrev pub and_pending : Publishing → List Entry → Publishing
 and_pending p xs = publishing p.published (p.pending ++ xs) false
+
+-- so are those of these communications, which come behind so many
+abbrev pub and_news : Publishing → List Channel → (number : ℕ) → List Communication → Publishing
+and_news p channels number news = and_pending p (entries (names_of channels) (number + 1) news)

@@ -10,7 +10,7 @@ ghost use Rattle.occ_term.specs.Runs.{entries};
 ghost use Rattle.occ_shown.specs.Answers.{names_of};
 ghost use Rattle.occ_run.specs.Gathered.{IsGathered, IsRunOf};
 ghost use Rattle.occ_run.specs.Held.{IsConcluded};
-ghost use Rattle.occ_run.specs.Telling.{IsTake, MayTell, TellsTrace, and_pending, entries_behind};
+ghost use Rattle.occ_run.specs.Telling.{IsTake, MayTell, TellsTrace, and_news, and_pending};
 ghost use Rattle.occ_run.specs.Tokens.{opening};
 
 use crate::desk::{Desk, OneRun};
@@ -386,7 +386,7 @@ fn append_news<J: Naming>(
     requires going { publisher.old.closed ≡ false }
     requires few { number + length news.now < 2 ^ 63 }
     ensures pending { IfOk result (λ _. publisher.new
-        ≡ and_pending publisher.old (entries_behind channels.now number news.now)) }
+        ≡ and_news publisher.old channels.now number news.now) }
     ensures number { IfOk result (λ n. n ≡ number + length news.now) }
 {
     let mut number = number;

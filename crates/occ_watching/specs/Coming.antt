@@ -35,6 +35,6 @@ SeenByCrew workers options source keyboard limit trace seen =
 -- ---- private contracts alone cite what follows
 
 -- so it came, and the note beside the answer is of the last list, which has all communications of its run
-abbrev pub NotedByCrew : ℕ → Options → (source keyboard : List ℕ) → ℕ → Bool → Result (Played × Edition) PlayFault → Type 0
-NotedByCrew workers options source keyboard limit trace noted =
+abbrev pub ToldByCrew : ℕ → Options → (source keyboard : List ℕ) → ℕ → Bool → Result (Played × Edition) PlayFault → Type 0
+ToldByCrew workers options source keyboard limit trace noted =
     CameTo (λ x. AnswersTelling (λ entries. x.1 ≡ edition entries true) options source keyboard limit trace x.0) (WorkersRefuse workers options source) noted

@@ -3,7 +3,7 @@ ghost use Rattle.std.specs.Prelude.{◌≡◌, ◌<◌, ◌-◌, ◌^◌, IfSome
 ghost use Rattle.occ_board.specs.Traces.{publishing};
 ghost use Rattle.occ_play.specs.Watching.{MayTellText};
 ghost use Rattle.occ_shown.specs.Counting.{failures_of};
-ghost use Rattle.occ_watching.specs.Coming.{NotedByCrew, SeenByCrew};
+ghost use Rattle.occ_watching.specs.Coming.{ToldByCrew, SeenByCrew};
 
 use crate::looking::{last_lines, look_on};
 use occ_play::{
@@ -106,7 +106,7 @@ fn play_beside<J: Naming + Send + Sync, R: Threads + Wait + Sync, W: Write>(
             requires fresh { IfSome lent.now (λ p. p ≡ publishing [] [] false) }
             requires may { MayTellText J.may options.now source.now keyboard.now limit [] }
             requires room { failures_of out.now < 2 ^ 64 - 1 }
-            ensures { IfSome result (NotedByCrew workers options.entry.now source.entry.now
+            ensures { IfSome result (ToldByCrew workers options.entry.now source.entry.now
                 keyboard.entry.now limit trace) }
         {
             play_slot(
@@ -139,7 +139,7 @@ fn play_slot<J: Naming, R: Threads + Wait + Sync, W: Write>(
     requires fresh { IfSome slot.old (λ p. p ≡ publishing [] [] false) }
     requires may { MayTellText J.may options.now source.now keyboard.now limit [] }
     requires room { failures_of out.old < 2 ^ 64 - 1 }
-    ensures { IfSome result (NotedByCrew workers options.now source.now keyboard.now limit
+    ensures { IfSome result (ToldByCrew workers options.now source.now keyboard.now limit
         trace) }
 {
     let Some(publisher) = slot.take() else {

@@ -3,7 +3,7 @@ use mathlib.Core.List.{IsPrefix}
 use Rattle.occ_term.specs.declared.names.Channel.{Channel}
 use Rattle.occ_board.specs.Traces.{Publishing}
 use Rattle.occ_net_trace.specs.Places.{place_behind}
-use Rattle.occ_run.specs.Telling.{and_pending, entries_behind}
+use Rattle.occ_run.specs.Telling.{and_news}
 use Rattle.occ_run.proofs.Telling.{begins_held, few, held_begins, may_show, told_first, told_next}
 use Rattle.occ_run.proofs.watched.follow.Goals as goal
 
@@ -15,12 +15,12 @@ append_news-requires-clause-few g c = few _ _ _ _ _ _ _ _ _ _ _ _ c.loop.invaria
 
 pub close-requires-clause-may : goal.close-requires-clause-may
 close-requires-clause-may g c =
-    let pending = subst (λ (cs : List Channel). c.append_news.new.publisher ≡ and_pending c.loop.publisher (entries_behind cs c.loop.number c.take_news.new.news)) c.requires.channels c.in_ok-number.ensures.pending in
+    let pending = subst (λ (cs : List Channel). c.append_news.new.publisher ≡ and_news c.loop.publisher cs c.loop.number c.take_news.new.news) c.requires.channels c.in_ok-number.ensures.pending in
     may_show _ _ _ _ _ _ _ _ _ _ _ _ c.loop.invariant c.in_ok-next.ensures _ pending g.J.Naming.may c.requires.may
 
 pub publish-requires-clause-may : goal.publish-requires-clause-may
 publish-requires-clause-may g c =
-    let pending = subst (λ (cs : List Channel). c.append_news.new.publisher ≡ and_pending c.loop.publisher (entries_behind cs c.loop.number c.take_news.new.news)) c.requires.channels c.in_ok-number.ensures.pending in
+    let pending = subst (λ (cs : List Channel). c.append_news.new.publisher ≡ and_news c.loop.publisher cs c.loop.number c.take_news.new.news) c.requires.channels c.in_ok-number.ensures.pending in
     may_show _ _ _ _ _ _ _ _ _ _ _ _ c.loop.invariant c.in_ok-next.ensures _ pending g.J.Naming.may c.requires.may
 
 pub returns-then-over : goal.returns-then-over
@@ -29,5 +29,5 @@ returns-then-over g c =
 
 pub loop-preserved : goal.loop-preserved
 loop-preserved g c =
-    let pending = subst (λ (cs : List Channel). c.append_news.new.publisher ≡ and_pending c.loop.publisher (entries_behind cs c.loop.number c.take_news.new.news)) c.requires.channels c.in_ok-number.ensures.pending in
+    let pending = subst (λ (cs : List Channel). c.append_news.new.publisher ≡ and_news c.loop.publisher cs c.loop.number c.take_news.new.news) c.requires.channels c.in_ok-number.ensures.pending in
     told_next _ _ _ _ _ _ _ _ _ _ _ _ c.loop.invariant c.in_ok-next.ensures _ pending _ _ c.in_ok-publish.ensures c.in_ok-number.ensures.number
