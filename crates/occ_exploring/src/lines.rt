@@ -1,6 +1,6 @@
 //! Says what a search has found.
 ghost use Rattle.std.specs.Prelude.{◌≡◌, ◌≤◌, IfOk, OnOk, length};
-ghost use Rattle.occ_exploring.specs.Texts.{all_text, answer_line, answer_lines, answers_text, bound_text, so_many, error_text, exploration_text, held_text, lasting_text, left_text, verdict_text};
+ghost use Rattle.occ_exploring.specs.Texts.{all_text, answer_line, answer_lines, answers_text, bound_text, so_many, error_text, exploration_text, held_text, lasting_text, left_text, said_of};
 ghost use Rattle.occ_shown.specs.Answers.{AddsText};
 
 use crate::strings::write_string;
@@ -161,7 +161,7 @@ fn write_verdict(
     most: u32,
 ) -> Result<(), AllocError>
     ensures { OnOk result (AddsText out.old out.new
-        (verdict_text exploration.now.verdict exploration.now.states most)) }
+        (said_of exploration.now most)) }
 {
     match &exploration.verdict {
         Verdict::All(lasting) => {
