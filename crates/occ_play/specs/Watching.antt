@@ -22,7 +22,7 @@ use Rattle.occ_play.specs.Working.{IsAnswerWithin}
 -- shows the answer.
 pub record IsWatched (options : Options) (source keyboard : List ℕ) (limit : ℕ) (trace : Bool) (held : List Entry) (board : Publishing) (played : Played) (bytes : List ℕ) : Type 0 where
   pub answer : IsAnswerWithin options source keyboard limit trace played bytes
-  pub published : board ≡ publishing (held ++ (shown (names_of answer.answer.program.channels) answer.answer.events).trace) [] true
+  pub published : board ≡ publishing (held ++ (shown (names_of answer.answer.of_text.program.channels) answer.answer.run.follows.events).trace) [] true
 
 -- it was written, and nothing else
 abbrev pub PlaysWatched : {W N : Type 0} → (W → Option (List ℕ)) → Options → (source keyboard : List ℕ) → ℕ → Bool → Publishing → (old new : Counted W) → Played × Publishing × N → Type 0
@@ -54,7 +54,7 @@ IsShownOfText options source keyboard limit list = (list ≡ []) ⊎ IsTextsTrac
 abbrev pub AnswersWith : Options → (source keyboard : List ℕ) → List Choice → Bool → Program → Outcome → Played → List ℕ → Type 0
 AnswersWith options source keyboard list trace p o played bytes =
     (a : IsAnswer options source keyboard list trace played bytes)
-    × (shown_by (names_of p.channels) o.trace ≡ shown (names_of a.program.channels) a.events)
+    × (shown_by (names_of p.channels) o.trace ≡ shown (names_of a.of_text.program.channels) a.run.follows.events)
 
 -- the same for every list of which the outcome is one
 abbrev pub TellsAny : Options → (source keyboard : List ℕ) → Bool → Program → Outcome → Played → List ℕ → Type 0

@@ -4,7 +4,7 @@ ghost use Rattle.occ_board.specs.Traces.{publishing};
 ghost use Rattle.occ_term.specs.Runs.{Entry};
 
 use core::mem::replace_with;
-use occ_board::{Board, BoardFault, Naming, Opened, Publisher, Shown, Watcher};
+use occ_board::{Board, Naming, Opened, Publisher, Shown, Watcher};
 use occ_term::{End, Message, Name, Part, Parts, Primitive, Text};
 use std::alloc::{AllocError, Global};
 use std::marker::Brand;
@@ -94,25 +94,4 @@ fn looks<J: Naming, R: Wait + Abort>(rt: &R, alloc: Global, opened: Opened) -> R
 #[test]
 fn a_published_entry_is_seen(rt: HostRuntime) -> Result<(), Fail> {
     looks::<Brand, _>(&rt, rt.alloc(), Opened::new())
-}
-
-fn is_refused<J: Naming>(rt: &impl Wait, alloc: Global, opened: Opened, watchers: u32) -> bool
-    requires book { opened ≡ J.book }
-    requires may { (xs : List Entry) → J.may xs }
-{
-    match Board::new::<J>(opened, alloc, watchers) {
-        Ok((publisher, _)) => {
-            publisher.end(rt);
-            false
-        }
-        Err(fault) => fault == BoardFault::BadWatchers,
-    }
-}
-
-#[test]
-fn a_board_has_1_to_8_watchers(rt: HostRuntime) -> Result<(), Fail> {
-    assert!(rt; is_refused::<Brand>(&rt, rt.alloc(), Opened::new(), 0));
-    assert!(rt; is_refused::<Brand>(&rt, rt.alloc(), Opened::new(), 9));
-    assert!(rt; !is_refused::<Brand>(&rt, rt.alloc(), Opened::new(), 8));
-    Ok(())
 }
