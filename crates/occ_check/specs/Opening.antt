@@ -1,6 +1,6 @@
 -- What a statement of the code unfolds to, behind its declarations, and how large it is.
 -- Manual: combining processes.
-use Rattle.std.specs.Prelude.{List, [], ℕ, ◌+◌}
+use Rattle.std.specs.Prelude.{List, [], ℕ, ◌+◌, ⊤}
 use Rattle.occ_tree_grammar.specs.declared.tree.process.Process.TheVariants as processes
 use Rattle.occ_tree_grammar.specs.declared.tree.process.Stmt.TheVariants as stmts
 use Rattle.occ_tree_grammar.specs.Expressions.Trees.{expression_of}
@@ -9,6 +9,8 @@ use Rattle.occ_tree_grammar.specs.Lines.HeadViews.{action_of}
 use Rattle.occ_tree_grammar.specs.Processes.Views.{process_of, arm_of, choice_of, held_processes, held_arms, held_choices, held_selections, held_variants, held_decls}
 use Rattle.occ_tree_grammar.specs.Processes.Trees.{Decls}
 use Rattle.occ_tree_grammar.specs.declared.tree.expr.Expr.{Expr}
+use Rattle.occ_tree_grammar.specs.declared.tree.line.Action.{Action}
+use Rattle.occ_tree_grammar.specs.declared.tree.line.Action.TheVariants as actions
 use Rattle.occ_tree_grammar.specs.declared.tree.line.Replicator.{Replicator}
 use Rattle.occ_tree_grammar.specs.declared.tree.process.Process.{Process}
 use Rattle.occ_tree_grammar.specs.declared.tree.process.Stmt.{Stmt}
@@ -32,6 +34,15 @@ performing line (stmts.IfFor' r p c) = conditioned (each_of_choices line (replic
 performing line (stmts.Case' e s os) = selected line (expression_of e.value) (λ type. all_options (held_selections os) type none_chosen)
 performing line (stmts.While' e p n) = looped line (expression_of e.value) (unfolded (process_of n))
 performing line (stmts.Variants' v s vs) = taken_by_variant line (var_of v) (λ p. all_variants (held_variants vs) p [])
+
+-- a process of one line that is no call
+abbrev pub IsNoCall : Action → Type 0
+IsNoCall (actions.Call f es) = ⊥
+IsNoCall actions.Skip = ⊤
+IsNoCall actions.Stop = ⊤
+IsNoCall (actions.Assign vs es) = ⊤
+IsNoCall (actions.Input i) = ⊤
+IsNoCall (actions.Output v os) = ⊤
 
 -- the declarations of a process, its line and its statement
 abbrev pub declarations_in : Process → Decls

@@ -7,11 +7,11 @@ ghost use Rattle.occ_tree_grammar.specs.declared.tree.process.Arm.TheBlock.{hidd
 ghost use Rattle.occ_term.specs.View.{term_of};
 ghost use Rattle.occ_check_meaning.specs.Performing.{acted};
 ghost use Rattle.occ_check_opened.specs.Opened.{Begins, IsReady, IsStepReady, LeavesWithin, OpensAt, left_weight, statement_left, step_left, step_weight, body_unfolded};
-ghost use Rattle.occ_check_opened.specs.Progress.{body_weight, counted, nodes_weight, weight_at, KeepsOpen};
-ghost use Rattle.occ_check.specs.Opening.{declarations_in, line_in, performing as statement_unfolded, statement_in, statement_size, par_of, seq_for, seq_of, while_of};
+ghost use Rattle.occ_check_opened.specs.Progress.{body_weight, counted, nodes_weight, weight_at, KeepsOpen, OpensNothing};
+ghost use Rattle.occ_check.specs.Opening.{IsNoCall, declarations_in, line_in, performing as statement_unfolded, statement_in, statement_size, par_of, seq_for, seq_of, while_of};
 ghost use Rattle.occ_check_opened.specs.Weights.{decl_nodes, process_nodes};
 ghost use Rattle.occ_check_opened.specs.declared.unfolder.Unfolder.{Unfolder as UnfolderState};
-ghost use Rattle.occ_check_opened.specs.OneLine.{call_action};
+ghost use Rattle.occ_check_opened.specs.OneLine.{PerformsAt, call_action};
 
 use occ_check_arms::arms::{arms_opened, each_arm_opened, listed_arms};
 use occ_check_arms::variants::{listed_variants, variants_opened};
@@ -109,20 +109,28 @@ fn action_opened<'t>(
 {
     match action {
         Action::Call(name, actuals) => call_opened(unfolder, alloc, here, name, actuals),
-        Action::Skip => Ok(done(here, unfolder.skipped(here.depth)?)),
-        Action::Stop => Ok(done(here, unfolder.stopped(here.depth)?)),
-        Action::Assign(variables, values) => {
-            let term = unfolder.assigned(alloc, here, variables, values)?;
-            Ok(done(here, term))
-        }
-        Action::Input(input) => {
-            let term = unfolder.received(alloc, here, input)?;
-            Ok(done(here, term))
-        }
-        Action::Output(channel, outs) => {
-            let term = unfolder.output(alloc, here, channel, outs)?;
-            Ok(done(here, term))
-        }
+        _ => Ok(done(here, line_done(unfolder, alloc, here, action)?)),
+    }
+}
+
+/// The term of a process of one line that is no call.
+fn line_done(
+    unfolder: &mut Unfolder<'_>,
+    alloc: Global,
+    here: Here,
+    action: &Action,
+) -> Result<Term, CheckFault>
+    requires { IsNoCall action.now }
+    ensures term { PerformsAt result unfolder.old unfolder.new here (action_of action.now) }
+    ensures kept { OpensNothing result unfolder.old unfolder.new }
+{
+    match action {
+        Action::Call(_, _) => unreachable!(),
+        Action::Skip => unfolder.skipped(here.depth),
+        Action::Stop => unfolder.stopped(here.depth),
+        Action::Assign(variables, values) => unfolder.assigned(alloc, here, variables, values),
+        Action::Input(input) => unfolder.received(alloc, here, input),
+        Action::Output(channel, outs) => unfolder.output(alloc, here, channel, outs),
     }
 }
 

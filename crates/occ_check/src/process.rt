@@ -21,13 +21,13 @@ use occ_check_opened::here::Here;
 use occ_check_opened::opened::{Left, Opened, Step};
 use occ_check_opened::unfolder::Unfolder;
 use occ_held::Held;
+use occ_held::parts::Listed;
 use occ_term::{
     Arm as TermArm, Branch, Choice as TermChoice, Primitive, Protocol, Selection as TermSelection,
     Term, Variant as TermVariant,
 };
 use occ_tree_grammar::tree::line::Replicator;
 use occ_tree_grammar::tree::process::{Arm, Choice, Process, Selection, Variant};
-use sqlite_items::Items;
 use std::alloc::Global;
 
 /// What a process unfolds to.
@@ -121,12 +121,12 @@ fn in_turn<'t>(
     alloc: Global,
     here: Here,
     processes: &'t [Process],
-) -> Result<Items<Term>, CheckFault>
+) -> Result<Listed<Term>, CheckFault>
     requires { here.depth ≤ 200 }
     ensures terms { Reads terms_of result unfolder.old unfolder.new here (seq_parts processes.now) }
     ensures kept { OnOk result (Restores unfolder.old.blocks unfolder.new.blocks) }
 {
-    let mut terms = Items::new(alloc);
+    let mut terms = Listed::new(alloc);
     for process in processes {
         terms.push(process_unfolded(unfolder, alloc, here, process)?)?;
     }
@@ -140,13 +140,13 @@ fn beside<'t>(
     alloc: Global,
     here: Here,
     processes: &'t [Process],
-) -> Result<Items<Branch>, CheckFault>
+) -> Result<Listed<Branch>, CheckFault>
     requires { here.depth ≤ 200 }
     ensures branches { Reads branches_of result unfolder.old unfolder.new here
         (par_parts processes.now) }
     ensures kept { OnOk result (Restores unfolder.old.blocks unfolder.new.blocks) }
 {
-    let mut branches = Items::new(alloc);
+    let mut branches = Listed::new(alloc);
     for process in processes {
         let number = unfolder.numbers.more_processes()?;
         let body = process_unfolded(unfolder, alloc, here, process)?;
@@ -165,14 +165,14 @@ fn copies_unfolded<'t>(
     first: i64,
     count: u64,
     body: &'t Process,
-) -> Result<Items<Branch>, CheckFault>
+) -> Result<Listed<Branch>, CheckFault>
     requires depth { here.depth ≤ 200 }
     requires last { (first +ℤ pos count) ≤ℤ pos 2147483648 }
     ensures branches { ReadsCopies result unfolder.old unfolder.new here replicator.now body.now
         count first }
     ensures kept { OnOk result (Restores unfolder.old.blocks unfolder.new.blocks) }
 {
-    let mut branches = Items::new(alloc);
+    let mut branches = Listed::new(alloc);
     let mut value = first;
     let mut left = count;
     'copies: while left > 0 {
@@ -199,12 +199,12 @@ fn choices_unfolded<'t>(
     alloc: Global,
     here: Here,
     list: &'t [Choice],
-) -> Result<Items<TermChoice>, CheckFault>
+) -> Result<Listed<TermChoice>, CheckFault>
     requires { here.depth ≤ 200 }
     ensures choices { Reads choices_of result unfolder.old unfolder.new here (if_choices list.now) }
     ensures kept { OnOk result (Restores unfolder.old.blocks unfolder.new.blocks) }
 {
-    let mut choices = Items::new(alloc);
+    let mut choices = Listed::new(alloc);
     for choice in list {
         let base = unfolder.blocks.len();
         let opened = choice_opened(unfolder, alloc, here, choice)?;
@@ -236,14 +236,14 @@ fn options_unfolded<'t>(
     here: Here,
     primitive: Primitive,
     selections: &'t [Selection],
-) -> Result<Items<TermSelection>, CheckFault>
+) -> Result<Listed<TermSelection>, CheckFault>
     requires { here.depth ≤ 200 }
     ensures options { Reads options_of result unfolder.old unfolder.new here
         (case_options selections.now primitive) }
     ensures kept { OnOk result (Restores unfolder.old.blocks unfolder.new.blocks) }
 {
     let mut chosen = none_chosen(alloc);
-    let mut options = Items::new(alloc);
+    let mut options = Listed::new(alloc);
     for selection in selections {
         let base = unfolder.blocks.len();
         let opened = option_opened(unfolder, alloc, here, primitive, &mut chosen, selection)?;
@@ -267,14 +267,14 @@ fn variants_unfolded<'t>(
     here: Here,
     protocol: &Protocol,
     list: &'t [Variant],
-) -> Result<Items<TermVariant>, CheckFault>
+) -> Result<Listed<TermVariant>, CheckFault>
     requires { here.depth ≤ 200 }
     ensures variants { Reads variants_of result unfolder.old unfolder.new here
         (case_variants list.now protocol.now) }
     ensures kept { OnOk result (Restores unfolder.old.blocks unfolder.new.blocks) }
 {
     let mut tags = Tags::new(alloc, protocol)?;
-    let mut variants = Items::new(alloc);
+    let mut variants = Listed::new(alloc);
     for variant in list {
         let base = unfolder.blocks.len();
         let tag = tags.next(line_of(variant), tag_of(variant))?;
@@ -298,12 +298,12 @@ fn arms_unfolded<'t>(
     alloc: Global,
     here: Here,
     list: &'t [Arm],
-) -> Result<Items<TermArm>, CheckFault>
+) -> Result<Listed<TermArm>, CheckFault>
     requires { here.depth ≤ 200 }
     ensures arms { Reads arms_of result unfolder.old unfolder.new here (alt_arms list.now) }
     ensures kept { OnOk result (Restores unfolder.old.blocks unfolder.new.blocks) }
 {
-    let mut arms = Items::new(alloc);
+    let mut arms = Listed::new(alloc);
     for arm in list {
         let base = unfolder.blocks.len();
         let opened = arm_opened(unfolder, alloc, here, arm)?;

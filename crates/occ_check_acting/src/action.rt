@@ -17,6 +17,7 @@ use occ_check_names::typed::{Part, Typed};
 use occ_check_typing::expression::{as_single, typed, typed_as};
 use occ_check_typing::item::{channel_of, parts_after, sent, tag_in, variable_of};
 use occ_check_typing::types::are_same_sizes;
+use occ_held::parts;
 use occ_term::{Item, Place, Primitive, Protocol, Reception, Target, Term, TermExpr, Variant};
 use occ_tree_grammar::tree::expr::Expr;
 use occ_tree_grammar::tree::line::{Input, OneOrMore, Out, Var};
@@ -397,7 +398,7 @@ fn only_variant(
     tag: u32,
     targets: Items<Target>,
     body: Term,
-) -> Result<Items<Variant>, AllocError>
+) -> Result<parts::Listed<Variant>, AllocError>
     ensures { Makes variants_of result (only_variant tag targets body) }
 {
     let variant = Variant {
@@ -406,7 +407,7 @@ fn only_variant(
         targets,
         body,
     };
-    let mut variants = Items::new(alloc);
+    let mut variants = parts::Listed::new(alloc);
     variants.push(variant)?;
     Ok(variants)
 }

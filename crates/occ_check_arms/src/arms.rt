@@ -19,6 +19,7 @@ use occ_check_names::numbers::deeper;
 use occ_check_opened::here::Here;
 use occ_check_opened::opened::{Left, Opened, Over, only_arm};
 use occ_check_opened::unfolder::Unfolder;
+use occ_held::parts::Listed;
 use occ_term::{
     Arm as TermArm, Declaration, Place, Protocol, Reception, Term, TermExpr, Variant as TermVariant,
 };
@@ -52,7 +53,7 @@ impl Drop for GuardedHead {
 
 impl GuardedHead {
     /// The arm with its process.
-    pub fn with_process(self, alloc: Global, body: Term) -> Result<Items<TermArm>, AllocError>
+    pub fn with_process(self, alloc: Global, body: Term) -> Result<Listed<TermArm>, AllocError>
         ensures { Makes arms_of result (arm_with self (term_of body)) }
     {
         let GuardedHead { heads, guard } = self;
@@ -83,8 +84,8 @@ impl VariantsHead {
     pub fn with_variants(
         self,
         alloc: Global,
-        variants: Items<TermVariant>,
-    ) -> Result<Items<TermArm>, AllocError>
+        variants: Listed<TermVariant>,
+    ) -> Result<Listed<TermArm>, AllocError>
         ensures { Makes arms_of result (variants_within self (variants_of variants)) }
     {
         let VariantsHead {
@@ -115,8 +116,8 @@ impl ArmsHead {
     pub fn with_arms(
         self,
         alloc: Global,
-        arms: Items<TermArm>,
-    ) -> Result<Items<TermArm>, AllocError>
+        arms: Listed<TermArm>,
+    ) -> Result<Listed<TermArm>, AllocError>
         ensures { Makes arms_of result (arms_within self (arms_of arms)) }
     {
         let ArmsHead { heads, over } = self;
@@ -282,8 +283,8 @@ fn guard_opened<'t>(
 fn arms_behind(
     alloc: Global,
     heads: Items<Declaration>,
-    arms: Items<TermArm>,
-) -> Result<Items<TermArm>, AllocError>
+    arms: Listed<TermArm>,
+) -> Result<Listed<TermArm>, AllocError>
     ensures { Makes arms_of result (arms_headed heads arms) }
 {
     let mut heads = heads;

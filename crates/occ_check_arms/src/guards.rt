@@ -19,11 +19,10 @@ use occ_check_opened::one_line::names_at;
 use occ_check_opened::opened::only_arm;
 use occ_check_opened::unfolder::Unfolder;
 use occ_check_typing::item::channel_of;
-use occ_held::Held;
+use occ_held::{Held, parts};
 use occ_term::{Arm as TermArm, Place, Protocol, Term, TermExpr};
 use occ_tree_grammar::tree::expr::Expr;
 use occ_tree_grammar::tree::line::{Input, VariantGuard};
-use sqlite_items::Items;
 use std::alloc::{AllocError, Global};
 
 /// The guard of an arm with an input: its Boolean, its channel and what it stores.
@@ -56,7 +55,11 @@ impl Drop for ArmGuard {
 
 impl ArmGuard {
     /// The arm with its process.
-    pub fn with_process(self, alloc: Global, body: Term) -> Result<Items<TermArm>, AllocError>
+    pub fn with_process(
+        self,
+        alloc: Global,
+        body: Term,
+    ) -> Result<parts::Listed<TermArm>, AllocError>
         ensures { Makes arms_of result (guarded_by self (term_of body)) }
     {
         match self {
@@ -114,7 +117,11 @@ pub(crate) fn guarding_variants_at(
 }
 
 /// The arm of a guard with an input, and the process behind it.
-fn input_arm(alloc: Global, guarded: Guarded, body: Term) -> Result<Items<TermArm>, AllocError>
+fn input_arm(
+    alloc: Global,
+    guarded: Guarded,
+    body: Term,
+) -> Result<parts::Listed<TermArm>, AllocError>
     ensures { Makes arms_of result (input_guarded guarded (term_of body)) }
 {
     let Guarded {

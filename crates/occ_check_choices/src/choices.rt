@@ -17,6 +17,7 @@ use occ_check_names::numbers::deeper;
 use occ_check_opened::here::Here;
 use occ_check_opened::opened::{Left, Opened, Over, only_choice};
 use occ_check_opened::unfolder::Unfolder;
+use occ_held::parts::Listed;
 use occ_term::{Choice as TermChoice, Declaration, Term, TermExpr};
 use occ_tree_grammar::tree::line::Replicator;
 use occ_tree_grammar::tree::process::{Choice, Decl, Process};
@@ -46,7 +47,7 @@ impl Drop for WhenHead {
 
 impl WhenHead {
     /// The choice with its process.
-    pub fn with_process(self, alloc: Global, body: Term) -> Result<Items<TermChoice>, AllocError>
+    pub fn with_process(self, alloc: Global, body: Term) -> Result<Listed<TermChoice>, AllocError>
         ensures { Makes choices_of result (choice_with self (term_of body)) }
     {
         let WhenHead { heads, test } = self;
@@ -72,8 +73,8 @@ impl ChoicesHead {
     pub fn with_choices(
         self,
         alloc: Global,
-        choices: Items<TermChoice>,
-    ) -> Result<Items<TermChoice>, AllocError>
+        choices: Listed<TermChoice>,
+    ) -> Result<Listed<TermChoice>, AllocError>
         ensures { Makes choices_of result (choices_within self (choices_of choices)) }
     {
         let ChoicesHead { heads, over } = self;
@@ -195,8 +196,8 @@ fn chosen_opened<'t>(
 fn choices_behind(
     alloc: Global,
     heads: Items<Declaration>,
-    choices: Items<TermChoice>,
-) -> Result<Items<TermChoice>, AllocError>
+    choices: Listed<TermChoice>,
+) -> Result<Listed<TermChoice>, AllocError>
     ensures { Makes choices_of result (choices_headed heads choices) }
 {
     let mut heads = heads;

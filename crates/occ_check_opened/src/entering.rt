@@ -32,6 +32,7 @@ use occ_check_typing::declaration::{
 };
 use occ_check_typing::replicator::{Indexed, index_replicator};
 use occ_held::letters::Letters;
+use occ_held::parts::Listed;
 use occ_term::{Declaration, Replicator, Term};
 use occ_tree_grammar::tree::expr::Expr;
 use occ_tree_grammar::tree::line::{OneOrMore, Replicator as ReplicatorTree};
@@ -56,7 +57,7 @@ pub fn headed(alloc: Global, heads: Items<Declaration>, term: Term) -> Result<Te
         parts.push(set(head))?;
     }
     parts.reverse();
-    Ok(Term::Seq(Items::from_vec(parts)))
+    Ok(Term::Seq(Listed::from_vec(parts)))
 }
 
 /// The term that sets a declaration.

@@ -11,13 +11,14 @@ ghost use Rattle.occ_check_opened.specs.declared.unfolder.Unfolder.{Unfolder};
 use crate::entering::headed;
 use crate::here::Here;
 use occ_check_names::fault::CheckFault;
+use occ_held::parts::{Listed, Nested};
 use occ_term::{
     Arm as TermArm, Choice as TermChoice, Declaration, Place, Primitive, Protocol, Replicator,
     Term, TermExpr,
 };
 use occ_tree_grammar::tree::line::Replicator as ReplicatorTree;
 use occ_tree_grammar::tree::process::{Arm, Choice, Process, Selection, Variant};
-use sqlite_items::{Boxed, Items};
+use sqlite_items::Items;
 use std::alloc::{AllocError, Global};
 
 /// A statement whose first steps are done: what is left of it, and where that stands.
@@ -88,8 +89,8 @@ impl Around {
         ensures memory { IfErr result (λ e. e ≡ Memory) }
     {
         match self {
-            Around::While(test) => Ok(Term::While(test, Boxed::new(alloc, body)?)),
-            Around::Each(over) => Ok(Term::Each(over, Boxed::new(alloc, body)?)),
+            Around::While(test) => Ok(Term::While(test, Nested::new(alloc, body)?)),
+            Around::Each(over) => Ok(Term::Each(over, Nested::new(alloc, body)?)),
             Around::Called(heads) => headed(alloc, heads, body),
         }
     }
@@ -128,8 +129,8 @@ impl Over {
     pub fn with_choices(
         self,
         alloc: Global,
-        choices: Items<TermChoice>,
-    ) -> Result<Items<TermChoice>, AllocError>
+        choices: Listed<TermChoice>,
+    ) -> Result<Listed<TermChoice>, AllocError>
         ensures { IfOk result (λ cs. choices_of cs ≡ each_choices self (choices_of choices)) }
     {
         match self {
@@ -144,8 +145,8 @@ impl Over {
     pub fn with_arms(
         self,
         alloc: Global,
-        arms: Items<TermArm>,
-    ) -> Result<Items<TermArm>, AllocError>
+        arms: Listed<TermArm>,
+    ) -> Result<Listed<TermArm>, AllocError>
         ensures { IfOk result (λ xs. arms_of xs ≡ each_arms self (arms_of arms)) }
     {
         match self {
@@ -179,19 +180,19 @@ impl<'t> Opened<'t> {
 }
 
 /// A choice alone.
-pub fn only_choice(alloc: Global, choice: TermChoice) -> Result<Items<TermChoice>, AllocError>
+pub fn only_choice(alloc: Global, choice: TermChoice) -> Result<Listed<TermChoice>, AllocError>
     ensures { IfOk result (λ cs. choices_of cs ≡ choice_of choice no_choices) }
 {
-    let mut choices = Items::new(alloc);
+    let mut choices = Listed::new(alloc);
     choices.push(choice)?;
     Ok(choices)
 }
 
 /// An arm alone.
-pub fn only_arm(alloc: Global, arm: TermArm) -> Result<Items<TermArm>, AllocError>
+pub fn only_arm(alloc: Global, arm: TermArm) -> Result<Listed<TermArm>, AllocError>
     ensures { IfOk result (λ xs. arms_of xs ≡ arm_of arm no_arms) }
 {
-    let mut arms = Items::new(alloc);
+    let mut arms = Listed::new(alloc);
     arms.push(arm)?;
     Ok(arms)
 }

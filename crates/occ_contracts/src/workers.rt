@@ -1,5 +1,7 @@
 //! Runs of several threads: the choices fix what they came to.
 ghost use Rattle.std.specs.Prelude.{◌≡◌, ◌≢◌, ◌<◌, ◌≤◌, ◌⊎◌, IfErr, IfOk, IsErrOf, None, false, true};
+ghost use Rattle.occ_board.specs.Traces.{held_by};
+ghost use Rattle.occ_run.specs.Telling.{MayTell};
 ghost use Rattle.occ_run.specs.declared.fault.RunFault.TheVariants.{BadWorkers, Memory, Spawn};
 ghost use Rattle.occ_contracts.specs.Agreement.{BothGive};
 ghost use Rattle.occ_contracts.specs.Networks.{told};
@@ -51,22 +53,8 @@ pub fn workers_twice<R: Threads + Wait + Sync, G: Gate + Sync>(
     )
 }
 
-/// A run by no worker is refused.
-pub fn run_by_nobody<R: Threads + Wait + Sync, G: Gate + Sync>(
-    rt: &R,
-    alloc: Global,
-    code: &Code,
-    keyboard: &[u8],
-    limit: u32,
-    gate: &G,
-) -> Result<Outcome, RunFault>
-    ensures { IsErrOf result BadWorkers }
-{
-    run_workers(rt, alloc, code, keyboard, 0, limit, gate)
-}
-
-/// So is one by more than 64.
-pub fn run_by_too_many<R: Threads + Wait + Sync, G: Gate + Sync>(
+/// A run is refused by no worker and by more than 64, and by 1 to 64 only where a thread or memory is.
+pub fn run_by_workers<R: Threads + Wait + Sync, G: Gate + Sync>(
     rt: &R,
     alloc: Global,
     code: &Code,
@@ -75,30 +63,15 @@ pub fn run_by_too_many<R: Threads + Wait + Sync, G: Gate + Sync>(
     limit: u32,
     gate: &G,
 ) -> Result<Outcome, RunFault>
-    requires { 64 < workers }
-    ensures { IsErrOf result BadWorkers }
+    ensures none { workers ≡ 0 → IsErrOf result BadWorkers }
+    ensures many { 64 < workers → IsErrOf result BadWorkers }
+    ensures crew { 0 < workers → workers ≤ 64
+        → IfErr result (λ e. (e ≡ Spawn) ⊎ (e ≡ Memory)) }
 {
     run_workers(rt, alloc, code, keyboard, workers, limit, gate)
 }
 
-/// A run by 1 to 64 workers is refused only where a thread or memory is.
-pub fn run_by_a_crew<R: Threads + Wait + Sync, G: Gate + Sync>(
-    rt: &R,
-    alloc: Global,
-    code: &Code,
-    keyboard: &[u8],
-    workers: u32,
-    limit: u32,
-    gate: &G,
-) -> Result<Outcome, RunFault>
-    requires some { 0 < workers }
-    requires few { workers ≤ 64 }
-    ensures { IfErr result (λ e. (e ≡ Spawn) ⊎ (e ≡ Memory)) }
-{
-    run_workers(rt, alloc, code, keyboard, workers, limit, gate)
-}
-
-/// So it is of a run to a network.
+/// A run to a network by 1 to 64 workers is refused only where a thread or memory is.
 pub fn network_by_a_crew<R: Threads + Wait + Sync, G: Gate + Sync>(
     rt: &R,
     alloc: Global,
@@ -115,8 +88,8 @@ pub fn network_by_a_crew<R: Threads + Wait + Sync, G: Gate + Sync>(
     run_network(rt, alloc, code, keyboard, workers, limit, gate)
 }
 
-/// A watched run by 1 to 64 workers is not refused for their number.
-pub fn watched_by_a_crew<J: Naming, R: Threads + Wait + Sync, G: Gate + Sync>(
+/// A watched run is refused for the number of its workers by none and by more than 64, and not by 1 to 64.
+pub fn watched_by_workers<J: Naming, R: Threads + Wait + Sync, G: Gate + Sync>(
     rt: &R,
     alloc: Global,
     code: &Code,
@@ -127,14 +100,15 @@ pub fn watched_by_a_crew<J: Naming, R: Threads + Wait + Sync, G: Gate + Sync>(
     publisher: Publisher<J>,
 ) -> Result<(Outcome, Publisher<J>, Note<J>), RunFault>
     requires going { publisher.closed ≡ false }
-    requires some { 0 < workers }
-    requires few { workers ≤ 64 }
-    ensures { IfErr result (λ e. e ≢ BadWorkers) }
+    requires may { MayTell J.may code.now keyboard.now limit (held_by publisher) }
+    ensures none { workers ≡ 0 → IsErrOf result BadWorkers }
+    ensures many { 64 < workers → IsErrOf result BadWorkers }
+    ensures crew { 0 < workers → workers ≤ 64 → IfErr result (λ e. e ≢ BadWorkers) }
 {
     run_watched(rt, alloc, code, keyboard, workers, limit, gate, publisher)
 }
 
-/// So it is of a watched run to a network.
+/// A watched run to a network by 1 to 64 workers is not refused for their number.
 pub fn watched_network_by_a_crew<J: Naming, R: Threads + Wait + Sync, G: Gate + Sync>(
     rt: &R,
     alloc: Global,
@@ -146,45 +120,12 @@ pub fn watched_network_by_a_crew<J: Naming, R: Threads + Wait + Sync, G: Gate + 
     publisher: Publisher<J>,
 ) -> Result<(Network, Publisher<J>, Note<J>), RunFault>
     requires going { publisher.closed ≡ false }
+    requires may { MayTell J.may code.now keyboard.now limit (held_by publisher) }
     requires some { 0 < workers }
     requires few { workers ≤ 64 }
     ensures { IfErr result (λ e. e ≢ BadWorkers) }
 {
     watch_network(rt, alloc, code, keyboard, workers, limit, gate, publisher)
-}
-
-/// A watched run by no worker is refused.
-pub fn watched_by_nobody<J: Naming, R: Threads + Wait + Sync, G: Gate + Sync>(
-    rt: &R,
-    alloc: Global,
-    code: &Code,
-    keyboard: &[u8],
-    limit: u32,
-    gate: &G,
-    publisher: Publisher<J>,
-) -> Result<(Outcome, Publisher<J>, Note<J>), RunFault>
-    requires { publisher.closed ≡ false }
-    ensures { IsErrOf result BadWorkers }
-{
-    run_watched(rt, alloc, code, keyboard, 0, limit, gate, publisher)
-}
-
-/// So is one by more than 64.
-pub fn watched_by_too_many<J: Naming, R: Threads + Wait + Sync, G: Gate + Sync>(
-    rt: &R,
-    alloc: Global,
-    code: &Code,
-    keyboard: &[u8],
-    workers: u32,
-    limit: u32,
-    gate: &G,
-    publisher: Publisher<J>,
-) -> Result<(Outcome, Publisher<J>, Note<J>), RunFault>
-    requires going { publisher.closed ≡ false }
-    requires many { 64 < workers }
-    ensures { IsErrOf result BadWorkers }
-{
-    run_watched(rt, alloc, code, keyboard, workers, limit, gate, publisher)
 }
 
 /// A run takes no more turns than it may, and as many unless it ends.
@@ -223,6 +164,7 @@ pub fn watched_outcome_twice<J: Naming, R: Threads + Wait + Sync, G: Gate + Sync
 )
     requires open { one.closed ≡ false }
     requires same { other ≡ one }
+    requires may { MayTell J.may code.now keyboard.now limit (held_by one) }
     ensures told { BothGive
         (λ a b. a.0.network.choices ≡ b.0.network.choices → told a.0 ≡ told b.0) result.0 result.1 }
     ensures published { BothGive
@@ -253,6 +195,7 @@ pub fn watched_twice<J: Naming, R: Threads + Wait + Sync, G: Gate + Sync>(
 )
     requires open { one.closed ≡ false }
     requires same { other ≡ one }
+    requires may { MayTell J.may code.now keyboard.now limit (held_by one) }
     ensures network { BothGive (λ a b. a.0.choices ≡ b.0.choices → a.0 ≡ b.0) result.0 result.1 }
     ensures published { BothGive (λ a b. a.0.choices ≡ b.0.choices → a.1 ≡ b.1)
         result.0 result.1 }

@@ -83,6 +83,13 @@ impl<T> Listed<T> {
         }
     }
 
+    /// The values of a `Vec`.
+    pub fn from_vec(items: Vec<T>) -> Listed<T>
+        ensures { result ≡ items.items }
+    {
+        Listed { items }
+    }
+
     /// How many values there are.
     pub fn len(&self) -> usize
         ensures { result ≡ length self.now }

@@ -1,11 +1,11 @@
 //! Terms: what an unfolded program does.
 
 use crate::expression::{Declaration, Item, Place, Replicator, Target, TermExpr};
-use sqlite_items::{Boxed, Items};
+use occ_held::parts::{Listed, Nested};
+use sqlite_items::Items;
 
 /// A process, unfolded. Calls stand as their bodies and a replicated PAR as its copies.
 #[cycle(term)]
-#[derive(Drop)]
 pub enum Term {
     /// SKIP: does nothing.
     Skip,
@@ -18,30 +18,52 @@ pub enum Term {
     /// An output: the channel, the number of its tag where it has one, and the items.
     Output(Place, Option<u32>, Items<Item>),
     /// An input of variants: the channel and the variants.
-    VariantInput(Place, Items<Variant>),
+    VariantInput(Place, Listed<Variant>),
     /// SEQ: one after the other.
-    Seq(Items<Term>),
+    Seq(Listed<Term>),
     /// PAR: its branches beside each other.
-    Par(Items<Branch>),
+    Par(Listed<Branch>),
     /// ALT, by priority where the truth value says so.
-    Alt(bool, Items<Arm>),
+    Alt(bool, Listed<Arm>),
     /// IF: the first choice whose condition is TRUE.
-    If(Items<Choice>),
+    If(Listed<Choice>),
     /// CASE: the option with the selector's value.
-    Case(TermExpr, Items<Selection>),
+    Case(TermExpr, Listed<Selection>),
     /// WHILE: the condition and the body.
-    While(TermExpr, Boxed<Term>),
+    While(TermExpr, Nested<Term>),
     /// A replicated SEQ: the body for each value of the index.
-    Each(Replicator, Boxed<Term>),
+    Each(Replicator, Nested<Term>),
     /// A declared variable begins: the line, the number of its first cell, and how many cells it has.
     Clear(u32, u32, u32),
     /// A named value: the line, the number of its first cell, and the value.
     Local(u32, u32, Item),
 }
 
+impl Drop for Term {
+    #[cycle(term)]
+    fn drop(self) {
+        match self {
+            Term::Skip => {}
+            Term::Stop => {}
+            Term::Assign(_, _) => {}
+            Term::Input(_, _) => {}
+            Term::Output(_, _, _) => {}
+            Term::VariantInput(_, _) => {}
+            Term::Seq(_) => {}
+            Term::Par(_) => {}
+            Term::Alt(_, _) => {}
+            Term::If(_) => {}
+            Term::Case(_, _) => {}
+            Term::While(_, _) => {}
+            Term::Each(_, _) => {}
+            Term::Clear(_, _, _) => {}
+            Term::Local(_, _, _) => {}
+        }
+    }
+}
+
 /// A branch of a PAR.
 #[cycle(term)]
-#[derive(Drop)]
 pub struct Branch {
     /// The number of its process.
     pub number: u32,
@@ -49,33 +71,59 @@ pub struct Branch {
     pub body: Term,
 }
 
+impl Drop for Branch {
+    #[cycle(term)]
+    fn drop(self) {
+        let Branch { number: _, body: _ } = self;
+    }
+}
+
 /// An arm of an ALT.
 #[cycle(term)]
-#[derive(Drop)]
 pub enum Arm {
     /// SKIP behind a Boolean, and its process.
     SkipArm(TermExpr, Term),
     /// An input: the Boolean, where there is one, the channel, and the list that takes the message.
     InputArm(Option<TermExpr>, Place, Reception),
     /// Arms behind a declaration.
-    DeclaredArms(Declaration, Items<Arm>),
+    DeclaredArms(Declaration, Listed<Arm>),
     /// Arms for each value of an index.
-    EachArm(Replicator, Items<Arm>),
+    EachArm(Replicator, Listed<Arm>),
+}
+
+impl Drop for Arm {
+    #[cycle(term)]
+    fn drop(self) {
+        match self {
+            Arm::SkipArm(_, _) => {}
+            Arm::InputArm(_, _, _) => {}
+            Arm::DeclaredArms(_, _) => {}
+            Arm::EachArm(_, _) => {}
+        }
+    }
 }
 
 /// The list that a message is taken by, and what is done then.
 #[cycle(term)]
-#[derive(Drop)]
 pub enum Reception {
     /// The targets, and the process after them.
     Plain(Items<Target>, Term),
     /// The variants, one of which takes the message by its tag.
-    Tagged(Items<Variant>),
+    Tagged(Listed<Variant>),
+}
+
+impl Drop for Reception {
+    #[cycle(term)]
+    fn drop(self) {
+        match self {
+            Reception::Plain(_, _) => {}
+            Reception::Tagged(_) => {}
+        }
+    }
 }
 
 /// A variant of an input.
 #[cycle(term)]
-#[derive(Drop)]
 pub struct Variant {
     /// The number of its tag.
     pub tag: u32,
@@ -87,24 +135,55 @@ pub struct Variant {
     pub body: Term,
 }
 
+impl Drop for Variant {
+    #[cycle(term)]
+    fn drop(self) {
+        let Variant {
+            tag: _,
+            declarations: _,
+            targets: _,
+            body: _,
+        } = self;
+    }
+}
+
 /// A choice of an IF.
 #[cycle(term)]
-#[derive(Drop)]
 pub enum Choice {
     /// A condition and its process.
     When(TermExpr, Term),
     /// Choices behind a declaration.
-    DeclaredChoices(Declaration, Items<Choice>),
+    DeclaredChoices(Declaration, Listed<Choice>),
     /// Choices for each value of an index.
-    EachChoice(Replicator, Items<Choice>),
+    EachChoice(Replicator, Listed<Choice>),
+}
+
+impl Drop for Choice {
+    #[cycle(term)]
+    fn drop(self) {
+        match self {
+            Choice::When(_, _) => {}
+            Choice::DeclaredChoices(_, _) => {}
+            Choice::EachChoice(_, _) => {}
+        }
+    }
 }
 
 /// An option of a CASE.
 #[cycle(term)]
-#[derive(Drop)]
 pub enum Selection {
     /// The constants, what is declared before the process, and the process.
     Among(Items<i64>, Items<Declaration>, Term),
     /// ELSE: what is declared before the process, and the process.
     Otherwise(Items<Declaration>, Term),
+}
+
+impl Drop for Selection {
+    #[cycle(term)]
+    fn drop(self) {
+        match self {
+            Selection::Among(_, _, _) => {}
+            Selection::Otherwise(_, _) => {}
+        }
+    }
 }

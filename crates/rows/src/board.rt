@@ -1,9 +1,10 @@
 //! A board, and its watchers.
-ghost use Rattle.std.specs.Prelude.{◌≡◌, [], false};
+ghost use Rattle.std.specs.Prelude.{◌≡◌, List, [], false};
 ghost use Rattle.occ_board.specs.Traces.{publishing};
+ghost use Rattle.occ_term.specs.Runs.{Entry};
 
 use core::mem::replace_with;
-use occ_board::{Board, BoardFault, Naming, Opened, Publisher, Shown, Watcher};
+use occ_board::{Board, Naming, Opened, Publisher, Shown, Watcher};
 use occ_term::{End, Message, Name, Part, Parts, Primitive, Text};
 use std::alloc::{AllocError, Global};
 use std::marker::Brand;
@@ -51,7 +52,8 @@ fn read_thrice<J: Naming, R: Wait>(
     publisher: &mut Publisher<J>,
     watcher: Watcher<J>,
 ) -> Result<[(usize, u64); 3], Fail>
-    requires { publisher.old ≡ publishing [] [] false }
+    requires fresh { publisher.old ≡ publishing [] [] false }
+    requires may { (xs : List Entry) → J.may xs }
 {
     let (watcher, first) = read(watcher)?;
     let added = publisher.append(shown(alloc, 7)?).is_ok();
@@ -67,7 +69,8 @@ fn read_thrice<J: Naming, R: Wait>(
 }
 
 fn looks<J: Naming, R: Wait + Abort>(rt: &R, alloc: Global, opened: Opened) -> Result<(), Fail>
-    requires { opened ≡ J.book }
+    requires book { opened ≡ J.book }
+    requires may { (xs : List Entry) → J.may xs }
 {
     let (mut publisher, mut watchers) = match Board::new::<J>(opened, alloc, 8) {
         Ok(board) => board,
@@ -91,24 +94,4 @@ fn looks<J: Naming, R: Wait + Abort>(rt: &R, alloc: Global, opened: Opened) -> R
 #[test]
 fn a_published_entry_is_seen(rt: HostRuntime) -> Result<(), Fail> {
     looks::<Brand, _>(&rt, rt.alloc(), Opened::new())
-}
-
-fn is_refused<J: Naming>(rt: &impl Wait, alloc: Global, opened: Opened, watchers: u32) -> bool
-    requires { opened ≡ J.book }
-{
-    match Board::new::<J>(opened, alloc, watchers) {
-        Ok((publisher, _)) => {
-            publisher.end(rt);
-            false
-        }
-        Err(fault) => fault == BoardFault::BadWatchers,
-    }
-}
-
-#[test]
-fn a_board_has_1_to_8_watchers(rt: HostRuntime) -> Result<(), Fail> {
-    assert!(rt; is_refused::<Brand>(&rt, rt.alloc(), Opened::new(), 0));
-    assert!(rt; is_refused::<Brand>(&rt, rt.alloc(), Opened::new(), 9));
-    assert!(rt; !is_refused::<Brand>(&rt, rt.alloc(), Opened::new(), 8));
-    Ok(())
 }

@@ -6,8 +6,6 @@ mod board;
 #[cfg(test)]
 mod compared;
 #[cfg(test)]
-mod explored;
-#[cfg(test)]
 mod growths;
 #[cfg(test)]
 mod inputs;
@@ -15,10 +13,6 @@ mod inputs;
 mod known;
 #[cfg(test)]
 mod laws;
-#[cfg(test)]
-mod memory;
-#[cfg(test)]
-mod outcomes;
 #[cfg(test)]
 mod plans;
 #[cfg(test)]

@@ -23,14 +23,13 @@ fn outcome_of<R: Threads + Wait + Abort + Sync + AllocGlobal>(
     run_workers(rt, rt.alloc(), code, b"", workers, limit, &FreeGate).expect(rt, "refused")
 }
 
-/// Why a run by so many workers is refused.
-fn refusal_of<R: Threads + Wait + Sync + AllocGlobal, G: Gate + Sync>(
+/// Why a run by four workers is refused.
+fn refusal_of<R: Threads + Wait + Sync + AllocGlobal>(
     rt: &R,
     code: &Code,
-    workers: u32,
-    gate: &G,
+    gate: &Refusing,
 ) -> Option<RunFault> {
-    run_workers(rt, rt.alloc(), code, b"", workers, 100, gate).err()
+    run_workers(rt, rt.alloc(), code, b"", 4, 100, gate).err()
 }
 
 /// Such a run has come to its end, in so many turns.
@@ -50,10 +49,6 @@ fn check_letter(rt: &impl Abort, all: &Outcome) {
 #[test]
 fn workers_play_within_their_limit(rt: HostRuntime) {
     let code = code(rt.alloc(), LETTER).expect(&rt, "no code");
-    for workers in [0, 65] {
-        let refused = refusal_of(&rt, &code, workers, &FreeGate);
-        assert!(rt; refused == Some(RunFault::BadWorkers));
-    }
     let none = outcome_of(&rt, &code, 1, 0);
     assert!(rt; matches!(none.ending, Ending::Limit) && none.choices.is_empty());
     check_letter(&rt, &outcome_of(&rt, &code, 3, 10));
@@ -101,7 +96,7 @@ fn a_refused_turn_ends_the_run(rt: HostRuntime) {
         } else {
             None
         };
-        let met = refusal_of(&rt, &code, 4, &gate);
+        let met = refusal_of(&rt, &code, &gate);
         assert!(rt; met == wanted);
     }
 }

@@ -1,5 +1,0 @@
-use Rattle.rows.proofs.board.a_board_has_1_to_8_watchers.Given as goal
-
--- the boards that were just opened
-abbrev pub ghosts-is_refused : goal.ghosts-is_refused
-ghosts-is_refused g a = record { book = a.opened }
