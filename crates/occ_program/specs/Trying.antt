@@ -36,15 +36,15 @@ pub record IsTriedSeed (options : Options) (source keyboard : List ℕ) (limit f
 
 -- The choices are those of the seed that was tried last; of a source that the definitions refuse, for a fault that is told with
 -- status 1, those of the first seed.
-pub data IsTried (options : Options) (source keyboard : List ℕ) (limit first tries : ℕ) (plan : Plan) : Type 0 where
-  by_seed : (seed : ℕ) → IsTriedSeed options source keyboard limit first tries seed → choices_of plan ≡ seeded seed limit → IsTried options source keyboard limit first tries plan
-  by_first : (fault : PlayFault) → fault_status fault ≡ 1 → Refuses options source fault → choices_of plan ≡ seeded first limit → IsTried options source keyboard limit first tries plan
+pub data IsTriedPlan (options : Options) (source keyboard : List ℕ) (limit first tries : ℕ) (plan : Plan) : Type 0 where
+  by_seed : (seed : ℕ) → IsTriedSeed options source keyboard limit first tries seed → choices_of plan ≡ seeded seed limit → IsTriedPlan options source keyboard limit first tries plan
+  by_first : (fault : PlayFault) → fault_status fault ≡ 1 → Refuses options source fault → choices_of plan ≡ seeded first limit → IsTriedPlan options source keyboard limit first tries plan
 
 -- where the choices are those of a seed
-abbrev pub IsTriedFor : {Path : Type 0} → Options → (source keyboard : List ℕ) → (limit : ℕ) → Option Path → Option ℕ → (tries : ℕ) → Plan → Type 0
-IsTriedFor options source keyboard limit (Some path) seed tries plan = ⊤
-IsTriedFor options source keyboard limit None (Some first) tries plan = IsTried options source keyboard limit first tries plan
-IsTriedFor options source keyboard limit None None tries plan = ⊤
+abbrev pub IsTriedPlanFor : {Path : Type 0} → Options → (source keyboard : List ℕ) → (limit : ℕ) → Option Path → Option ℕ → (tries : ℕ) → Plan → Type 0
+IsTriedPlanFor options source keyboard limit (Some path) seed tries plan = ⊤
+IsTriedPlanFor options source keyboard limit None (Some first) tries plan = IsTriedPlan options source keyboard limit first tries plan
+IsTriedPlanFor options source keyboard limit None None tries plan = ⊤
 
 -- ---- private contracts alone cite what follows
 
