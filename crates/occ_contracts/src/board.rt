@@ -14,7 +14,8 @@ pub fn publish_all<J: Naming, R: Wait>(
     rt: &R,
     publisher: Publisher<J>,
 ) -> (Publisher<J>, Result<(), BoardFault>)
-    requires { publisher.closed ≡ false }
+    requires open { publisher.closed ≡ false }
+    requires may { J.may (held_by publisher) }
     ensures shown { OnOk result.1 (result.0.published ≡ held_by publisher) }
     ensures none { OnOk result.1 (result.0.pending ≡ []) }
     ensures open { result.0.closed ≡ false }
@@ -28,7 +29,8 @@ pub fn close_all<J: Naming, R: Wait>(
     rt: &R,
     publisher: Publisher<J>,
 ) -> (Publisher<J>, Result<(), BoardFault>)
-    requires { publisher.closed ≡ false }
+    requires open { publisher.closed ≡ false }
+    requires may { J.may (held_by publisher) }
     ensures shown { OnOk result.1 (result.0.published ≡ held_by publisher) }
     ensures none { OnOk result.1 (result.0.pending ≡ []) }
     ensures closed { OnOk result.1 (result.0.closed ≡ true) }
@@ -47,7 +49,9 @@ pub fn append_and_publish<J: Naming, R: Wait>(
     Result<(), (Shown, AllocError)>,
     Result<(), BoardFault>,
 )
-    requires { publisher.closed ≡ false }
+    requires open { publisher.closed ≡ false }
+    requires may { J.may (held_by publisher) }
+    requires more { J.may (held_by publisher ++ shown ∷ []) }
     ensures behind { BothGive (λ _ _. result.0.published ≡ held_by publisher ++ shown ∷ [])
         result.1 result.2 }
     ensures back { IfErr result.1 (λ b. b.0 ≡ shown) }
@@ -69,9 +73,10 @@ pub fn note_of_list<J: Naming>(publisher: Publisher<J>) -> (Publisher<J>, Note<J
     publisher.note()
 }
 
-/// A look lends a list as long as the one that the watcher has seen from then on.
+/// A look lends a list as long as the one that the watcher has seen from then on, and the board may show it.
 pub fn look_and_count<J: Naming>(watcher: Watcher<J>) -> Result<(Watcher<J>, usize), Watcher<J>>
     ensures counts { IfOk result (λ r. r.1 ≡ length r.0.seen) }
+    ensures may { IfOk result (λ r. J.may r.0.seen) }
     ensures knows { IfOk result (λ r. r.0.known.entries ≡ r.0.seen) }
     ensures sees_on { IfOk result (λ r. IsPrefix watcher.seen r.0.seen) }
     ensures refused { IfErr result
@@ -95,7 +100,8 @@ pub fn no_watchers<J: Naming>(
     opened: Opened,
     alloc: Global,
 ) -> Result<(Publisher<J>, Vec<Watcher<J>>), BoardFault>
-    requires { opened ≡ J.book }
+    requires book { opened ≡ J.book }
+    requires may { J.may [] }
     ensures { result ≡ Err BadWatchers }
 {
     Board::new(opened, alloc, 0)
@@ -106,7 +112,8 @@ pub fn too_many_watchers<J: Naming>(
     opened: Opened,
     alloc: Global,
 ) -> Result<(Publisher<J>, Vec<Watcher<J>>), BoardFault>
-    requires { opened ≡ J.book }
+    requires book { opened ≡ J.book }
+    requires may { J.may [] }
     ensures { result ≡ Err BadWatchers }
 {
     Board::new(opened, alloc, 9)

@@ -1,5 +1,7 @@
 //! Runs of several threads: the choices fix what they came to.
 ghost use Rattle.std.specs.Prelude.{◌≡◌, ◌≢◌, ◌<◌, ◌≤◌, ◌⊎◌, IfErr, IfOk, IsErrOf, None, false, true};
+ghost use Rattle.occ_board.specs.Traces.{held_by};
+ghost use Rattle.occ_run.specs.Telling.{MayTell};
 ghost use Rattle.occ_run.specs.declared.fault.RunFault.TheVariants.{BadWorkers, Memory, Spawn};
 ghost use Rattle.occ_contracts.specs.Agreement.{BothGive};
 ghost use Rattle.occ_contracts.specs.Networks.{told};
@@ -98,6 +100,7 @@ pub fn watched_by_workers<J: Naming, R: Threads + Wait + Sync, G: Gate + Sync>(
     publisher: Publisher<J>,
 ) -> Result<(Outcome, Publisher<J>, Note<J>), RunFault>
     requires going { publisher.closed ≡ false }
+    requires may { MayTell J.may code.now keyboard.now limit (held_by publisher) }
     ensures none { workers ≡ 0 → IsErrOf result BadWorkers }
     ensures many { 64 < workers → IsErrOf result BadWorkers }
     ensures crew { 0 < workers → workers ≤ 64 → IfErr result (λ e. e ≢ BadWorkers) }
@@ -117,6 +120,7 @@ pub fn watched_network_by_a_crew<J: Naming, R: Threads + Wait + Sync, G: Gate + 
     publisher: Publisher<J>,
 ) -> Result<(Network, Publisher<J>, Note<J>), RunFault>
     requires going { publisher.closed ≡ false }
+    requires may { MayTell J.may code.now keyboard.now limit (held_by publisher) }
     requires some { 0 < workers }
     requires few { workers ≤ 64 }
     ensures { IfErr result (λ e. e ≢ BadWorkers) }
@@ -160,6 +164,7 @@ pub fn watched_outcome_twice<J: Naming, R: Threads + Wait + Sync, G: Gate + Sync
 )
     requires open { one.closed ≡ false }
     requires same { other ≡ one }
+    requires may { MayTell J.may code.now keyboard.now limit (held_by one) }
     ensures told { BothGive
         (λ a b. a.0.network.choices ≡ b.0.network.choices → told a.0 ≡ told b.0) result.0 result.1 }
     ensures published { BothGive
@@ -190,6 +195,7 @@ pub fn watched_twice<J: Naming, R: Threads + Wait + Sync, G: Gate + Sync>(
 )
     requires open { one.closed ≡ false }
     requires same { other ≡ one }
+    requires may { MayTell J.may code.now keyboard.now limit (held_by one) }
     ensures network { BothGive (λ a b. a.0.choices ≡ b.0.choices → a.0 ≡ b.0) result.0 result.1 }
     ensures published { BothGive (λ a b. a.0.choices ≡ b.0.choices → a.1 ≡ b.1)
         result.0 result.1 }

@@ -2,3 +2,4 @@ mod Growth
 mod Told
 mod OfRuns
 mod OfStepRuns
+mod AnyQuantum

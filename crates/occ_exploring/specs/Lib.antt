@@ -3,3 +3,4 @@ pub mod Strings
 pub mod Texts
 pub mod Statuses
 pub mod Alone
+pub mod AnyQuantum

@@ -1,4 +1,4 @@
-//! What all lists of choices come to, of a source text on a keyboard's bytes: [`explore_in`] searches
+//! What all runs of a source text come to, on a keyboard's bytes: [`explore_in`] searches
 //! them, [`exploration_text`] says what was found, and [`laws`] has what follows for runs of the source.
 #![tactic(auto)]
 

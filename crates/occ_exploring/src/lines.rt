@@ -1,10 +1,10 @@
 //! Says what a search has found.
 ghost use Rattle.std.specs.Prelude.{◌≡◌, ◌≤◌, IfOk, OnOk, length};
-ghost use Rattle.occ_exploring.specs.Texts.{answer_line, answer_lines, answers_text, so_many, error_text, exploration_text, held_text, known_text, lasting_text, left_text};
+ghost use Rattle.occ_exploring.specs.Texts.{all_text, answer_line, answer_lines, answers_text, bound_text, so_many, error_text, exploration_text, held_text, lasting_text, left_text, said_of};
 ghost use Rattle.occ_shown.specs.Answers.{AddsText};
 
 use crate::strings::write_string;
-use occ_explore::{Answer, Asked, Exploration, Lasting};
+use occ_explore::{Answer, Asked, Exploration, Lasting, Verdict};
 use std::alloc::{AllocError, Global};
 
 /// How many answers have a line.
@@ -118,46 +118,57 @@ fn write_first(
     }
 }
 
-/// Whether these are all answers, and how many states there are.
-fn write_known(
-    alloc: Global,
-    out: &mut Vec<u8>,
-    exploration: &Exploration,
-    most: u32,
-) -> Result<(), AllocError>
-    ensures { OnOk result
-        (AddsText out.old out.new (known_text exploration.now.all exploration.now.states most)) }
-{
-    if exploration.all {
-        out.extend_from_slice(b"all, ")?;
-        write_counted(alloc, out, exploration.states, b"state")?;
-        out.push(b'\n')?;
-        Ok(())
-    } else {
-        out.extend_from_slice(b"these at least: the bound of ")?;
-        write_counted(alloc, out, most as usize, b"state")?;
-        out.extend_from_slice(b" was passed\n")?;
-        Ok(())
-    }
-}
-
-/// How long runs go on, where it is known.
-fn write_lasting(
-    alloc: Global,
-    out: &mut Vec<u8>,
-    lasting: &Option<Lasting>,
-) -> Result<(), AllocError>
+/// How long runs go on.
+fn write_lasting(alloc: Global, out: &mut Vec<u8>, lasting: &Lasting) -> Result<(), AllocError>
     ensures { OnOk result (AddsText out.old out.new (lasting_text lasting.now)) }
 {
     match lasting {
-        Some(Lasting::Within(turns)) => {
+        Lasting::Within(turns) => {
             out.extend_from_slice(b"each run ends within ")?;
             write_counted(alloc, out, *turns, b"turn")?;
             out.push(b'\n')?;
             Ok(())
         }
-        Some(Lasting::Forever { .. }) => out.extend_from_slice(b"some run goes on for ever\n"),
-        None => Ok(()),
+        Lasting::Forever { .. } => out.extend_from_slice(b"some run goes on for ever\n"),
+    }
+}
+
+/// That these are all answers, by so many states.
+fn write_all(alloc: Global, out: &mut Vec<u8>, states: usize) -> Result<(), AllocError>
+    ensures { OnOk result (AddsText out.old out.new (all_text states)) }
+{
+    out.extend_from_slice(b"all, ")?;
+    write_counted(alloc, out, states, b"state")?;
+    out.push(b'\n')?;
+    Ok(())
+}
+
+/// That there are more states than were allowed.
+fn write_bound(alloc: Global, out: &mut Vec<u8>, most: u32) -> Result<(), AllocError>
+    ensures { OnOk result (AddsText out.old out.new (bound_text most)) }
+{
+    out.extend_from_slice(b"these at least: the bound of ")?;
+    write_counted(alloc, out, most as usize, b"state")?;
+    out.extend_from_slice(b" was passed\n")?;
+    Ok(())
+}
+
+/// Whether these are all answers, and how long runs go on.
+fn write_verdict(
+    alloc: Global,
+    out: &mut Vec<u8>,
+    exploration: &Exploration,
+    most: u32,
+) -> Result<(), AllocError>
+    ensures { OnOk result (AddsText out.old out.new
+        (said_of exploration.now most)) }
+{
+    match &exploration.verdict {
+        Verdict::All(lasting) => {
+            write_lasting(alloc, out, lasting)?;
+            write_all(alloc, out, exploration.states)
+        }
+        Verdict::More => write_bound(alloc, out, most),
     }
 }
 
@@ -177,7 +188,6 @@ pub fn exploration_text(
 {
     let mut out = Vec::new(alloc);
     write_first(alloc, &mut out, asked, exploration.answers.as_slice())?;
-    write_lasting(alloc, &mut out, &exploration.lasting)?;
-    write_known(alloc, &mut out, exploration, most)?;
+    write_verdict(alloc, &mut out, exploration, most)?;
     Ok(out)
 }

@@ -253,22 +253,22 @@ module _ (u : UnfoldedProgram) (p : Program) (quantum : ℕ) (kb : List ℕ) (w 
   abbrev run_of : (k : ℕ) (net : Net) → Followed_to k net → Followed u kb quantum p.errors net
   run_of k net x = followed_by u p quantum kb w lawful from bytes k net x
 
-  along : {now last : System} {es : List Event} → Run p.errors quantum now es last → (cs : List Choice) (net : Net) (x : Followed_to (length es) net) → x.now ≡ now → Replays p kb cs net → Accompanies u p quantum kb cs net (run_of (length es) net x) → length cs ≡ length x.events → IsOfChoices u p quantum kb (x.events ++ es) last
-  along no_turn cs net x q replays a many =
-      record { choices = cs; net = net; replays = replays; follows = run_of 0 net x; accompanies = a; same = sym (append-nil x.events); here = q; as_many = many ∙ ap length (sym (append-nil x.events)) }
-  along {last = last} (goes {n = n} {x = met} {b = between} {c = after} {es = es} turn meets rest) cs net x q replays a many =
+  along : {now last : System} {es : List Event} → Run p.errors quantum now es last → (cs : List Choice) (net : Net) (x : Followed_to (length es) net) → x.now ≡ now → Replays p kb cs net → (before : List System) → Accompanies u p quantum kb cs net x.events before x.now → length cs ≡ length x.events → IsOfChoices u p quantum kb (x.events ++ es) last
+  along no_turn cs net x q replays before a many =
+      record { choices = cs; net = net; replays = replays; one = record { follows = run_of 0 net x; before = before; accompanies = a }; same = sym (append-nil x.events); here = q; as_many = many ∙ ap length (sym (append-nil x.events)) }
+  along {last = last} (goes {n = n} {x = met} {b = between} {c = after} {es = es} turn meets rest) cs net x q replays before a many =
       let its_turn : SystemTurn p.errors quantum n x.now between = subst (λ z. SystemTurn p.errors quantum n z between) (sym q) turn in
       let t = takes (declared u) p (processes_of (meaning u)) (keyboard_protocol u w) quantum from.quanta (belongs u p quantum kb w lawful from bytes) (length es) n net x.now between after met x.follows its_turn meets in
       let y : Followed_to (length es) t.next = further (length es) n net t.next x met between after its_turn meets t.comes in
-      let more = after_turn (run_of (length es) t.next y) (event n met) a t.turn refl (goes its_turn meets no_turn) (is_moment u p quantum kb w lawful from bytes (length es) t.next y) in
+      let more = after_turn (event n met) a t.turn (goes its_turn meets no_turn) (is_moment u p quantum kb w lawful from bytes (length es) t.next y) in
       let as_many : length (cs ++ t.choice ∷ []) ≡ length (x.events ++ event n met ∷ []) = length-append cs (t.choice ∷ []) ∙ ap (λ (i : ℕ). i + 1) many ∙ sym (length-append x.events (event n met ∷ [])) in
-      subst (λ l. IsOfChoices u p quantum kb l last) (append_assoc x.events (event n met ∷ []) es) (along rest (cs ++ t.choice ∷ []) t.next y refl (replays_on replays t.ending t.turn) more as_many)
+      subst (λ l. IsOfChoices u p quantum kb l last) (append_assoc x.events (event n met ∷ []) es) (along rest (cs ++ t.choice ∷ []) t.next y refl (replays_on replays t.ending t.turn) (before ++ x.now ∷ []) more as_many)
 
 pub runs_are_replays : RunsAreReplays
 runs_are_replays u p quantum kb events last w lawful from bytes few run =
     let x = first_followed u p quantum kb w lawful from bytes (length events) few in
-    along u p quantum kb w lawful from bytes run [] (first_net p kb) x refl begins
-    (at_start (followed_by u p quantum kb w lawful from bytes (length events) (first_net p kb) x) refl (is_moment u p quantum kb w lawful from bytes (length events) (first_net p kb) x)) refl
+    along u p quantum kb w lawful from bytes run [] (first_net p kb) x refl begins []
+    (at_start (is_moment u p quantum kb w lawful from bytes (length events) (first_net p kb) x)) refl
 
 -- ---- what of all lists of choices is so of all runs
 
@@ -279,13 +279,13 @@ ended_at (Some x) ending e f = ap Some e
 pub ended_runs_are_replays : EndedRunsAreReplays
 ended_runs_are_replays u p quantum kb events last ending w lawful from bytes few run ends going =
     let x = runs_are_replays u p quantum kb events last w lawful from bytes few run in
-    let same : or_limit (ending_of p.errors x.net) ≡ ending = one_ending p.errors last (or_limit (ending_of p.errors x.net)) ending (subst (λ z. EndsBy p.errors z (or_limit (ending_of p.errors x.net))) x.here x.follows.ends) ends in
+    let same : or_limit (ending_of p.errors x.net) ≡ ending = one_ending p.errors last (or_limit (ending_of p.errors x.net)) ending (subst (λ z. EndsBy p.errors z (or_limit (ending_of p.errors x.net))) x.here x.one.follows.ends) ends in
     record {
       choices = x.choices;
       net = x.net;
       replays = x.replays;
       ends = ended_at (ending_of p.errors x.net) ending same going;
-      communicates = sym x.follows.communicates ∙ ap communications x.same;
+      communicates = sym x.one.follows.communicates ∙ ap communications x.same;
       as_many = x.as_many;
     }
 

@@ -20,7 +20,7 @@ use Rattle.occ_machine.specs.declared.task.Wait.TheVariants.{Joins}
 use Rattle.occ_net_replay.specs.declared.choice.Choice.{Choice}
 use Rattle.occ_net_replay.specs.Following.{AreBytes, Followed, NotedNeverEnd, OneNeverForks, ReplaysAreRuns, ReadyTasksStop, or_limit, process_in}
 use Rattle.occ_net_replay.specs.Replay.{Net, HasTask, OneTurn, ending_of, may_go, Replays, begins, first_net, goes_on as replays_on}
-use Rattle.occ_net_replay.specs.Moments.{StandAlike, IsMoment, Accompanies, OneFurther, OneRunForAll, OneRunThroughout, RunsOfAll, at_start, after_turn, keyboard_in, main_process}
+use Rattle.occ_net_replay.specs.Moments.{StandAlike, IsMoment, IsOneRun, Accompanies, OneFurther, OneRunForAll, ReplaysAreOneRun, RunsOfAll, at_start, after_turn, keyboard_in, main_process}
 use Rattle.occ_net_replay.proofs.Moments.{stand_alike}
 use Rattle.occ_net_replay.proofs.Beginning.{first_follows, ends_as}
 use Rattle.occ_net_replay.proofs.EndedRuns.{ended_clean}
@@ -138,18 +138,23 @@ module _ (u : UnfoldedProgram) (p : Program) (quantum : ℕ) (kb : List ℕ) (w 
         quiet = x.follows.quiet;
       }
 
-  accompanied : (cs : List Choice) (net : Net) (k : ℕ) (small : k + length cs < 2 ^ 64) (r : Replays p kb cs net) → Accompanies u p quantum kb cs net (followed_by k net (all_followed cs net k small r))
+  accompanied : (cs : List Choice) (net : Net) (k : ℕ) (small : k + length cs < 2 ^ 64) (r : Replays p kb cs net)
+      → (before : List System) × Accompanies u p quantum kb cs net (all_followed cs net k small r).events before (all_followed cs net k small r).now
   unfolding all_followed
   accompanied cs net k small begins =
-      at_start (followed_by k (first_net p kb) (all_followed [] (first_net p kb) k small begins)) refl (is_moment k (first_net p kb) (all_followed [] (first_net p kb) k small begins))
+      ([], at_start (is_moment k (first_net p kb) (all_followed [] (first_net p kb) k small begins)))
   accompanied cs net k small (replays_on {cs = ds} {c = c} {a = a} r e o) =
       let bound : suc k + length ds < 2 ^ 64 = for_one_more k ds c small in
       let before = all_followed ds a (suc k) bound r in
       let x = one_turn d p procs (keyboard_protocol u w) quantum from.quanta belongs k c a net before.now before.follows e o in
-      after_turn (followed_by k net (all_followed cs net k small (replays_on r e o))) _ (accompanied ds a (suc k) bound r) o refl (goes x.turn x.meets_at no_turn) (is_moment k net (all_followed cs net k small (replays_on r e o)))
+      let y = accompanied ds a (suc k) bound r in
+      (y.0 ++ before.now ∷ [], after_turn (event o.number x.met) y.1 o (goes x.turn x.meets_at no_turn) (is_moment k net (all_followed cs net k small (replays_on r e o))))
 
-  one_run : (cs : List Choice) (net : Net) → length cs < 2 ^ 64 → Replays p kb cs net → (f : Followed u kb quantum p.errors net) × Accompanies u p quantum kb cs net f
-  one_run cs net small r = let bound : 0 + length cs < 2 ^ 64 = omega (arith, small) in (followed_by 0 net (all_followed cs net 0 bound r), accompanied cs net 0 bound r)
+  abbrev one_run : (cs : List Choice) (net : Net) (k : ℕ) → k + length cs < 2 ^ 64 → Replays p kb cs net → IsOneRun u p quantum kb cs net
+  one_run cs net k small r = record { follows = followed_by k net (all_followed cs net k small r); before = (accompanied cs net k small r).0; accompanies = (accompanied cs net k small r).1 }
+
+  first_run : (cs : List Choice) (net : Net) → length cs < 2 ^ 64 → Replays p kb cs net → IsOneRun u p quantum kb cs net
+  first_run cs net small r = let bound : 0 + length cs < 2 ^ 64 = omega (arith, small) in one_run cs net 0 bound r
 
   -- ---- a run for each replay: the turns that it may still take are all that can be counted
 
@@ -159,8 +164,8 @@ module _ (u : UnfoldedProgram) (p : Program) (quantum : ℕ) (kb : List ℕ) (w 
   room : (cs : List Choice) → length cs < 2 ^ 64 → left_over cs + length cs < 2 ^ 64
   room cs few = omega (arith, few)
 
-  abbrev run_at : (cs : List Choice) (net : Net) → length cs < 2 ^ 64 → Replays p kb cs net → Followed u kb quantum p.errors net
-  run_at cs net few r = followed_by (left_over cs) net (all_followed cs net (left_over cs) (room cs few) r)
+  abbrev run_at : (cs : List Choice) (net : Net) → length cs < 2 ^ 64 → Replays p kb cs net → IsOneRun u p quantum kb cs net
+  run_at cs net few r = one_run cs net (left_over cs) (room cs few) r
 
   abbrev Further : {a b : Net} → Followed u kb quantum p.errors a → Followed u kb quantum p.errors b → Type 0
   Further f g = OneFurther u p quantum kb f g
@@ -179,13 +184,13 @@ module _ (u : UnfoldedProgram) (p : Program) (quantum : ℕ) (kb : List ℕ) (w 
   one_less cs c more = omega (arith, more, length-append cs (c ∷ []))
 
   further : (cs : List Choice) (c : Choice) (a b : Net) (few : length cs < 2 ^ 64) (more : length (cs ++ c ∷ []) < 2 ^ 64) (r : Replays p kb cs a) (g : ending_of p.errors a ≡ None) (o : OneTurn p c a b)
-      → Further (run_at cs a few r) (run_at (cs ++ c ∷ []) b more (replays_on r g o))
+      → Further (run_at cs a few r).follows (run_at (cs ++ c ∷ []) b more (replays_on r g o)).follows
   further cs c a b few more r g o =
-      subst (λ j. (s : j + length cs < 2 ^ 64) → Further (followed_by j a (all_followed cs a j s r)) (run_at (cs ++ c ∷ []) b more (replays_on r g o))) (sym (one_less cs c more))
+      subst (λ j. (s : j + length cs < 2 ^ 64) → Further (followed_by j a (all_followed cs a j s r)) (run_at (cs ++ c ∷ []) b more (replays_on r g o)).follows) (sym (one_less cs c more))
       (λ s. next_run cs c a b (left_over (cs ++ c ∷ [])) s (room (cs ++ c ∷ []) more) r g o) (room cs few)
 
   runs_of_all : RunsOfAll u p quantum kb
-  runs_of_all = record { run_of = run_at; throughout = λ cs net few r. accompanied cs net (left_over cs) (room cs few) r; further = further }
+  runs_of_all = record { run_of = run_at; further = further }
 
   stop_of : (n : ℕ) (net : Net) (now : System) (body : Body) (t : Task) → Follows d p procs (keyboard_protocol u w) quantum 1 net now → slice_get p.bodies n ≡ Some body → HasTask net.tasks n t → IsTrue (may_go t.wait) → (after : Task) × Stopping body t after
   stop_of n net now body t f code there may =
@@ -247,8 +252,8 @@ one_never_forks_is u p quantum kb cs net n body t after ns w lawful from bytes s
 pub replays_share_store : ReplaysShareStore
 replays_share_store u p quantum kb cs net w lawful from bytes small r = shared u p quantum kb w lawful from bytes cs net small r
 
-pub one_run_throughout : OneRunThroughout
-one_run_throughout u p quantum kb cs net w lawful from bytes small r = one_run u p quantum kb w lawful from bytes cs net small r
+pub replays_are_one_run : ReplaysAreOneRun
+replays_are_one_run u p quantum kb cs net w lawful from bytes small r = first_run u p quantum kb w lawful from bytes cs net small r
 
 pub one_run_for_all : OneRunForAll
 one_run_for_all u p quantum kb w lawful from bytes = runs_of_all u p quantum kb w lawful from bytes

@@ -36,9 +36,8 @@ pub mod Same
 pub mod MomentExamples
 pub mod Arms
 pub mod Choosing
-pub mod Earlier
 pub mod TwoTurns
-pub mod OneRun
+pub mod ReadyProcesses
 pub mod Converse
 mod Trees
 mod Parts

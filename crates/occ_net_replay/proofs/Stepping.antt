@@ -264,7 +264,7 @@ step_runs_are_runs u p quantum kb xs last w lawful from bytes r few =
       choices = x.choices;
       net = x.net;
       replays = x.replays;
-      trace = sym x.follows.communicates ∙ ap communications x.same ∙ l.said;
+      trace = sym x.one.follows.communicates ∙ ap communications x.same ∙ l.said;
     }
 
 pub ended_step_runs_are_runs : EndedStepRunsAreRuns

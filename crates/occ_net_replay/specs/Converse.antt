@@ -8,8 +8,8 @@ use Rattle.occ_term.specs.System.{System, start}
 use Rattle.occ_term.specs.Runs.{EndsBy, Event, Run, communications}
 use Rattle.occ_machine.specs.Compiled.{Program, IsCompiledFrom}
 use Rattle.occ_net_replay.specs.declared.choice.Choice.{Choice}
-use Rattle.occ_net_replay.specs.Following.{AreBytes, Followed}
-use Rattle.occ_net_replay.specs.Moments.{Accompanies}
+use Rattle.occ_net_replay.specs.Following.{AreBytes}
+use Rattle.occ_net_replay.specs.Moments.{IsOneRun}
 use Rattle.occ_net_replay.specs.Replay.{Net, Replays, ending_of}
 
 -- The run is that of these choices, one for each turn: their replay has its turns, its communications, its faults and its ending, and
@@ -18,10 +18,9 @@ pub record IsOfChoices (u : UnfoldedProgram) (p : Program) (quantum : ℕ) (keyb
   pub choices : List Choice
   pub net : Net
   pub replays : Replays p keyboard choices net
-  pub follows : Followed u keyboard quantum p.errors net
-  pub accompanies : Accompanies u p quantum keyboard choices net follows
-  pub same : follows.events ≡ events
-  pub here : follows.system ≡ system
+  pub one : IsOneRun u p quantum keyboard choices net
+  pub same : one.follows.events ≡ events
+  pub here : one.follows.system ≡ system
   pub as_many : length choices ≡ length events
 
 -- Each run of a lawful program, of fewer turns than the code can count, is that of some choices.

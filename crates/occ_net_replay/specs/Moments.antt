@@ -1,15 +1,15 @@
 -- The run that a replay is followed by, at every moment: between two turns each process stands at the same stop in both.
 -- Manual: nothing; this is (own).
-use Rattle.std.specs.Prelude.{Bool, IsTrue, List, None, Option, [], false, length, nat_eq, ℕ, ⊤, ◌<◌, ◌^◌, ◌++◌, ◌||◌, ◌∷◌, ◌≡◌, ◌⊎◌, Some}
+use Rattle.std.specs.Prelude.{Bool, IsTrue, List, None, Option, [], false, length, nat_eq, ℕ, ⊤, ◌<◌, ◌^◌, ◌++◌, ◌||◌, ◌∷◌, ◌≡◌, ◌⊎◌}
 use Rattle.occ_term.specs.declared.fault.Fault.{Fault}
 use Rattle.occ_term.specs.declared.message.Message.{Message}
 use Rattle.occ_term.specs.Going.{IsGoing}
 use Rattle.occ_term.specs.Runs.{Event, Run}
 use Rattle.occ_term.specs.Selecting.{Enabled, is_ready_on, waits_for}
 use Rattle.occ_term.specs.Steps.{Doing, Offering, Awaiting, Choosing, Forking, Halted, Faulted, Done, Context, Left, left}
-use Rattle.occ_term.specs.System.{Process, process, Processes, no_processes, and_process, System, system, AllEnded, noted_in}
+use Rattle.occ_term.specs.System.{Process, process, Processes, no_processes, and_process, System, system, start, AllEnded, noted_in}
 use Rattle.occ_term.specs.Terms.{Branches, Reception}
-use Rattle.occ_term.specs.UnfoldedProgram.{UnfoldedProgram, IsWellFormed, Lawful}
+use Rattle.occ_term.specs.UnfoldedProgram.{UnfoldedProgram, IsWellFormed, Lawful, meaning}
 use Rattle.occ_machine.specs.SameStop.{numbers_of}
 use Rattle.occ_machine.specs.Compiled.{Program, IsCompiledFrom}
 use Rattle.occ_machine.specs.declared.task.Arm.{Arm}
@@ -17,7 +17,6 @@ use Rattle.occ_machine.specs.declared.task.Task.{Task}
 use Rattle.occ_machine.specs.declared.task.Wait.{Wait}
 use Rattle.occ_machine.specs.declared.task.Wait.TheVariants as W
 use Rattle.occ_net_replay.specs.declared.choice.Choice.{Choice}
-use Rattle.occ_term.specs.declared.ending.Ending.TheVariants as E
 use Rattle.occ_net_replay.specs.Following.{AreBytes, Followed}
 use Rattle.occ_net_replay.specs.Replay.{Net, Tasks, HasTask, OneTurn, Replays, goes_on as replays_on, AreDone, ending_of, first_net, is_done, may_go, standing}
 use Rattle.occ_net_replay.specs.Sharing.{SharesStore}
@@ -98,29 +97,21 @@ pub record IsMoment (p : Program) (net : Net) (now : System) : Type 0 where
   pub noted : noted_in now ≡ net.noted
   pub quiet : Quiet net
 
--- The run goes on with the replay: behind each choice it has one turn more than before it, from the very system that it had come to
--- before. So it is one run, with a system for each choice.
-pub data Accompanies (u : UnfoldedProgram) (p : Program) (quantum : ℕ) (keyboard : List ℕ) : List Choice → (net : Net) → Followed u keyboard quantum p.errors net → Type 0 where
-  at_start : (f : Followed u keyboard quantum p.errors (first_net p keyboard)) → f.events ≡ [] → IsMoment p (first_net p keyboard) f.system → Accompanies u p quantum keyboard [] (first_net p keyboard) f
-  after_turn : {cs : List Choice} {c : Choice} {a b : Net} {f : Followed u keyboard quantum p.errors a} (g : Followed u keyboard quantum p.errors b) (e : Event)
-      → Accompanies u p quantum keyboard cs a f → OneTurn p c a b → g.events ≡ f.events ++ e ∷ [] → Run p.errors quantum f.system (e ∷ []) g.system
-      → IsMoment p b g.system → Accompanies u p quantum keyboard (cs ++ c ∷ []) b g
+-- The systems of a run beside a replay, one more than the choices: those before, and the one that it has come to. It begins with the
+-- source's start; each turn leads from the last system to the next one; and each system stands where the replay stands by then.
+pub data Accompanies (u : UnfoldedProgram) (p : Program) (quantum : ℕ) (keyboard : List ℕ) : List Choice → Net → List Event → (before : List System) → (now : System) → Type 0 where
+  at_start : IsMoment p (first_net p keyboard) (start (meaning u) keyboard) → Accompanies u p quantum keyboard [] (first_net p keyboard) [] [] (start (meaning u) keyboard)
+  after_turn : {cs : List Choice} {c : Choice} {a b : Net} {es : List Event} {before : List System} {now next : System} (e : Event)
+      → Accompanies u p quantum keyboard cs a es before now → OneTurn p c a b → Run p.errors quantum now (e ∷ []) next → IsMoment p b next
+      → Accompanies u p quantum keyboard (cs ++ c ∷ []) b (es ++ e ∷ []) (before ++ now ∷ []) next
 
--- each replay has one run that follows it from its start on, turn by turn
-abbrev pub OneRunThroughout : Type 0
-OneRunThroughout =
-    (u : UnfoldedProgram) (p : Program) (quantum : ℕ) (keyboard : List ℕ) (cs : List Choice) (net : Net)
-    → IsWellFormed u → Lawful u → IsCompiledFrom u quantum p → AreBytes keyboard → length cs < 2 ^ 64
-    → Replays p keyboard cs net → (f : Followed u keyboard quantum p.errors net) × Accompanies u p quantum keyboard cs net f
-
--- The one run of a replay, with all that an answer says of it: it goes with the replay throughout, has its turns, communications,
--- faults and ending, shares its store where it has come to, and never ends with a fault noted.
+-- The one run of a replay: it has the replay's turns, communications, faults and ending, and stands where the replay stands at every moment.
 pub record IsOneRun (u : UnfoldedProgram) (p : Program) (quantum : ℕ) (keyboard : List ℕ) (cs : List Choice) (net : Net) : Type 0 where
   pub follows : Followed u keyboard quantum p.errors net
-  pub accompanies : Accompanies u p quantum keyboard cs net follows
-  pub moment : IsMoment p net follows.system
-  pub clean : ending_of p.errors net ≡ Some E.Ended → noted_in follows.system ≡ []
+  pub before : List System
+  pub accompanies : Accompanies u p quantum keyboard cs net follows.events before follows.system
 
+-- each replay has one run that goes with it from its start on, turn by turn
 abbrev pub ReplaysAreOneRun : Type 0
 ReplaysAreOneRun =
     (u : UnfoldedProgram) (p : Program) (quantum : ℕ) (keyboard : List ℕ) (cs : List Choice) (net : Net)
@@ -134,10 +125,9 @@ OneFurther u p quantum keyboard f g = (e : Event) × (g.events ≡ f.events ++ e
 -- A run for each replay, where that of one choice more is that of the others with one turn more. So where a run has come to fits
 -- each turn that the replay may take next, also where its last turn went into one of several arms with SKIP.
 pub record RunsOfAll (u : UnfoldedProgram) (p : Program) (quantum : ℕ) (keyboard : List ℕ) : Type 0 where
-  pub run_of : (cs : List Choice) (net : Net) → length cs < 2 ^ 64 → Replays p keyboard cs net → Followed u keyboard quantum p.errors net
-  pub throughout : (cs : List Choice) (net : Net) (few : length cs < 2 ^ 64) (r : Replays p keyboard cs net) → Accompanies u p quantum keyboard cs net (run_of cs net few r)
+  pub run_of : (cs : List Choice) (net : Net) → length cs < 2 ^ 64 → Replays p keyboard cs net → IsOneRun u p quantum keyboard cs net
   pub further : (cs : List Choice) (c : Choice) (a b : Net) (few : length cs < 2 ^ 64) (more : length (cs ++ c ∷ []) < 2 ^ 64) (r : Replays p keyboard cs a) (g : ending_of p.errors a ≡ None) (o : OneTurn p c a b)
-      → OneFurther u p quantum keyboard (run_of cs a few r) (run_of (cs ++ c ∷ []) b more (replays_on r g o))
+      → OneFurther u p quantum keyboard (run_of cs a few r).follows (run_of (cs ++ c ∷ []) b more (replays_on r g o)).follows
 
 abbrev pub OneRunForAll : Type 0
 OneRunForAll =
@@ -154,21 +144,3 @@ abbrev pub ReadyGoOn : Type 0
 ReadyGoOn =
     (p : Program) (net : Net) (now : System) (n : ℕ) (t : Task)
     → IsMoment p net now → HasTask net.tasks n t → IsTrue (may_go t.wait) → (own : Left) × (ps : Processes) × At n own ps (main_process now) × GoesOnWith own ps
-
--- what a run has come to by the first of some choices; the turns since are `later`, and lead from there to where the run is now
-pub record EarlierMoment (u : UnfoldedProgram) (p : Program) (quantum : ℕ) (keyboard : List ℕ) (first since : List Choice) (events : List Event) (now : System) : Type 0 where
-  pub net : Net
-  pub follows : Followed u keyboard quantum p.errors net
-  pub later : List Event
-  pub accompanies : Accompanies u p quantum keyboard first net follows
-  pub moment : IsMoment p net follows.system
-  pub goes_on : events ≡ follows.events ++ later
-  pub leads : Run p.errors quantum follows.system later now
-  pub as_many : length later ≡ length since
-
--- The run of some choices begins with that of the first of them, and goes on from the system that this one came to, with one turn
--- more for each of the others.
-abbrev pub RunsGoOn : Type 0
-RunsGoOn =
-    (u : UnfoldedProgram) (p : Program) (quantum : ℕ) (keyboard : List ℕ) (first since : List Choice) (net : Net) (f : Followed u keyboard quantum p.errors net)
-    → Accompanies u p quantum keyboard (first ++ since) net f → EarlierMoment u p quantum keyboard first since f.events f.system

@@ -8,7 +8,7 @@ ghost use Rattle.occ_net_replay.specs.Choosing.{ChoicesTakeReadyArms, OffersReac
 ghost use Rattle.occ_net_replay.specs.Examples.{ChoiceRows, ClosedRows, EndingRows, ForkRows, LateOfferRows, ListenRows, MeetingRows, NotedRows, FirstWithPriority, SkipRows, StopRows, TurnRows};
 ghost use Rattle.occ_net_replay.specs.Following.{NotedNeverEnd, OneNeverForks, ReadyTasksStop, ReplaysAreRuns};
 ghost use Rattle.occ_net_replay.specs.MomentExamples.{EitherArmRows, MissingRows, OtherStopRows, OtherStoreRows, SameStopRows, UnquietRows};
-ghost use Rattle.occ_net_replay.specs.Moments.{OneRunForAll, OneRunThroughout, ReadyGoOn, ReplaysAreOneRun, RunsGoOn};
+ghost use Rattle.occ_net_replay.specs.Moments.{OneRunForAll, ReadyGoOn, ReplaysAreOneRun};
 ghost use Rattle.occ_net_replay.specs.OneReplay.{OneReplay};
 ghost use Rattle.occ_net_replay.specs.Sharing.{ReplaysShareStore};
 ghost use Rattle.occ_net_replay.specs.Waiting.{MainTurnsAlone, TurnsAreFew, TurnsForkAlone, TurnsListenAlone, TurnsAreApart, TurnsHearNoScreen, TurnsNeverTake, TurnsOfferAlone};
@@ -117,14 +117,9 @@ pub fn one_replay()
     ensures { OneReplay }
 {}
 
-/// One run follows a replay from its start on, each turn from the system that the last one came to.
-/// Between two turns each process is at the same stop, the frames share the one store, and nothing is
-/// possible that needs no turn.
-pub fn one_run_throughout()
-    ensures { OneRunThroughout }
-{}
-
-/// A replay's one run has all that an answer says of it.
+/// One run of the source goes with a replay from its start on, turn by turn, with its communications, its
+/// faults and its ending. At every moment each process is at the same stop, the frames share the one store,
+/// and nothing is possible that needs no turn.
 pub fn replays_are_one_run()
     ensures { ReplaysAreOneRun }
 {}
@@ -154,12 +149,6 @@ pub fn runs_are_as_short()
 /// A process that a choice may select goes on in the run.
 pub fn ready_go_on()
     ensures { ReadyGoOn }
-{}
-
-/// The run that follows a replay of some choices begins with the one that follows that of the first of
-/// them, and goes on from the system that this one came to.
-pub fn runs_go_on()
-    ensures { RunsGoOn }
 {}
 
 /// The next turns of two processes end on different channels.

@@ -46,37 +46,37 @@ one_meaning source u v x y =
 
 module _ (options : Options) (source keyboard : List ℕ) (trace : Bool) (bytes_are : AreBytes keyboard) where
   module _ (list others : List Choice) (a b : Played) (bytes text : List ℕ) (x : IsAnswer options source keyboard list trace a bytes) (y : IsAnswer options source keyboard others trace b text) where
-    same_program : MeansSame x.program y.program
-    same_program = one_meaning source x.program y.program x.unfolds y.unfolds
+    same_program : MeansSame x.of_text.program y.of_text.program
+    same_program = one_meaning source x.of_text.program y.of_text.program x.of_text.unfolds y.of_text.unfolds
 
-    same_code : x.compiled ≡ y.compiled
-    same_code = one_code x.program y.program options.quantum x.compiled y.compiled same_program.term same_program.channels (x.errors ∙ sym y.errors) x.from y.from
+    same_code : x.code ≡ y.code
+    same_code = one_code x.of_text.program y.of_text.program options.quantum x.code y.code same_program.term same_program.channels (x.of_text.errors ∙ sym y.of_text.errors) x.of_text.from y.of_text.from
 
-    one_net : (cs : List Choice) (m n : Net) → length cs < 2 ^ 64 → Replays x.compiled keyboard cs m → Replays y.compiled keyboard cs n → m ≡ n
+    one_net : (cs : List Choice) (m n : Net) → length cs < 2 ^ 64 → Replays x.code keyboard cs m → Replays y.code keyboard cs n → m ≡ n
     one_net cs m n small r s =
-        one_replay x.program x.compiled options.quantum keyboard cs m n x.unfolds.well_formed x.lawful x.from.does bytes_are small r (subst (λ p. Replays p keyboard cs n) (sym same_code) s)
+        one_replay x.of_text.program x.code options.quantum keyboard cs m n x.of_text.unfolds.well_formed x.of_text.lawful x.of_text.from.does bytes_are small r (subst (λ p. Replays p keyboard cs n) (sym same_code) s)
 
     pub by_used : length a.choices.items < 2 ^ 64 → a.choices.items ≡ b.choices.items → IsSameAnswer a b bytes text
     by_used small used =
-        let net : x.net ≡ y.net = one_net a.choices.items x.net y.net small x.replays (subst (λ cs. Replays y.compiled keyboard cs y.net) (sym used) y.replays) in
-        let ending : a.ending ≡ b.ending = x.ending ∙ ap (λ n. or_limit (ending_of options.errors n)) net ∙ sym y.ending in
-        let trace_is = x.communicates ∙ ap (λ n. n.trace) net ∙ sym y.communicates in
+        let net : x.net ≡ y.net = one_net a.choices.items x.net y.net small x.replays (subst (λ cs. Replays y.code keyboard cs y.net) (sym used) y.replays) in
+        let ending : a.ending ≡ b.ending = x.ending ∙ ap (λ n. or_limit (ending_of x.code.errors n)) net ∙ ap (λ p. or_limit (ending_of p.errors y.net)) same_code ∙ sym y.ending in
+        let trace_is = x.run.follows.communicates ∙ ap (λ n. n.trace) net ∙ sym y.run.follows.communicates in
         record {
           ending = ending;
           choices = used;
           bytes =
-              x.is ∙ ap (λ (cs : List Channel). answer_text (shown (names_of cs) x.events) a.ending trace) same_program.channels
-              ∙ ap (λ ms. answer_text (shown_by (names_of y.program.channels) ms) a.ending trace) trace_is
-              ∙ ap (λ e. answer_text (shown (names_of y.program.channels) y.events) e trace) ending ∙ sym y.is;
+              x.shows ∙ ap (λ (cs : List Channel). answer_text (shown (names_of cs) x.run.follows.events) a.ending trace) same_program.channels
+              ∙ ap (λ ms. answer_text (shown_by (names_of y.of_text.program.channels) ms) a.ending trace) trace_is
+              ∙ ap (λ e. answer_text (shown (names_of y.of_text.program.channels) y.run.follows.events) e trace) ending ∙ sym y.shows;
         }
 
     -- where the one used more choices than the other, the other had no more
     pub used_all : (c : Choice) (rest : List Choice) → length a.choices.items < 2 ^ 64 → a.choices.items ≡ b.choices.items ++ c ∷ rest → b.choices.items ≡ others
     used_all c rest small e =
-        let there : Passed x.compiled keyboard b.choices.items = passed x.compiled keyboard a.choices.items b.choices.items c rest x.net x.replays e in
+        let there : Passed x.code keyboard b.choices.items = passed x.code keyboard a.choices.items b.choices.items c rest x.net x.replays e in
         let fewer : length b.choices.items < 2 ^ 64 = (let q : length a.choices.items ≡ length b.choices.items + length (c ∷ rest) = ap length e ∙ length-append b.choices.items (c ∷ rest) in omega (arith, q, small)) in
         let net : there.net ≡ y.net = one_net b.choices.items there.net y.net fewer there.replays y.replays in
-        y.whole (y.ending ∙ ap or_limit (ap (ending_of options.errors) (sym net) ∙ ap (λ e. ending_of e there.net) (sym x.errors) ∙ there.going))
+        y.used.whole (y.ending ∙ ap or_limit (ap (ending_of y.code.errors) (sym net) ∙ ap (λ p. ending_of p.errors there.net) (sym same_code) ∙ there.going))
 
 -- ---- beginnings of one list
 
@@ -124,19 +124,19 @@ played_again options source keyboard list trace a b bytes text keys small x = (b
     few front h = let q = begins_short front list h in omega (arith, q, small)
 
     by_list : IsAnswer options source keyboard list trace b text → IsSameAnswer a b bytes text
-    by_list y = by (compared a.choices.items b.choices.items x.used.rest y.used.rest (sym x.used.is ∙ y.used.is))
+    by_list y = by (compared a.choices.items b.choices.items x.used.begins.rest y.used.begins.rest (sym x.used.begins.is ∙ y.used.begins.is))
       where
         by : Compared a.choices.items b.choices.items → IsSameAnswer a b bytes text
-        by (same q) = by_used options source keyboard trace keys list list a b bytes text x y (few _ x.used) q
-        by (longer c rest q) = absurd (too_long a.choices.items b.choices.items list c rest q x.used (used_all options source keyboard trace keys list list a b bytes text x y c rest (few _ x.used) q))
-        by (shorter c rest q) = absurd (too_long b.choices.items a.choices.items list c rest q y.used (used_all options source keyboard trace keys list list b a text bytes y x c rest (few _ y.used) q))
+        by (same q) = by_used options source keyboard trace keys list list a b bytes text x y (few _ x.used.begins) q
+        by (longer c rest q) = absurd (too_long a.choices.items b.choices.items list c rest q x.used.begins (used_all options source keyboard trace keys list list a b bytes text x y c rest (few _ x.used.begins) q))
+        by (shorter c rest q) = absurd (too_long b.choices.items a.choices.items list c rest q y.used.begins (used_all options source keyboard trace keys list list b a text bytes y x c rest (few _ y.used.begins) q))
 
     by_own : IsAnswer options source keyboard a.choices.items trace b text → IsSameAnswer a b bytes text
-    by_own y = by y.used.rest y.used.is
+    by_own y = by y.used.begins.rest y.used.begins.is
       where
         by : (more : List Choice) → a.choices.items ≡ b.choices.items ++ more → IsSameAnswer a b bytes text
-        by [] q = by_used options source keyboard trace keys list a.choices.items a b bytes text x y (few _ x.used) (q ∙ append-nil b.choices.items)
-        by (c ∷ rest) q = absurd (too_long a.choices.items b.choices.items a.choices.items c rest q (record { rest = []; is = sym (append-nil a.choices.items) }) (used_all options source keyboard trace keys list a.choices.items a b bytes text x y c rest (few _ x.used) q))
+        by [] q = by_used options source keyboard trace keys list a.choices.items a b bytes text x y (few _ x.used.begins) (q ∙ append-nil b.choices.items)
+        by (c ∷ rest) q = absurd (too_long a.choices.items b.choices.items a.choices.items c rest q (record { rest = []; is = sym (append-nil a.choices.items) }) (used_all options source keyboard trace keys list a.choices.items a b bytes text x y c rest (few _ x.used.begins) q))
 
 pub played_alone : PlayedAlone
 played_alone options source keyboard limit trace a b bytes text keys small x y =

@@ -30,7 +30,7 @@ use Rattle.occ_play.proofs.Working.{workers_refuse}
 pub within_by : (options : Options) (source keyboard : List ℕ) (limit : ℕ) (trace : Bool) (p : Program) (n : Past) (o : Outcome) (played : Played) (bytes : List ℕ)
     → (g : IsGathered p keyboard limit n) → IsReplayOf n g.net o
     → TellsOutcome options source keyboard trace p o played bytes
-    → (w : IsAnswerWithin options source keyboard limit trace played bytes) × (shown_by (names_of p.channels) o.trace ≡ shown (names_of w.answer.program.channels) w.answer.events)
+    → (w : IsAnswerWithin options source keyboard limit trace played bytes) × (shown_by (names_of p.channels) o.trace ≡ shown (names_of w.answer.of_text.program.channels) w.answer.run.follows.events)
 within_by options source keyboard limit trace p n o played bytes g r t =
     let same : played.choices.items ≡ o.choices.items = ap (λ v. v.items) t.choices in
     let used : played.choices.items ≡ n.choices = same ∙ r.choices in

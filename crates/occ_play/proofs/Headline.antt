@@ -27,10 +27,9 @@ use Rattle.occ_net_tables.specs.Outcomes.{Begins, IsOutcome}
 use Rattle.occ_play.specs.declared.playing.Options.{Options}
 use Rattle.occ_play.specs.declared.fault.PlayFault.{PlayFault}
 use Rattle.occ_play.specs.declared.fault.PlayFault.TheVariants as play
-use Rattle.occ_play.specs.Playing.{IsAnswer, IsTextsCode, Ran, Refuses, RefusesCode, RefusesText, Unfolds, UsageRefusesText, CodeRefusesText}
+use Rattle.occ_play.specs.Playing.{AnswersAreOfRuns, IsAnswer, IsTextsCode, Ran, Refuses, RefusesCode, RefusesText, Unfolds, UsageRefusesText, CodeRefusesText}
 use Rattle.occ_net_replay.specs.Replay.{Net, Replays, ending_of, ending_by, standing_by, stopped_by}
-use Rattle.occ_net_replay.specs.Moments.{Accompanies}
-use Rattle.occ_net_replay.proofs.Law.{noted_never_end, one_run_throughout, replays_are_runs}
+use Rattle.occ_net_replay.proofs.Law.{noted_never_end, replays_are_one_run, replays_are_runs}
 
 -- the bytes of a keyboard
 pub are_bytes : (kb : List ℕ) → ((k : ℕ) → get_or kb k 0 < 256) → AreBytes kb
@@ -97,82 +96,49 @@ code_with u quantum p errors h =
       emitted = h.emitted;
     }
 
--- the run goes throughout with the replay of the code
-abbrev Throughout : (u : UnfoldedProgram) (keyboard : List ℕ) (quantum : ℕ) (p : Program) (cs : List Choice) (net : Net) {errors : Errors} → Followed u keyboard quantum errors net → Type 0
-Throughout u keyboard quantum p cs net run =
-    (f : Followed u keyboard quantum p.errors net) × Accompanies u p quantum keyboard cs net f × (f.events ≡ run.events) × (f.system ≡ run.system)
-
--- that, by any name of the mode of faults
-record Goes (u : UnfoldedProgram) (keyboard : List ℕ) (quantum : ℕ) (p : Program) (cs : List Choice) (net : Net) (errors : Errors) : Type 0 where
-  run : Followed u keyboard quantum errors net
-  throughout : Throughout u keyboard quantum p cs net run
-
--- the run that an outcome of a text's code follows, and what it says of faults
-record Shown (options : Options) (keyboard : List ℕ) (u : UnfoldedProgram) (p : Program) (cs : List Choice) (net : Net) (ending : Ending) : Type 0 where
-  run : Followed u keyboard options.quantum options.errors net
-  ends : or_limit (ending_of options.errors net) ≡ ending
-  clean : ending ≡ E.Ended → noted_in run.system ≡ []
-  throughout : Throughout u keyboard options.quantum p cs net run
-
-shown_by_run : (options : Options) (keyboard : List ℕ) (list : List Choice) (u : UnfoldedProgram) (p : Program) (o : Outcome)
-    → IsWellFormed u → Lawful u → IsCodeOf u options.quantum p → p.errors ≡ options.errors → AreBytes keyboard → (out : IsOutcome p keyboard list o) → length o.choices.items < 2 ^ 64
-    → Shown options keyboard u p o.choices.items out.net o.ending
-shown_by_run options keyboard list u p o well lawful from mode keys out small =
-    let x = one_run_throughout u p options.quantum keyboard o.choices.items out.net well lawful from.does keys small out.replays in
-    let goes : Goes u keyboard options.quantum p o.choices.items out.net options.errors = subst (λ e. Goes u keyboard options.quantum p o.choices.items out.net e) mode (record { run = x.0; throughout = (x.0, x.1, refl, refl) }) in
-    let f = goes.run in
-    record {
-      run = f;
-      ends = ap (λ e. or_limit (ending_of e out.net)) (sym mode) ∙ sym out.ending;
-      throughout = goes.throughout;
-      clean = λ h. f.noted ∙ noted_never_end u p options.quantum keyboard o.choices.items out.net well lawful from.does keys small out.replays (ended_if (ending_of p.errors out.net) (sym out.ending ∙ h));
-    }
-
 pub headline : (options : Options) (source keyboard : List ℕ) (list : List Choice) (trace : Bool) (p : Program) (channels : List Channel) (o : Outcome) (played : Played) (bytes : List ℕ)
     → IsTextsCode options source p → AreBytes keyboard → channels ≡ p.channels → IsOutcome p keyboard list o → length o.choices.items < 2 ^ 64
     → played.ending ≡ o.ending → played.choices ≡ o.choices
     → bytes ≡ answer_text (shown_by (names_of channels) o.trace) o.ending trace
-    → (a : IsAnswer options source keyboard list trace played bytes) × (shown_by (names_of channels) o.trace ≡ shown (names_of a.program.channels) a.events)
+    → (a : IsAnswer options source keyboard list trace played bytes) × (shown_by (names_of channels) o.trace ≡ shown (names_of a.of_text.program.channels) a.run.follows.events)
 headline options source keyboard list trace p channels o played bytes code keys chan out small same_end same_choices is =
     let u = code.program in
-    let s = shown_by_run options keyboard list u p o code.unfolds.well_formed code.lawful code.from code.errors keys out small in
-    let f = s.run in
-    let ends : or_limit (ending_of options.errors out.net) ≡ played.ending = s.ends ∙ sym same_end in
     let choices : o.choices.items ≡ played.choices.items = ap (λ v. v.items) (sym same_choices) in
-    let shows : o.trace ≡ communications f.events = sym out.trace ∙ sym f.communicates in
+    let replays : Replays p keyboard played.choices.items out.net = subst (λ cs. Replays p keyboard cs out.net) choices out.replays in
+    let few : length played.choices.items < 2 ^ 64 = subst (λ cs. length cs < 2 ^ 64) choices small in
+    let run = replays_are_one_run u p options.quantum keyboard played.choices.items out.net code.unfolds.well_formed code.lawful code.from.does keys few replays in
+    let shows : o.trace ≡ communications run.follows.events = sym out.trace ∙ sym run.follows.communicates in
     let channels_are : channels ≡ u.channels = chan ∙ code.from.does.channels in (
       record {
-        quantum = code.quantum;
-        program = u;
-        unfolds = code.unfolds;
-        lawful = code.lawful;
-        events = f.events;
-        system = f.system;
-        run = f.run;
-        ends = subst (λ e. EndsBy options.errors f.system e) ends f.ends;
-        clean = λ h. s.clean (sym same_end ∙ h);
-        is =
+        code = p;
+        of_text = code;
+        used = record {
+          begins = subst (λ cs. Begins cs list) choices out.used;
+          whole = λ h. sym choices ∙ out.whole (none_if (ending_of p.errors out.net) (sym out.ending ∙ sym same_end ∙ h) (never_limit p.errors _ _ _));
+        };
+        net = out.net;
+        replays = replays;
+        run = run;
+        ending = same_end ∙ out.ending;
+        shows =
             is ∙ ap (λ cs. answer_text (shown_by (names_of cs) o.trace) o.ending trace) channels_are
             ∙ ap (λ xs. answer_text (shown_by (names_of u.channels) xs) o.ending trace) shows
-            ∙ ap (λ e. answer_text (shown (names_of u.channels) f.events) e trace) (sym same_end);
-        used = subst (λ cs. Begins cs list) choices out.used;
-        whole = λ h. sym choices ∙ out.whole (none_if (ending_of p.errors out.net) (sym out.ending ∙ sym same_end ∙ h) (never_limit p.errors _ _ _));
-        compiled = p;
-        from = code.from;
-        errors = code.errors;
-        net = out.net;
-        replays = subst (λ cs. Replays p keyboard cs out.net) choices out.replays;
-        throughout = subst (λ cs. Throughout u keyboard options.quantum p cs out.net f) choices s.throughout;
-        turns = f.turns;
-        communicates = f.communicates;
-        noted = f.noted;
-        ending = sym ends;
-        output = λ c. f.output c ∙ ap (messages_on c) (sym f.communicates);
-        input = λ c. f.input c ∙ ap (messages_on c) (sym f.communicates);
-        fits = λ c. subst (λ xs. AllFit ((declared u).protocols c) (messages_on c xs)) (sym f.communicates) (f.fits c);
+            ∙ ap (λ e. answer_text (shown (names_of u.channels) run.follows.events) e trace) (sym same_end);
       },
       ap (λ cs. shown_by (names_of cs) o.trace) channels_are ∙ ap (λ xs. shown_by (names_of u.channels) xs) shows,
     )
+
+pub answers_are_of_runs : AnswersAreOfRuns
+answers_are_of_runs options source keyboard list trace played bytes keys few a =
+    let f = a.run.follows in
+    let u = a.of_text.program in
+    record {
+      ends = subst (λ m. EndsBy m f.system played.ending) a.of_text.errors (subst (EndsBy a.code.errors f.system) (sym a.ending) f.ends);
+      clean = λ h. f.noted ∙ noted_never_end u a.code options.quantum keyboard played.choices.items a.net a.of_text.unfolds.well_formed a.of_text.lawful a.of_text.from.does keys few a.replays (ended_if (ending_of a.code.errors a.net) (sym a.ending ∙ h));
+      output = λ c. f.output c ∙ ap (messages_on c) (sym f.communicates);
+      input = λ c. f.input c ∙ ap (messages_on c) (sym f.communicates);
+      fits = λ c. subst (λ xs. AllFit ((declared u).protocols c) (messages_on c xs)) (sym f.communicates) (f.fits c);
+    }
 
 -- ---- refusals
 

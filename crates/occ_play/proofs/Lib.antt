@@ -3,3 +3,4 @@ mod Gathered
 pub mod Again
 pub mod Working
 mod Beside
+mod TextTraces

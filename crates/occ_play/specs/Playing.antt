@@ -1,6 +1,6 @@
 -- What `play` promises: the answer of an accepted program is shown by a run of its source, with that run's ending.
 -- Manual: nothing; this is (own).
-use Rattle.std.specs.Prelude.{Bool, List, [], Option, length, map, take, ℕ, ⊤, ◌*◌, ◌<◌, ◌≡◌}
+use Rattle.std.specs.Prelude.{Bool, List, [], Option, length, take, ℕ, ⊤, ◌*◌, ◌<◌, ◌^◌, ◌≡◌}
 use Rattle.std.specs.Io.KnownBytes.{Appends}
 use Rattle.occ_text.specs.Words.{LogicalLine}
 use Rattle.occ_text.specs.Lines.{LinesOf}
@@ -16,8 +16,8 @@ use Rattle.occ_usage.specs.declared.checked.UsageFault.TheVariants as usage
 use Rattle.occ_term.specs.Sizes.{size_of}
 use Rattle.occ_usage.specs.Refusals.{UsageRefuses}
 use Rattle.occ_term.specs.UnfoldedProgram.{UnfoldedProgram, declared, meaning, IsWellFormed, Lawful}
-use Rattle.occ_term.specs.System.{System, start, noted_in}
-use Rattle.occ_term.specs.Runs.{Event, Run, communications, shown, EndsBy}
+use Rattle.occ_term.specs.System.{noted_in}
+use Rattle.occ_term.specs.Runs.{shown, EndsBy}
 use Rattle.occ_machine.specs.Compiled.{Program, most_instructions}
 use Rattle.occ_code.specs.CodeOf.{IsCodeOf, IsQuantum}
 use Rattle.occ_check_meaning.specs.ProgramUnfolding.{UnfoldsTo}
@@ -38,8 +38,8 @@ use Rattle.occ_play.specs.declared.fault.PlayFault.{PlayFault}
 use Rattle.occ_play.specs.declared.fault.PlayFault.TheVariants as play
 use Rattle.occ_shown.specs.Answers.{answer_text, names_of}
 use Rattle.occ_shown.specs.Counting.{failures_of, writer_of}
-use Rattle.occ_net_replay.specs.Following.{AllFit, Followed, or_limit, process_in}
-use Rattle.occ_net_replay.specs.Moments.{Accompanies}
+use Rattle.occ_net_replay.specs.Following.{AllFit, AreBytes, or_limit}
+use Rattle.occ_net_replay.specs.Moments.{IsOneRun}
 use Rattle.occ_net_tables.specs.Outcomes.{Begins, IsOutcome}
 use Rattle.occ_net_replay.specs.Replay.{Net, Replays, ending_of}
 
@@ -80,42 +80,37 @@ pub record Ran (options : Options) (source keyboard : List ℕ) (list : List Cho
 
 -- ---- the answer of an accepted program
 
--- The quantum is from 1 to 65,536. There is an unfolding of the text that keeps the usage rules, and a run of its system, with one turn of this quantum for
--- each used choice by the process that the choice selects, whose answer the bytes are, with that run's ending. In the run a
--- fault does what the options say, and a run that has noted a fault never ends. The used choices are a beginning of the list,
--- and all of it where the run goes on. Which process a choice selects is what the replay of the used choices says, over the
--- program's code for that quantum: it has the run's turns, communications, faults and ending. The run goes with that replay throughout, turn by turn: between two
--- turns each process of the replay is at the same stop in the run, and has the run's store. On each channel the messages
--- output and those input are, in order, the communicated ones, each of the channel's protocol.
-pub record IsAnswer (options : Options) (source keyboard : List ℕ) (list : List Choice) (trace : Bool) (played : Played) (bytes : List ℕ) : Type 0 where
-  pub quantum : IsQuantum options.quantum
-  pub program : UnfoldedProgram
-  pub unfolds : Unfolds source program
-  pub lawful : Lawful program
-  pub events : List Event
-  pub system : System
-  pub run : Run options.errors options.quantum (start (meaning program) keyboard) events system
-  pub ends : EndsBy options.errors system played.ending
-  pub clean : played.ending ≡ E.Ended → noted_in system ≡ []
-  pub is : bytes ≡ answer_text (shown (names_of program.channels) events) played.ending trace
-  pub used : Begins played.choices.items list
+-- A beginning of the list was used, and all of it where the run goes on.
+pub record IsUsed (list : List Choice) (played : Played) : Type 0 where
+  pub begins : Begins played.choices.items list
   pub whole : played.ending ≡ E.Limit → played.choices.items ≡ list
-  pub compiled : Program
-  pub from : IsCodeOf program options.quantum compiled
-  pub errors : compiled.errors ≡ options.errors
+
+-- The text has code. A beginning of the list was used, and the code has a replay by it. One run of the source's system stands where that
+-- replay stands at every moment, with one turn for each choice. The ending is that of the replay, and so of the run, and the bytes are
+-- what the run shows.
+pub record IsAnswer (options : Options) (source keyboard : List ℕ) (list : List Choice) (trace : Bool) (played : Played) (bytes : List ℕ) : Type 0 where
+  pub code : Program
+  pub of_text : IsTextsCode options source code
+  pub used : IsUsed list played
   pub net : Net
-  pub replays : Replays compiled keyboard played.choices.items net
-  pub throughout : (f : Followed program keyboard options.quantum compiled.errors net)
-      × Accompanies program compiled options.quantum keyboard played.choices.items net f
-      × (f.events ≡ events)
-      × (f.system ≡ system)
-  pub turns : map process_in events ≡ net.turns
-  pub communicates : communications events ≡ net.trace
-  pub noted : noted_in system ≡ net.noted
-  pub ending : played.ending ≡ or_limit (ending_of options.errors net)
-  pub output : (c : ℕ) → net.output c ≡ (shown (names_of program.channels) events).messages c
-  pub input : (c : ℕ) → net.input c ≡ (shown (names_of program.channels) events).messages c
-  pub fits : (c : ℕ) → AllFit ((declared program).protocols c) ((shown (names_of program.channels) events).messages c)
+  pub replays : Replays code keyboard played.choices.items net
+  pub run : IsOneRun of_text.program code options.quantum keyboard played.choices.items net
+  pub ending : played.ending ≡ or_limit (ending_of code.errors net)
+  pub shows : bytes ≡ answer_text (shown (names_of of_text.program.channels) run.follows.events) played.ending trace
+
+-- What follows of an answer: its run has its ending, and where it ends it has noted no fault; on each channel the messages output and
+-- those input are, in order, those that the run shows, each of the channel's protocol.
+pub record RunHas {options : Options} {source keyboard : List ℕ} {list : List Choice} {trace : Bool} {played : Played} {bytes : List ℕ} (a : IsAnswer options source keyboard list trace played bytes) : Type 0 where
+  pub ends : EndsBy options.errors a.run.follows.system played.ending
+  pub clean : played.ending ≡ E.Ended → noted_in a.run.follows.system ≡ []
+  pub output : (c : ℕ) → a.net.output c ≡ (shown (names_of a.of_text.program.channels) a.run.follows.events).messages c
+  pub input : (c : ℕ) → a.net.input c ≡ (shown (names_of a.of_text.program.channels) a.run.follows.events).messages c
+  pub fits : (c : ℕ) → AllFit ((declared a.of_text.program).protocols c) ((shown (names_of a.of_text.program.channels) a.run.follows.events).messages c)
+
+abbrev pub AnswersAreOfRuns : Type 0
+AnswersAreOfRuns =
+    (options : Options) (source keyboard : List ℕ) (list : List Choice) (trace : Bool) (played : Played) (bytes : List ℕ)
+    → AreBytes keyboard → length played.choices.items < 2 ^ 64 → (a : IsAnswer options source keyboard list trace played bytes) → RunHas a
 
 abbrev pub IsSomeAnswer : Options → (source keyboard : List ℕ) → List Choice → Bool → List ℕ → Type 0
 IsSomeAnswer options source keyboard list trace bytes = (played : Played) × IsAnswer options source keyboard list trace played bytes

@@ -22,8 +22,9 @@ use std::thread::Threads;
 
 /// Plays a program as `play_workers_in` does, and publishes its communications while it runs. In the end the publisher has
 /// published what it held at the call, published and pending, and then the run's trace, and its board is closed; the note is of
-/// all that. Watchers may look until the publisher is ended; what they are shown meanwhile is what was held, and behind it the
-/// communications of a replay of the program's code.
+/// all that. Each list that is published before is what was held, and behind it all communications of a run of the source on
+/// this keyboard, of no more turns than the limit. So the board has to be one that may show these lists, and watchers see no
+/// other one, also where there is no answer. They may look until the publisher is ended.
 ///
 /// # Errors
 ///

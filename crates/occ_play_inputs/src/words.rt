@@ -516,7 +516,7 @@ fn explore_word<'a>(alloc: Global) -> Result<Arg<'a>, AllocError> {
         .long("explore")
         .value_name("WHAT")
         .help(
-            "Tells what all lists of choices come to, with the screen for answers, without for endings; full tells answers by way of all states [default: answers]",
+            "Tells what all runs come to, with the screen for answers, without for endings; full tells answers by way of all states [default: answers]",
         )
         .num_args(0..=1)
         .require_equals(true)

@@ -30,7 +30,9 @@ use Rattle.occ_explore.specs.declared.exploration.Exploration.{Exploration}
 use Rattle.occ_explore.specs.declared.exploration.Answer.{Answer}
 use Rattle.occ_exploring.specs.Alone.{IsOnlyFor, only_status}
 use Rattle.occ_exploring.specs.Explored.{IsExplored}
-use Rattle.occ_exploring.specs.Statuses.{is_fault, has_stopped, search_status, some_ends}
+use Rattle.occ_explore.specs.declared.exploration.Verdict.{Verdict}
+use Rattle.occ_explore.specs.declared.exploration.Verdict.TheVariants.{All, More}
+use Rattle.occ_exploring.specs.Statuses.{is_fault, has_stopped, search_status, some_ends, verdict_status}
 use Rattle.occ_program.specs.Coming.{CameToBy, options_in, workers_asked, IsLookStatus, IsSearchStatus, IsStatusFor, OnlyTo, ProgramStatus, SearchedTo, found_status, look_status, of_look, of_play, of_search, of_failure, of_help}
 
 ending_small : (e : Ending) → ending_status e ≤ 7
@@ -134,13 +136,16 @@ only_small a = by (is_fault a.ending) (has_stopped a.ending)
     by false false = omega arith
 
 search_small : (e : Exploration) → search_status e ≤ 7
-search_small e = by e.all (some_ends is_fault e.answers.items) (some_ends has_stopped e.answers.items)
+search_small e = by e.verdict
   where
-    by : (all fault stop : Bool) → (if all then (if fault then 3 else if stop then 2 else 0) else 4) ≤ 7
-    by true true stop = omega arith
-    by true false true = omega arith
-    by true false false = omega arith
-    by false fault stop = omega arith
+    of : (fault stop : Bool) → (if fault then 3 else if stop then 2 else 0) ≤ 7
+    of true stop = omega arith
+    of false true = omega arith
+    of false false = omega arith
+
+    by : (v : Verdict) → verdict_status e.answers.items v ≤ 7
+    by (All lasting) = of (some_ends is_fault e.answers.items) (some_ends has_stopped e.answers.items)
+    by More = omega arith
 
 pub found_small : (found : Result Exploration PlayFault) → found_status found ≤ 7
 found_small (Ok e) = search_small e

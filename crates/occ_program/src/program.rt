@@ -17,7 +17,7 @@ use crate::tracing::trace;
 use crate::troubles::explain_failure;
 use occ_files::{Disk, Folder, Noting, Reason, printed_name, reason_of};
 use occ_play::{
-    FreeGate, Opened, Options, PlayFault, Played, RunFault, play_in, play_workers_in, status_of,
+    FreeGate, Options, PlayFault, Played, RunFault, play_in, play_workers_in, status_of,
 };
 use occ_play_inputs::failure::{of_arguments, of_words};
 use occ_play_inputs::{Failure, Inputs, Stream, Trouble, Words, read_inputs, read_words};
@@ -25,7 +25,6 @@ use occ_shown::Counted;
 use occ_watching::play_watching;
 use std::alloc::Global;
 use std::io::{IsTerminal, Write};
-use std::marker::Brand;
 use std::rt::{Env, Files};
 use std::sync::Wait;
 use std::thread::Threads;
@@ -321,7 +320,8 @@ fn play_by<R: Threads + Wait + Sync, W: Write>(
     )
 }
 
-/// Plays the source by so many workers, at whose communications a thread looks; none where there was no memory for a board.
+/// Plays the source by so many workers, at whose communications a thread looks, and prints the lines of its last look beside an
+/// answer; none where there was no memory for a board.
 fn play_looking<R: Eprint + Threads + Wait + Sync, W: Write>(
     rt: &R,
     alloc: Global,
@@ -334,18 +334,33 @@ fn play_looking<R: Eprint + Threads + Wait + Sync, W: Write>(
     ensures { IfSome result (PlayedTo (Some workers) words.now inputs.now) }
 {
     let (limit, trace) = (words.limit, words.trace);
-    play_watching::<Brand, R, W>(
+    let seen = play_watching(
         rt,
         &options_of(words),
         alloc,
-        Opened::new(),
         inputs.source.as_slice(),
         inputs.keyboard.as_slice(),
         workers,
         limit,
         trace,
         out,
-    )
+    )?;
+    match seen {
+        Ok((played, lines)) => {
+            tell_seen(rt, lines);
+            Some(Ok(played))
+        }
+        Err(fault) => Some(Err(fault)),
+    }
+}
+
+/// Prints lines that were seen to standard error.
+fn tell_seen<R: Eprint>(rt: &R, lines: Option<Vec<u8>>) {
+    if let Some(lines) = lines
+        && let Ok(text) = str::from_utf8(lines.as_slice())
+    {
+        let _ = eprint!(rt; "{text}");
+    }
 }
 
 /// Prints why nothing was played, and answers the exit status. Help and the version go to standard output, and

@@ -16,8 +16,18 @@ use Rattle.occ_net_replay.specs.Replay.{Net, Replays, begins, first_net}
 use Rattle.occ_net_trace.specs.Places.{Place, StandBehind, place_behind}
 use Rattle.occ_shown.specs.Answers.{entries_in, names_of}
 use Rattle.occ_run.specs.Gathered.{IsOfRun}
-use Rattle.occ_run.specs.Telling.{HasTold, IsBehind, IsNext, IsTraceOf, MayTell, Takes, taken}
+use Rattle.occ_run.specs.Telling.{IsBehind, IsNext, IsTake, IsTraceOf, MayTell, and_news, taken}
 use Rattle.occ_run.proofs.Growing.{entries_append, entries_back}
+
+-- The publisher has published what was held and the trace of a replay, of which it has the edition, the mark and the length.
+pub record HasTold (book : Book) (p : Program) (keyboard : List ℕ) (limit : ℕ) (held : List Entry) (front : Reached) (mark : Place) (number : ℕ) (b : Publishing) : Type 0 where
+  pub all : List Communication
+  pub of_run : IsTraceOf p keyboard limit all
+  pub told : front ≡ taken book p all
+  pub small : length all < 2 ^ 63
+  pub mark_is : mark ≡ place_behind all
+  pub counted : number ≡ length all
+  pub published : b ≡ publishing (held ++ entries_in p.channels all) [] false
 
 -- before the first turn nothing is completed
 pub none_completed : (p : Program) (keyboard : List ℕ) (limit : ℕ) → IsTraceOf p keyboard limit []
@@ -44,7 +54,7 @@ told_first book p keyboard limit held front mark number b at first zero publishe
     }
 
 module _ (book : Book) (p : Program) (keyboard : List ℕ) (limit : ℕ) (held : List Entry) (front next : Reached) (mark after : Place) (number : ℕ) (news : List Communication) (b : Publishing)
-    (h : HasTold book p keyboard limit held front mark number b) (t : Takes book p keyboard limit front mark next after news) where
+    (h : HasTold book p keyboard limit held front mark number b) (t : IsTake p keyboard limit front mark next after news) where
   grown : IsPrefix h.all t.all
   grown = entries_back (names_of p.channels) 1 h.all t.all (subst (λ (r : Reached). IsPrefix r.edition.entries (entries_in p.channels t.all)) h.told t.more)
 
@@ -57,13 +67,12 @@ module _ (book : Book) (p : Program) (keyboard : List ℕ) (limit : ℕ) (held :
   pub few : number + length news < 2 ^ 63
   few = let l = longer in let s = t.small in omega (arith, l, s)
 
-  module _ (c : Publishing) (appended : c ≡ publishing b.published (b.pending ++ entries (names_of p.channels) (number + 1) news) false) where
+  module _ (c : Publishing) (pending : c ≡ and_news b p.channels number news) where
     behind_all : c ≡ publishing (held ++ entries_in p.channels h.all) (entries (names_of p.channels) (1 + length h.all) news) false
     behind_all =
-        appended
-        ∙ (ap (λ (l : List Entry). publishing l (b.pending ++ entries (names_of p.channels) (number + 1) news) false) (ap (λ (x : Publishing). x.published) h.published)
-        ∙ (ap (λ (l : List Entry). publishing (held ++ entries_in p.channels h.all) (l ++ entries (names_of p.channels) (number + 1) news) false) (ap (λ (x : Publishing). x.pending) h.published)
-        ∙ ap (λ (n : ℕ). publishing (held ++ entries_in p.channels h.all) (entries (names_of p.channels) n news) false) (let n = h.counted in omega (arith, n))))
+        pending
+        ∙ (ap (λ (x : Publishing). and_news x p.channels number news) h.published
+        ∙ ap (λ (n : ℕ). publishing (held ++ entries_in p.channels h.all) (entries (names_of p.channels) n news) false) (let n = h.counted in omega (arith, n)))
 
     pub holds : held_by c ≡ held ++ entries_in p.channels t.all
     holds =
@@ -79,7 +88,7 @@ module _ (book : Book) (p : Program) (keyboard : List ℕ) (limit : ℕ) (held :
         record {
           all = t.all;
           of_run = t.of_run;
-          told = t.told;
+          told = t.told ∙ ap (λ (r : Reached). taken r.book p t.all) h.told;
           small = t.small;
           mark_is = t.mark;
           counted = counted ∙ longer;
@@ -110,13 +119,13 @@ module _ (book : Book) (p : Program) (keyboard : List ℕ) (limit : ℕ) (n : Pa
         is = traced k.net k.state;
       }
 
-  pub takes : (mine next : Reached) (before after : Place) (news : List Communication) → IsOfRun p keyboard limit n → Extends mine.edition told.edition → next ≡ taken told.book p trace → length trace < 2 ^ 63 → StandBehind trace before news → after ≡ place_behind trace
-      → Takes book p keyboard limit mine before next after news
-  takes mine next before after news r more is small behind mark =
+  pub takes : (mine next : Reached) (before after : Place) (news : List Communication) → IsOfRun p keyboard limit n → mine.book ≡ book → Extends mine.edition told.edition → next ≡ taken told.book p trace → length trace < 2 ^ 63 → StandBehind trace before news → after ≡ place_behind trace
+      → IsTake p keyboard limit mine before next after news
+  takes mine next before after news r of_it more is small behind mark =
       record {
         all = trace;
         of_run = of_replay r;
-        told = is ∙ ap (λ (b : Book). taken b p trace) h.of_it;
+        told = is ∙ ap (λ (b : Book). taken b p trace) (h.of_it ∙ sym of_it);
         more = prefix_trans mine.edition.entries told.edition.entries (entries_in p.channels trace) more.0 is_next.2;
         small = small;
         behind = behind;

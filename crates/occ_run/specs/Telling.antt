@@ -1,9 +1,9 @@
 -- What watchers are told of a run, when it is over and while it goes on.
 -- Manual: nothing; this is (own).
-use Rattle.std.specs.Prelude.{List, [], false, length, true, ℕ, ◌++◌, ◌<◌, ◌≡◌, ◌≤◌, ◌^◌}
+use Rattle.std.specs.Prelude.{List, [], false, length, true, ℕ, ◌+◌, ◌++◌, ◌<◌, ◌≡◌, ◌≤◌, ◌^◌}
 use mathlib.Core.List.{IsPrefix}
 use Rattle.logbook.specs.Pages.{Book}
-use Rattle.occ_term.specs.Runs.{Entry}
+use Rattle.occ_term.specs.Runs.{Entry, entries}
 use Rattle.occ_term.specs.declared.communication.Communication.{Communication}
 use Rattle.occ_term.specs.declared.names.Channel.{Channel}
 use Rattle.occ_machine.specs.Compiled.{Program}
@@ -13,7 +13,7 @@ use Rattle.occ_net.specs.Networks.{InState, IsState, Past}
 use Rattle.occ_net_replay.specs.declared.choice.Choice.{Choice}
 use Rattle.occ_net_replay.specs.Replay.{Net, Replays}
 use Rattle.occ_net_trace.specs.Places.{Place, StandBehind, place_behind}
-use Rattle.occ_shown.specs.Answers.{entries_in}
+use Rattle.occ_shown.specs.Answers.{entries_in, names_of}
 
 -- behind what was held the network's trace was published, and the board is closed
 abbrev pub TellsTrace : List Channel → (held : List Entry) → Past → Publishing → Type 0
@@ -44,27 +44,27 @@ pub record IsBehind (book : Book) (p : Program) (n : Past) (head : Book) (told :
   pub going : told.edition.last ≡ false
   pub begins : (net : Net) → IsState n net → IsPrefix told.edition.entries (entries_in p.channels net.trace)
 
--- what was taken last goes on in this history, and this trace begins with it
+-- what was taken last goes on in this history, and begins this trace
 abbrev pub IsNext : Program → (head : Book) → (told : Reached) → List Communication → Type 0
 IsNext p head told xs = (head ≡ told.book) × (told.edition.last ≡ false) × IsPrefix told.edition.entries (entries_in p.channels xs)
 
--- The trace that was taken is that of a replay, and begins with what had been taken; the mark is behind it, and the news are what it
+-- The trace that was taken is that of a replay, and what was taken before begins it. The mark is behind it, and the news are what it
 -- has behind the mark before.
-pub record Takes (book : Book) (p : Program) (keyboard : List ℕ) (limit : ℕ) (mine : Reached) (before : Place) (next : Reached) (after : Place) (news : List Communication) : Type 0 where
+pub record IsTake (p : Program) (keyboard : List ℕ) (limit : ℕ) (mine : Reached) (before : Place) (next : Reached) (after : Place) (news : List Communication) : Type 0 where
   pub all : List Communication
   pub of_run : IsTraceOf p keyboard limit all
-  pub told : next ≡ taken book p all
+  pub told : next ≡ taken mine.book p all
   pub more : IsPrefix mine.edition.entries (entries_in p.channels all)
   pub small : length all < 2 ^ 63
   pub behind : StandBehind all before news
   pub mark : after ≡ place_behind all
 
--- The publisher has published what was held and the trace of a replay, of which it has the edition, the mark and the length.
-pub record HasTold (book : Book) (p : Program) (keyboard : List ℕ) (limit : ℕ) (held : List Entry) (front : Reached) (mark : Place) (number : ℕ) (b : Publishing) : Type 0 where
-  pub all : List Communication
-  pub of_run : IsTraceOf p keyboard limit all
-  pub told : front ≡ taken book p all
-  pub small : length all < 2 ^ 63
-  pub mark_is : mark ≡ place_behind all
-  pub counted : number ≡ length all
-  pub published : b ≡ publishing (held ++ entries_in p.channels all) [] false
+-- ---- what is published of it
+
+-- these entries are pending too, and the board is open
+abbrev pub and_pending : Publishing → List Entry → Publishing
+and_pending p xs = publishing p.published (p.pending ++ xs) false
+
+-- so are those of these communications, which come behind so many
+abbrev pub and_news : Publishing → List Channel → (number : ℕ) → List Communication → Publishing
+and_news p channels number news = and_pending p (entries (names_of channels) (number + 1) news)

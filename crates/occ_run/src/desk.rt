@@ -6,7 +6,7 @@ ghost use Rattle.occ_net.specs.Networks.{fresh};
 ghost use Rattle.occ_run.specs.Held.{IsConcluded};
 ghost use Rattle.occ_run.specs.Steps.{IsWake, first_stop};
 ghost use Rattle.occ_board.specs.Editions.{blank, reached};
-ghost use Rattle.occ_run.specs.Telling.{Takes};
+ghost use Rattle.occ_run.specs.Telling.{IsTake};
 ghost use Rattle.occ_run.specs.Tokens.{opening, teller};
 ghost use Rattle.occ_run.specs.declared.progress.Stop.TheVariants as stop;
 
@@ -189,31 +189,29 @@ impl<U: OneRun> Desk<U> {
     }
 
     /// Takes the trace: copies what it has behind the mark into `news`, and puts the mark behind all of it. What was taken before
-    /// by the one who asks begins it. None where another takes too.
+    /// begins it. It is refused as if memory had run out where another takes too, as none does.
     pub fn take(
         &mut self,
         mine: &Front,
         mark: &mut Mark,
         news: &mut News,
-    ) -> Result<Option<Front>, AllocError>
+    ) -> Result<Front, AllocError>
         requires { mine.now.book ≡ U.takings }
         ensures same { self.new ≡ self.old }
         ensures takes { IfOk result
-            (λ next. IfSome next (λ f. Takes U.takings U.program U.keyboard U.limit mine.now mark.old f mark.new news.new)) }
+            (λ f. IsTake U.program U.keyboard U.limit mine.now mark.old f mark.new news.new) }
     {
         self.progress.network.replayed();
         if mine.goes_past(&self.told) {
-            return Ok(None);
+            return Err(AllocError);
         }
         let trace = self.progress.network.trace();
-        let Some(next) = all_of::<U>(&self.head, &self.told, trace) else {
-            return Ok(None);
-        };
+        let next = all_of::<U>(&self.head, &self.told, trace).ok_or(AllocError)?;
         trace.copy_behind(mark, news)?;
         let _count = trace.len();
         *mark = trace.mark();
         self.told = next.again();
-        Ok(Some(next))
+        Ok(next)
     }
 
     /// What a worker does next. A turn that it takes is out.

@@ -10,7 +10,7 @@ ghost use Rattle.occ_term.specs.Runs.{entries};
 ghost use Rattle.occ_shown.specs.Answers.{names_of};
 ghost use Rattle.occ_run.specs.Gathered.{IsGathered, IsRunOf};
 ghost use Rattle.occ_run.specs.Held.{IsConcluded};
-ghost use Rattle.occ_run.specs.Telling.{HasTold, MayTell, Takes, TellsTrace};
+ghost use Rattle.occ_run.specs.Telling.{IsTake, MayTell, TellsTrace, and_news, and_pending};
 ghost use Rattle.occ_run.specs.Tokens.{opening};
 
 use crate::desk::{Desk, OneRun};
@@ -36,8 +36,10 @@ use std::thread::Threads;
 
 /// Runs the code as `run_workers` does, and publishes its communications meanwhile. The calling thread has the publisher: it
 /// waits until there are more communications or no further turn is settled, copies the news under the workers' lock, and
-/// publishes them outside it. In the end the publisher has published what it held at the call, published and pending, and then
-/// the trace of the outcome, and its board is closed; the note is of all that. Watchers may look until the publisher is ended.
+/// publishes them outside it. Each list that is published is what the publisher held at the call, published and pending, and
+/// behind it the whole trace of a replay of this code on this keyboard, of no more choices than the limit. So the board has to
+/// be one that may show these lists, and a watcher sees no other one, also of a run that fails or never ends. In the end that
+/// trace is the outcome's, and the board is closed; the note is of all that. Watchers may look until the publisher is ended.
 ///
 /// # Errors
 ///
@@ -366,13 +368,11 @@ fn take_news<U: OneRun, R: Wait>(
 ) -> Result<(Front, bool), AllocError>
     requires { mine.now.book ≡ U.takings }
     ensures { IfOk result
-        (λ r. Takes U.takings U.program U.keyboard U.limit mine.now mark.old r.0 mark.new news.new) }
+        (λ r. IsTake U.program U.keyboard U.limit mine.now mark.old r.0 mark.new news.new) }
 {
     let (mut desk, over) = wait_for_news(rt, shared, count);
-    match desk.take(mine, mark, news)? {
-        Some(next) => Ok((next, over)),
-        None => Err(AllocError),
-    }
+    let next = desk.take(mine, mark, news)?;
+    Ok((next, over))
 }
 
 /// Appends the news, numbered on from a number, and gives the last number.
@@ -385,8 +385,8 @@ fn append_news<J: Naming>(
 ) -> Result<u64, AllocError>
     requires going { publisher.old.closed ≡ false }
     requires few { number + length news.now < 2 ^ 63 }
-    ensures appended { IfOk result (λ _. publisher.new
-        ≡ publishing publisher.old.published (publisher.old.pending ++ entries (names_of channels.now) (number + 1) news.now) false) }
+    ensures pending { IfOk result (λ _. publisher.new
+        ≡ and_news publisher.old channels.now number news.now) }
     ensures number { IfOk result (λ n. n ≡ number + length news.now) }
 {
     let mut number = number;
@@ -400,8 +400,7 @@ fn append_news<J: Naming>(
 
 fn append<J: Naming>(shown: Shown, publisher: &mut Publisher<J>) -> Result<(), AllocError>
     requires { publisher.old.closed ≡ false }
-    ensures { IfOk result (λ _. publisher.new
-        ≡ publishing publisher.old.published (publisher.old.pending ++ shown ∷ []) false) }
+    ensures { IfOk result (λ _. publisher.new ≡ and_pending publisher.old (shown ∷ [])) }
 {
     publisher.append(shown).map_err(|_| AllocError)
 }

@@ -1,5 +1,5 @@
-//! Plays a program while a thread of its own looks at its communications: [`play_watching`] prints what that thread is
-//! shown when the run is over.
+//! Plays a program while a thread of its own looks at its communications: [`play_watching`] gives the lines of what that
+//! thread is shown when the run is over.
 #![tactic(auto)]
 
 mod looking;

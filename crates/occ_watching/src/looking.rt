@@ -1,7 +1,9 @@
-//! How a watcher looks while a run goes on, and what is printed of its last look.
-use occ_play::{Naming, Publisher, Watcher, watch_lines};
-use std::alloc::Global;
-use std::sync::Wait;
+//! How a watcher looks while a run goes on, and the lines of its last look.
+ghost use Rattle.std.specs.Prelude.{◌≡◌, true, IfOk, IfSome};
+ghost use Rattle.occ_shown.specs.Answers.{trace_text};
+
+use occ_play::{Naming, Note, Shown, Watcher, watch_lines};
+use std::alloc::{AllocError, Global};
 
 /// How often the thread looks.
 const LOOKS: u32 = 1_000_000;
@@ -18,31 +20,22 @@ pub(crate) fn look_on<J: Naming>(watcher: Watcher<J>) -> Watcher<J> {
     watcher
 }
 
-/// Tells the watcher the note of what was published, prints the lines of its last look, and ends the publisher.
-pub(crate) fn tell_last<J: Naming, R: Eprint + Wait>(
-    rt: &R,
+/// The lines of what a watcher is shown that was told the last note, where it is shown anything and there is memory for them.
+pub(crate) fn last_lines<J: Naming>(
     alloc: Global,
-    publisher: Publisher<J>,
     watcher: Watcher<J>,
-) {
-    let (publisher, note) = publisher.note();
-    let told = watcher.told(&note);
-    let lines = lines_of(alloc, told);
-    publisher.end(rt);
-    if let Some(lines) = lines {
-        print_lines(rt, lines.as_slice());
-    }
-}
-
-/// The lines of what a watcher is shown, where it is shown anything.
-fn lines_of<J: Naming>(alloc: Global, watcher: Watcher<J>) -> Option<Vec<u8>> {
-    let (_watcher, lines) = watcher.look(|list| watch_lines(alloc, list)).ok()?;
+    note: &Note<J>,
+) -> Option<Vec<u8>>
+    requires { note.now.last ≡ true }
+    ensures { IfSome result (λ lines. lines.items ≡ trace_text note.now.entries) }
+{
+    let (_watcher, lines) = watcher
+        .told(note)
+        .look(
+            |list: &[Shown]| -> Result<Vec<u8>, AllocError>
+                ensures { IfOk result (λ lines. lines.items ≡ trace_text list.now) }
+            { watch_lines(alloc, list) },
+        )
+        .ok()?;
     lines.ok()
-}
-
-/// Prints lines to standard error.
-fn print_lines<R: Eprint>(rt: &R, lines: &[u8]) {
-    if let Ok(text) = str::from_utf8(lines) {
-        let _ = eprint!(rt; "{text}");
-    }
 }

@@ -1,23 +1,49 @@
 //! Plays a program while a thread of its own looks at its communications.
-ghost use Rattle.std.specs.Prelude.{◌≡◌, ◌<◌, ◌-◌, ◌^◌, IfSome, false};
+ghost use Rattle.std.specs.Prelude.{◌≡◌, ◌<◌, ◌-◌, ◌^◌, IfSome, [], false};
+ghost use Rattle.occ_board.specs.Traces.{publishing};
+ghost use Rattle.occ_play.specs.Watching.{MayTellText};
 ghost use Rattle.occ_shown.specs.Counting.{failures_of};
-ghost use Rattle.occ_watching.specs.Coming.{CameByCrew};
+ghost use Rattle.occ_watching.specs.Coming.{ToldByCrew, SeenByCrew};
 
-use crate::looking::{look_on, tell_last};
+use crate::looking::{last_lines, look_on};
 use occ_play::{
-    Board, FreeGate, Naming, Opened, Options, PlayFault, Played, Publisher, Watcher, play_watched,
+    Board, FreeGate, Naming, Note, Opened, Options, PlayFault, Played, Publisher, Watcher,
+    play_watched,
 };
 use occ_shown::Counted;
 use std::alloc::Global;
 use std::io::Write;
+use std::marker::Brand;
 use std::sync::Wait;
 use std::thread::{Threads, join};
 
 /// Plays a source as `play_workers_in` does, by turns that are free to run, beside a thread that looks at the board a million
-/// times. When the run is over, the lines of what that thread's watcher is then shown go to standard error; they are none where
-/// it is shown nothing, where there is no memory for them, and where there is no answer. None where there was no memory for the
-/// board.
-pub fn play_watching<J: Naming + Send + Sync, R: Eprint + Threads + Wait + Sync, W: Write>(
+/// times. Beside the answer come the lines of what that thread's watcher is shown when the run is over: those of all
+/// communications of the run that shows the answer. There are none where there was no memory for them, or where the watcher was
+/// given no place at the board. None at all where there was no memory for the board.
+pub fn play_watching<R: Threads + Wait + Sync, W: Write>(
+    rt: &R,
+    options: &Options,
+    alloc: Global,
+    source: &[u8],
+    keyboard: &[u8],
+    workers: u32,
+    limit: u32,
+    trace: bool,
+    out: &mut Counted<W>,
+) -> Option<Result<(Played, Option<Vec<u8>>), PlayFault>>
+    requires room { failures_of out.old < 2 ^ 64 - 1 }
+    ensures { IfSome result (SeenByCrew workers options.now source.now keyboard.now limit
+        trace) }
+{
+    let opened = Opened::new();
+    play_named::<Brand, R, W>(
+        rt, options, alloc, opened, source, keyboard, workers, limit, trace, out,
+    )
+}
+
+/// The same on a board that has a name.
+fn play_named<J: Naming + Send + Sync, R: Threads + Wait + Sync, W: Write>(
     rt: &R,
     options: &Options,
     alloc: Global,
@@ -28,10 +54,12 @@ pub fn play_watching<J: Naming + Send + Sync, R: Eprint + Threads + Wait + Sync,
     limit: u32,
     trace: bool,
     out: &mut Counted<W>,
-) -> Option<Result<Played, PlayFault>>
+) -> Option<Result<(Played, Option<Vec<u8>>), PlayFault>>
     requires book { opened ≡ J.book }
+    requires first { J.may [] }
+    requires may { MayTellText J.may options.now source.now keyboard.now limit [] }
     requires room { failures_of out.old < 2 ^ 64 - 1 }
-    ensures { IfSome result (CameByCrew workers options.now source.now keyboard.now limit
+    ensures { IfSome result (SeenByCrew workers options.now source.now keyboard.now limit
         trace) }
 {
     match Board::new::<J>(opened, alloc, 1) {
@@ -50,7 +78,7 @@ pub fn play_watching<J: Naming + Send + Sync, R: Eprint + Threads + Wait + Sync,
 }
 
 /// The same on a board that is there.
-fn play_beside<J: Naming + Send + Sync, R: Eprint + Threads + Wait + Sync, W: Write>(
+fn play_beside<J: Naming + Send + Sync, R: Threads + Wait + Sync, W: Write>(
     rt: &R,
     options: &Options,
     alloc: Global,
@@ -62,10 +90,11 @@ fn play_beside<J: Naming + Send + Sync, R: Eprint + Threads + Wait + Sync, W: Wr
     out: &mut Counted<W>,
     publisher: Publisher<J>,
     watcher: Watcher<J>,
-) -> Option<Result<Played, PlayFault>>
-    requires going { publisher.closed ≡ false }
+) -> Option<Result<(Played, Option<Vec<u8>>), PlayFault>>
+    requires fresh { publisher ≡ publishing [] [] false }
+    requires may { MayTellText J.may options.now source.now keyboard.now limit [] }
     requires room { failures_of out.old < 2 ^ 64 - 1 }
-    ensures { IfSome result (CameByCrew workers options.now source.now keyboard.now limit
+    ensures { IfSome result (SeenByCrew workers options.now source.now keyboard.now limit
         trace) }
 {
     let mut slot = Some(publisher);
@@ -73,10 +102,11 @@ fn play_beside<J: Naming + Send + Sync, R: Eprint + Threads + Wait + Sync, W: Wr
     let (watcher, played) = join(
         rt,
         || look_on(watcher),
-        || -> Option<Result<Played, PlayFault>>
-            requires going { IfSome lent.now (λ p. p.closed ≡ false) }
+        || -> Option<Result<(Played, Note<J>), PlayFault>>
+            requires fresh { IfSome lent.now (λ p. p ≡ publishing [] [] false) }
+            requires may { MayTellText J.may options.now source.now keyboard.now limit [] }
             requires room { failures_of out.now < 2 ^ 64 - 1 }
-            ensures { IfSome result (CameByCrew workers options.entry.now source.entry.now
+            ensures { IfSome result (ToldByCrew workers options.entry.now source.entry.now
                 keyboard.entry.now limit trace) }
         {
             play_slot(
@@ -84,10 +114,13 @@ fn play_beside<J: Naming + Send + Sync, R: Eprint + Threads + Wait + Sync, W: Wr
             )
         },
     );
-    if let Some(publisher) = slot {
-        tell_last(rt, alloc, publisher, watcher);
-    }
-    played
+    let seen = match played {
+        Some(Ok((played, note))) => Some(Ok((played, last_lines(alloc, watcher, &note)))),
+        Some(Err(fault)) => Some(Err(fault)),
+        None => None,
+    };
+    end(rt, slot);
+    seen
 }
 
 /// Plays a source with the publisher that is there, and puts it back where there is an answer; none without a publisher.
@@ -102,10 +135,11 @@ fn play_slot<J: Naming, R: Threads + Wait + Sync, W: Write>(
     trace: bool,
     out: &mut Counted<W>,
     slot: &mut Option<Publisher<J>>,
-) -> Option<Result<Played, PlayFault>>
-    requires going { IfSome slot.old (λ p. p.closed ≡ false) }
+) -> Option<Result<(Played, Note<J>), PlayFault>>
+    requires fresh { IfSome slot.old (λ p. p ≡ publishing [] [] false) }
+    requires may { MayTellText J.may options.now source.now keyboard.now limit [] }
     requires room { failures_of out.old < 2 ^ 64 - 1 }
-    ensures { IfSome result (CameByCrew workers options.now source.now keyboard.now limit
+    ensures { IfSome result (ToldByCrew workers options.now source.now keyboard.now limit
         trace) }
 {
     let Some(publisher) = slot.take() else {
@@ -114,18 +148,18 @@ fn play_slot<J: Naming, R: Threads + Wait + Sync, W: Write>(
     match play_watched(
         rt, options, alloc, source, keyboard, workers, limit, trace, &FreeGate, out, publisher,
     ) {
-        Ok((played, publisher, _note)) => {
-            put_back(rt, slot, publisher);
-            Some(Ok(played))
+        Ok((played, publisher, note)) => {
+            end(rt, std::mem::replace(slot, Some(publisher)));
+            Some(Ok((played, note)))
         }
         Err(fault) => Some(Err(fault)),
     }
 }
 
-/// Puts a publisher back where there is none.
-fn put_back<J: Naming, R: Wait>(rt: &R, slot: &mut Option<Publisher<J>>, publisher: Publisher<J>) {
-    match std::mem::replace(slot, Some(publisher)) {
-        Some(other) => other.end(rt),
+/// Ends a publisher that is there.
+fn end<J: Naming, R: Wait>(rt: &R, slot: Option<Publisher<J>>) {
+    match slot {
+        Some(publisher) => publisher.end(rt),
         None => {}
     }
 }

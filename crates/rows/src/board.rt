@@ -1,6 +1,7 @@
 //! A board, and its watchers.
-ghost use Rattle.std.specs.Prelude.{◌≡◌, [], false};
+ghost use Rattle.std.specs.Prelude.{◌≡◌, List, [], false};
 ghost use Rattle.occ_board.specs.Traces.{publishing};
+ghost use Rattle.occ_term.specs.Runs.{Entry};
 
 use core::mem::replace_with;
 use occ_board::{Board, Naming, Opened, Publisher, Shown, Watcher};
@@ -51,7 +52,8 @@ fn read_thrice<J: Naming, R: Wait>(
     publisher: &mut Publisher<J>,
     watcher: Watcher<J>,
 ) -> Result<[(usize, u64); 3], Fail>
-    requires { publisher.old ≡ publishing [] [] false }
+    requires fresh { publisher.old ≡ publishing [] [] false }
+    requires may { (xs : List Entry) → J.may xs }
 {
     let (watcher, first) = read(watcher)?;
     let added = publisher.append(shown(alloc, 7)?).is_ok();
@@ -67,7 +69,8 @@ fn read_thrice<J: Naming, R: Wait>(
 }
 
 fn looks<J: Naming, R: Wait + Abort>(rt: &R, alloc: Global, opened: Opened) -> Result<(), Fail>
-    requires { opened ≡ J.book }
+    requires book { opened ≡ J.book }
+    requires may { (xs : List Entry) → J.may xs }
 {
     let (mut publisher, mut watchers) = match Board::new::<J>(opened, alloc, 8) {
         Ok(board) => board,

@@ -45,6 +45,6 @@ fn laws_can_be_called(_rt: HostRuntime) {
     occ_net_replay::laws::replays_are_runs();
     occ_net_replay::laws::ready_tasks_stop();
     occ_code::laws::one_code();
-    occ_net_replay::laws::one_run_throughout();
+    occ_net_replay::laws::replays_are_one_run();
     occ_play::laws::played_again();
 }

@@ -1,5 +1,6 @@
 //! A turn that is held until a watcher has seen an entry and has left: what is communicated is published while the run goes on.
-ghost use Rattle.std.specs.Prelude.{◌≡◌, IfSome, false};
+ghost use Rattle.std.specs.Prelude.{◌≡◌, IfSome, List, false};
+ghost use Rattle.occ_term.specs.Runs.{Entry};
 
 use crate::compared::check_bytes;
 use crate::sources::{PIPELINE, code};
@@ -86,7 +87,8 @@ fn run_held<J: Naming, R: Threads + Wait + Sync>(
     gate: &Holding,
     slot: &mut Option<Publisher<J>>,
 ) -> Result<Note<J>, RunFault>
-    requires { IfSome slot.old (λ p. p.closed ≡ false) }
+    requires going { IfSome slot.old (λ p. p.closed ≡ false) }
+    requires may { (xs : List Entry) → J.may xs }
 {
     let Some(publisher) = slot.take() else {
         return Err(RunFault::Foreign);
@@ -136,14 +138,16 @@ fn run_beside<J: Naming + Send + Sync, R: Threads + Wait + Sync>(
     slot: &mut Option<Publisher<J>>,
     watchers: (Watcher<J>, Watcher<J>, Watcher<J>),
 ) -> Result<[Option<Vec<u8>>; 2], RunFault>
-    requires { IfSome slot.old (λ p. p.closed ≡ false) }
+    requires going { IfSome slot.old (λ p. p.closed ≡ false) }
+    requires may { (xs : List Entry) → J.may xs }
 {
     let (one, other, third) = watchers;
     let ((one, other), note) = join(
         rt,
         || look_all(rt, gate, one, other, third),
         || -> Result<Note<J>, RunFault>
-            requires { IfSome slot.now (λ p. p.closed ≡ false) }
+            requires going { IfSome slot.now (λ p. p.closed ≡ false) }
+            requires may { (xs : List Entry) → J.may xs }
         { run_held(rt, alloc, code, gate, slot) },
     );
     let note = note?;
@@ -161,7 +165,8 @@ fn shown<J: Naming + Send + Sync, R: Threads + Wait + Sync>(
     code: &Code,
     gate: &Holding,
 ) -> Result<[Option<Vec<u8>>; 2], RunFault>
-    requires { opened ≡ J.book }
+    requires book { opened ≡ J.book }
+    requires may { (xs : List Entry) → J.may xs }
 {
     let (publisher, mut watchers) = match Board::new::<J>(opened, alloc, 3) {
         Ok(board) => board,

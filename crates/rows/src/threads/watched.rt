@@ -1,5 +1,6 @@
 //! Runs at which a watcher looks when they are over: what it is shown, in whatever way they end.
-ghost use Rattle.std.specs.Prelude.{◌≡◌, false};
+ghost use Rattle.std.specs.Prelude.{◌≡◌, List, false};
+ghost use Rattle.occ_term.specs.Runs.{Entry};
 
 use crate::compared::check_text;
 use crate::sources::{FOUR, LETTER, PIPELINE, code};
@@ -56,7 +57,8 @@ fn fault_of<J: Naming, R: Threads + Wait + Sync, G: Gate + Sync>(
     gate: &G,
     publisher: Publisher<J>,
 ) -> Option<RunFault>
-    requires { publisher.closed ≡ false }
+    requires going { publisher.closed ≡ false }
+    requires may { (xs : List Entry) → J.may xs }
 {
     match run_watched(rt, alloc, code, b"", workers, 100, gate, publisher) {
         Ok((_, publisher, _)) => {
@@ -76,7 +78,8 @@ fn refusal<J: Naming, R: Threads + Wait + Sync, G: Gate + Sync>(
     workers: u32,
     gate: &G,
 ) -> Option<RunFault>
-    requires { opened ≡ J.book }
+    requires book { opened ≡ J.book }
+    requires may { (xs : List Entry) → J.may xs }
 {
     let (publisher, mut watchers) = match Board::new::<J>(opened, alloc, 8) {
         Ok(board) => board,
@@ -120,7 +123,8 @@ fn shown_behind<J: Naming, R: Threads + Wait + Sync>(
     watcher: Watcher<J>,
     entries: (Shown, Shown),
 ) -> Option<(usize, u64)>
-    requires { publisher.closed ≡ false }
+    requires going { publisher.closed ≡ false }
+    requires may { (xs : List Entry) → J.may xs }
 {
     let (first, second) = entries;
     let mut publisher = publisher;
@@ -153,7 +157,8 @@ fn held_and_shown<J: Naming, R: Threads + Wait + Sync>(
     code: &Code,
     entries: (Shown, Shown),
 ) -> Option<(usize, u64)>
-    requires { opened ≡ J.book }
+    requires book { opened ≡ J.book }
+    requires may { (xs : List Entry) → J.may xs }
 {
     match Board::new::<J>(opened, alloc, 1) {
         Ok((publisher, mut watchers)) => match watchers.pop() {
@@ -211,7 +216,8 @@ fn eight_shown<J: Naming, R: Threads + Wait + Sync>(
     opened: Opened,
     code: &Code,
 ) -> u32
-    requires { opened ≡ J.book }
+    requires book { opened ≡ J.book }
+    requires may { (xs : List Entry) → J.may xs }
 {
     let (publisher, watchers) = match Board::new::<J>(opened, alloc, 8) {
         Ok(board) => board,

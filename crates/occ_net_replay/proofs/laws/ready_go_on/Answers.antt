@@ -1,4 +1,4 @@
-use Rattle.occ_net_replay.proofs.OneRun.{ready_go_on}
+use Rattle.occ_net_replay.proofs.ReadyProcesses.{ready_go_on}
 use Rattle.occ_net_replay.proofs.laws.ready_go_on.Goals as goal
 
 pub returns : goal.returns

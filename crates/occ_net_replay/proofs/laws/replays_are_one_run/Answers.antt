@@ -1,4 +1,4 @@
-use Rattle.occ_net_replay.proofs.OneRun.{replays_are_one_run}
+use Rattle.occ_net_replay.proofs.Law.{replays_are_one_run}
 use Rattle.occ_net_replay.proofs.laws.replays_are_one_run.Goals as goal
 
 pub returns : goal.returns

@@ -2,6 +2,8 @@ use Rattle.std.proofs.Common.{◌++◌}
 use Rattle.occ_play.proofs.Beside.{after_written, crew_of, watched_by}
 use Rattle.occ_run.proofs.Gathered.{state_of}
 use Rattle.occ_play.proofs.Gathered.{is_outcome}
+use Rattle.occ_play.proofs.Headline.{are_bytes}
+use Rattle.occ_play.proofs.TextTraces.{may_tell}
 use Rattle.occ_play.proofs.watched.play_watched.Goals as goal
 
 pub returns-in-Ok-written-clause-played : goal.returns-in-Ok-written-clause-played
@@ -30,3 +32,8 @@ written-requires-clause-ran g c =
       code = c.in-Ok.ensures.code;
       is = is_outcome code keyboard limit network c.into_replay-outcome.result ran.run (c.into_replay-outcome.ensures ran.run.net (state_of code keyboard limit network ran.run));
     }
+
+pub watch_network-requires-clause-may : goal.watch_network-requires-clause-may
+watch_network-requires-clause-may g c =
+    let keyboard = c.args.keyboard.now in
+    may_tell g.J.Naming.may c.args.options.now c.args.source.now keyboard c.args.limit _ c.in-Ok.code c.in-Ok.ensures.code (are_bytes keyboard (λ k. (c.type_inv.keyboard k).fits)) c.ranges.limit.fits c.requires.may

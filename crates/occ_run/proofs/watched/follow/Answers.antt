@@ -1,10 +1,9 @@
-use Rattle.std.proofs.Common.{◌≡◌, ◌∙◌, ◌++◌, ◌+◌, false, refl, sym, ap, subst, List}
+use Rattle.std.proofs.Common.{◌≡◌, ◌∙◌, refl, sym, ap, subst, List}
 use mathlib.Core.List.{IsPrefix}
-use Rattle.occ_term.specs.Runs.{entries}
 use Rattle.occ_term.specs.declared.names.Channel.{Channel}
-use Rattle.occ_board.specs.Traces.{Publishing, publishing}
+use Rattle.occ_board.specs.Traces.{Publishing}
 use Rattle.occ_net_trace.specs.Places.{place_behind}
-use Rattle.occ_shown.specs.Answers.{names_of}
+use Rattle.occ_run.specs.Telling.{and_news}
 use Rattle.occ_run.proofs.Telling.{begins_held, few, held_begins, may_show, told_first, told_next}
 use Rattle.occ_run.proofs.watched.follow.Goals as goal
 
@@ -16,19 +15,19 @@ append_news-requires-clause-few g c = few _ _ _ _ _ _ _ _ _ _ _ _ c.loop.invaria
 
 pub close-requires-clause-may : goal.close-requires-clause-may
 close-requires-clause-may g c =
-    let appended = subst (λ (cs : List Channel). c.append_news.new.publisher ≡ publishing c.loop.publisher.published (c.loop.publisher.pending ++ entries (names_of cs) (c.loop.number + 1) c.take_news.new.news) false) c.requires.channels c.in_ok-number.ensures.appended in
-    may_show _ _ _ _ _ _ _ _ _ _ _ _ c.loop.invariant c.in_ok-next.ensures _ appended g.J.Naming.may c.requires.may
+    let pending = subst (λ (cs : List Channel). c.append_news.new.publisher ≡ and_news c.loop.publisher cs c.loop.number c.take_news.new.news) c.requires.channels c.in_ok-number.ensures.pending in
+    may_show _ _ _ _ _ _ _ _ _ _ _ _ c.loop.invariant c.in_ok-next.ensures _ pending g.J.Naming.may c.requires.may
 
 pub publish-requires-clause-may : goal.publish-requires-clause-may
 publish-requires-clause-may g c =
-    let appended = subst (λ (cs : List Channel). c.append_news.new.publisher ≡ publishing c.loop.publisher.published (c.loop.publisher.pending ++ entries (names_of cs) (c.loop.number + 1) c.take_news.new.news) false) c.requires.channels c.in_ok-number.ensures.appended in
-    may_show _ _ _ _ _ _ _ _ _ _ _ _ c.loop.invariant c.in_ok-next.ensures _ appended g.J.Naming.may c.requires.may
+    let pending = subst (λ (cs : List Channel). c.append_news.new.publisher ≡ and_news c.loop.publisher cs c.loop.number c.take_news.new.news) c.requires.channels c.in_ok-number.ensures.pending in
+    may_show _ _ _ _ _ _ _ _ _ _ _ _ c.loop.invariant c.in_ok-next.ensures _ pending g.J.Naming.may c.requires.may
 
 pub returns-then-over : goal.returns-then-over
 returns-then-over g c =
-    held_begins _ c.args.publisher.now.published _ (subst (λ (x : Publishing). IsPrefix c.args.publisher.now.published x.published) (sym c.in_ok-number.ensures.appended) (begins_held _ _ _ _ _ _ _ _ _ c.loop.invariant)) c.close.ensures
+    held_begins _ c.args.publisher.now.published _ (subst (λ (x : Publishing). IsPrefix c.args.publisher.now.published x.published) (sym c.in_ok-number.ensures.pending) (begins_held _ _ _ _ _ _ _ _ _ c.loop.invariant)) c.close.ensures
 
 pub loop-preserved : goal.loop-preserved
 loop-preserved g c =
-    let appended = subst (λ (cs : List Channel). c.append_news.new.publisher ≡ publishing c.loop.publisher.published (c.loop.publisher.pending ++ entries (names_of cs) (c.loop.number + 1) c.take_news.new.news) false) c.requires.channels c.in_ok-number.ensures.appended in
-    told_next _ _ _ _ _ _ _ _ _ _ _ _ c.loop.invariant c.in_ok-next.ensures _ appended _ _ c.in_ok-publish.ensures c.in_ok-number.ensures.number
+    let pending = subst (λ (cs : List Channel). c.append_news.new.publisher ≡ and_news c.loop.publisher cs c.loop.number c.take_news.new.news) c.requires.channels c.in_ok-number.ensures.pending in
+    told_next _ _ _ _ _ _ _ _ _ _ _ _ c.loop.invariant c.in_ok-next.ensures _ pending _ _ c.in_ok-publish.ensures c.in_ok-number.ensures.number

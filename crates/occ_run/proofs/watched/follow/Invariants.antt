@@ -1,4 +1,4 @@
-use Rattle.occ_run.specs.Telling.{HasTold}
+use Rattle.occ_run.proofs.Telling.{HasTold}
 use Rattle.occ_run.proofs.watched.follow.Given as goal
 
 -- what was held is published, and behind it the trace of a replay
