@@ -52,7 +52,7 @@ without_crew contents workers options source keyboard limit trace Refusal old ne
 
 -- all communications of the run that shows an answer
 abbrev trace_of : {options : Options} {source keyboard : List ℕ} {limit : ℕ} {trace : Bool} {played : Played} {bytes : List ℕ} → IsAnswerWithin options source keyboard limit trace played bytes → List Entry
-trace_of a = (shown (names_of a.answer.program.channels) a.answer.events).trace
+trace_of a = (shown (names_of a.answer.of_text.program.channels) a.answer.run.follows.events).trace
 
 module _ (workers : ℕ) (options : Options) (source keyboard : List ℕ) (limit : ℕ) (trace : Bool) where
   pub noted_answer : {W : Type 0} (contents : W → Option (List ℕ)) (old new : Counted W) (played : Played) (held : List Entry) (board : Publishing) (note : Edition)

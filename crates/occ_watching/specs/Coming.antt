@@ -25,7 +25,7 @@ CameByCrew workers options source keyboard limit trace played =
 -- an answer of workers within the limit, where this holds of the trace of the run that shows it
 abbrev pub AnswersTelling : (Holds : List Entry → Type 0) → Options → (source keyboard : List ℕ) → ℕ → Bool → Played → List ℕ → Type 0
 AnswersTelling Holds options source keyboard limit trace played bytes =
-    (a : IsAnswerWithin options source keyboard limit trace played bytes) × Holds (shown (names_of a.answer.program.channels) a.answer.events).trace
+    (a : IsAnswerWithin options source keyboard limit trace played bytes) × Holds (shown (names_of a.answer.of_text.program.channels) a.answer.run.follows.events).trace
 
 -- so it came, and where there are lines beside the answer they are those of all communications of its run
 abbrev pub SeenByCrew : {A : Type 0} → ℕ → Options → (source keyboard : List ℕ) → ℕ → Bool → Result (Played × Option (Vec ℕ A)) PlayFault → Type 0
