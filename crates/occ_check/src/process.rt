@@ -6,20 +6,20 @@ ghost use Rattle.occ_check_names.specs.View.{Unfolds};
 ghost use Rattle.occ_check_opened.specs.OpenBlocks.{Restores};
 ghost use Rattle.occ_check_opened.specs.Opened.{IsReady, body_unfolded, statement_left, alt_arms, case_options, case_variants, if_choices, par_parts, seq_parts};
 ghost use Rattle.occ_check_opened.specs.Progress.{Reads};
-ghost use Rattle.occ_check_copies.specs.Copies.{ReadsCopies};
+ghost use Rattle.occ_check_parts.specs.Copies.{ReadsCopies};
 
 use crate::opening::process_opened;
-use occ_check_arms::arms::{OpenedArm, arm_opened};
-use occ_check_arms::variants::{OpenedVariant, line_of, tag_of, variant_opened};
-use occ_check_choices::choices::{OpenedChoice, choice_opened};
-use occ_check_choices::options::{OpenedOption, none_chosen, option_opened};
 use occ_check_clashes::tags::Tags;
-use occ_check_copies::copies::{OpenedCopy, copy_opened, next_value};
 use occ_check_names::fault::CheckFault;
 use occ_check_opened::entering::headed;
 use occ_check_opened::here::Here;
 use occ_check_opened::opened::{Left, Opened, Step};
 use occ_check_opened::unfolder::Unfolder;
+use occ_check_parts::arms::{OpenedArm, arm_opened};
+use occ_check_parts::choices::{OpenedChoice, choice_opened};
+use occ_check_parts::copies::{OpenedCopy, copy_opened, next_value};
+use occ_check_parts::options::{OpenedOption, none_chosen, option_opened};
+use occ_check_parts::variants::{OpenedVariant, line_of, tag_of, variant_opened};
 use occ_held::Held;
 use occ_held::parts::Listed;
 use occ_term::{

@@ -6,7 +6,7 @@ ghost use Rattle.occ_net_replay.specs.declared.choice.Choice.{Choice};
 ghost use Rattle.occ_play.specs.Playing.{Fails, IsAnswerBy, IsTextsCode, Plays, Ran, Refuses, RefusesCode, RefusesText, Unfolds, plain};
 ghost use Rattle.occ_play.specs.Watching.{TellsAny};
 ghost use Rattle.occ_term.specs.UnfoldedProgram.{Lawful};
-ghost use Rattle.occ_play.specs.Status.{status};
+ghost use Rattle.occ_play.specs.Status.{fault_status, status};
 
 use crate::fault::PlayFault;
 use occ_check::{CheckFault, unfold};
@@ -225,9 +225,7 @@ fn front(alloc: Global, source: &[u8]) -> Result<Unfolded, PlayFault>
     Ok(unfolded)
 }
 
-/// The exit status of a program that played so: 0 ended, 1 refused, 2 stopped, 3 fault, 4 limit,
-/// 5 want of memory or threads that gave no answer, 6 a failed write, 7 a quantum that isn't from 1 to
-/// 65,536 or a number of workers that isn't from 1 to 64.
+/// The exit status of a program that played so: 0 ended, 2 stopped, 3 fault, 4 limit, and else that of the fault.
 pub fn status_of(played: &Result<Played, PlayFault>) -> u8
     ensures { result ≡ status played.now }
 {
@@ -238,20 +236,29 @@ pub fn status_of(played: &Result<Played, PlayFault>) -> u8
             Ending::Fault(_) => 3,
             Ending::Limit => 4,
         },
-        Err(PlayFault::Text(TextFault::Memory))
-        | Err(PlayFault::Parse(ParseFault::Memory))
-        | Err(PlayFault::Check(CheckFault::Memory))
-        | Err(PlayFault::Usage(UsageFault::Memory))
-        | Err(PlayFault::Code(CodeFault::Memory))
-        | Err(PlayFault::Run(RunFault::Foreign | RunFault::Spawn | RunFault::Memory))
-        | Err(PlayFault::Memory(_)) => 5,
-        Err(PlayFault::Code(CodeFault::BadQuantum)) | Err(PlayFault::Run(RunFault::BadWorkers)) =>
-            7,
-        Err(PlayFault::Text(_))
-        | Err(PlayFault::Parse(_))
-        | Err(PlayFault::Check(_))
-        | Err(PlayFault::Usage(_))
-        | Err(PlayFault::Code(_)) => 1,
-        Err(PlayFault::Write { .. }) => 6,
+        Err(fault) => status_of_fault(fault),
+    }
+}
+
+/// The exit status of a program that met this fault: 1 a refused source, 5 want of memory or threads that gave no answer, 6 a failed
+/// write, 7 a quantum that isn't from 1 to 65,536 or a number of workers that isn't from 1 to 64.
+pub fn status_of_fault(fault: &PlayFault) -> u8
+    ensures { result ≡ fault_status fault.now }
+{
+    match fault {
+        PlayFault::Text(TextFault::Memory)
+        | PlayFault::Parse(ParseFault::Memory)
+        | PlayFault::Check(CheckFault::Memory)
+        | PlayFault::Usage(UsageFault::Memory)
+        | PlayFault::Code(CodeFault::Memory)
+        | PlayFault::Run(RunFault::Foreign | RunFault::Spawn | RunFault::Memory)
+        | PlayFault::Memory(_) => 5,
+        PlayFault::Code(CodeFault::BadQuantum) | PlayFault::Run(RunFault::BadWorkers) => 7,
+        PlayFault::Text(_)
+        | PlayFault::Parse(_)
+        | PlayFault::Check(_)
+        | PlayFault::Usage(_)
+        | PlayFault::Code(_) => 1,
+        PlayFault::Write { .. } => 6,
     }
 }

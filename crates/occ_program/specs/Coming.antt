@@ -23,6 +23,7 @@ use Rattle.occ_exploring.specs.Statuses.{search_status}
 use Rattle.occ_shown.specs.Counting.{AppendsTo}
 use Rattle.occ_shown.specs.declared.counted.Counted.{Counted}
 use Rattle.occ_watching.specs.Coming.{CameByCrew, CameTo}
+use Rattle.occ_program.specs.Trying.{IsTriedPlan, IsTriedPlanFor}
 
 -- so many workers take the turns, where the words say so and name no file of choices; one, where the words say no more than that the run
 -- is watched
@@ -51,12 +52,20 @@ PlayedTo workers words inputs played = CameToBy workers words inputs.source.item
 abbrev pub RefusesSource : Words → Inputs → PlayFault → Type 0
 RefusesSource words inputs fault = Refuses (options_in words) inputs.source.items fault
 
+-- where the words name a seed, the choices are those of the first one by which the source's run doesn't end, as far as they allow
+abbrev pub IsTriedBy : Words → (source keyboard : List ℕ) → Plan → Type 0
+IsTriedBy words source keyboard plan = IsTriedPlanFor (options_in words) source keyboard words.limit words.choices words.seed words.tries plan
+
+abbrev pub TriesFrom : Words → (first : ℕ) → Inputs → Type 0
+TriesFrom words first inputs = IsTriedPlan (options_in words) inputs.source.items inputs.keyboard.items words.limit first words.tries inputs.plan
+
 -- the status of what a source came to, by the choices or the workers and with the trace that the words ask for
 pub record IsStatusFor (words : Words) (s : ℕ) : Type 0 where
   pub source : List ℕ
   pub keyboard : List ℕ
   pub plan : Plan
   pub asked : IsAskedBy words plan
+  pub tried : IsTriedBy words source keyboard plan
   pub played : Result Played PlayFault
   pub came : CameToBy (workers_in words) words source keyboard (choices_of plan) played
   pub is : s ≡ status played

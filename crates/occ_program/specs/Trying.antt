@@ -1,12 +1,15 @@
 -- Seeds that are tried one after the other.
 -- Manual: nothing; this is (own).
-use Rattle.std.specs.Prelude.{List, Result, Ok, Err, false, ℕ, ◌+◌, ◌<◌, ◌≡◌, ◌⊎◌}
+use Rattle.std.specs.Prelude.{Bool, IfErr, IfOk, IsFalse, IsTrue, List, None, Option, Result, Some, false, ℕ, ⊤, ◌+◌, ◌<◌, ◌≡◌, ◌≢◌, ◌⊎◌}
 use Rattle.occ_net_replay.specs.declared.choice.Choice.{Choice}
+use Rattle.occ_choices.specs.Plans.{choices_of}
+use Rattle.occ_choices.specs.declared.plan.Plan.{Plan}
 use Rattle.occ_term.specs.declared.ending.Ending.TheVariants.{Ended}
 use Rattle.occ_play.specs.declared.playing.Options.{Options}
 use Rattle.occ_play.specs.declared.playing.Played.{Played}
 use Rattle.occ_play.specs.declared.fault.PlayFault.{PlayFault}
-use Rattle.occ_play.specs.Playing.{IsAnswer, IsSomeAnswer, Refuses}
+use Rattle.occ_play.specs.Playing.{IsAnswer, Refuses}
+use Rattle.occ_play.specs.Status.{fault_status}
 use Rattle.occ_seeds.specs.Seeds.{seeded}
 
 -- a run of the source by these choices ends
@@ -16,22 +19,40 @@ pub record RunEnds (options : Options) (source keyboard : List ℕ) (list : List
   pub run : IsAnswer options source keyboard list false played answer
   pub ended : played.ending ≡ Ended
 
--- a play of the source by these choices came to something else: to another ending, to a refusal, or to an answer that was not written
--- whole
-pub data RunEndsNot (options : Options) (source keyboard : List ℕ) (list : List Choice) : Type 0 where
-  otherwise : (played : Played) (answer : List ℕ) → IsAnswer options source keyboard list false played answer → (played.ending ≡ Ended → ⊥) → RunEndsNot options source keyboard list
-  refused : (fault : PlayFault) → Refuses options source fault → RunEndsNot options source keyboard list
-  unwritten : (answer : List ℕ) → IsSomeAnswer options source keyboard list false answer → RunEndsNot options source keyboard list
+-- a run of the source by these choices has another ending
+pub record RunEndsOtherwise (options : Options) (source keyboard : List ℕ) (list : List Choice) : Type 0 where
+  pub played : Played
+  pub answer : List ℕ
+  pub run : IsAnswer options source keyboard list false played answer
+  pub other : played.ending ≢ Ended
 
--- what a play came to is the end of its run
-abbrev pub HasEnded : Result Played PlayFault → Type 0
-HasEnded (Ok played) = played.ending ≡ Ended
-HasEnded (Err fault) = ⊥
-
--- one of so many seeds from the first on: the run of each before it ends, and its own doesn't, or it is the last of them
+-- one of so many seeds from the first on: the run of each before it ends, and its own has another ending, or it is the last of them
 pub record IsTriedSeed (options : Options) (source keyboard : List ℕ) (limit first tries seed : ℕ) : Type 0 where
   pub place : ℕ
   pub within : place < tries
   pub is : seed ≡ first + place
   pub before : (k : ℕ) → k < place → RunEnds options source keyboard (seeded (first + k) limit)
-  pub own : RunEndsNot options source keyboard (seeded (first + place) limit) ⊎ (place + 1 ≡ tries)
+  pub own : RunEndsOtherwise options source keyboard (seeded (first + place) limit) ⊎ (place + 1 ≡ tries)
+
+-- The choices are those of the seed that was tried last; of a source that the definitions refuse, for a fault that is told with
+-- status 1, those of the first seed.
+pub data IsTriedPlan (options : Options) (source keyboard : List ℕ) (limit first tries : ℕ) (plan : Plan) : Type 0 where
+  by_seed : (seed : ℕ) → IsTriedSeed options source keyboard limit first tries seed → choices_of plan ≡ seeded seed limit → IsTriedPlan options source keyboard limit first tries plan
+  by_first : (fault : PlayFault) → fault_status fault ≡ 1 → Refuses options source fault → choices_of plan ≡ seeded first limit → IsTriedPlan options source keyboard limit first tries plan
+
+-- where the choices are those of a seed
+abbrev pub IsTriedPlanFor : {Path : Type 0} → Options → (source keyboard : List ℕ) → (limit : ℕ) → Option Path → Option ℕ → (tries : ℕ) → Plan → Type 0
+IsTriedPlanFor options source keyboard limit (Some path) seed tries plan = ⊤
+IsTriedPlanFor options source keyboard limit None (Some first) tries plan = IsTriedPlan options source keyboard limit first tries plan
+IsTriedPlanFor options source keyboard limit None None tries plan = ⊤
+
+-- ---- private contracts alone cite what follows
+
+-- whether the run by these choices ends
+abbrev pub TellsEnd : {E : Type 0} → Result Bool E → Options → (source keyboard : List ℕ) → List Choice → Type 0
+TellsEnd r options source keyboard list =
+    IfOk r (λ ends. (IsTrue ends → RunEnds options source keyboard list) × (IsFalse ends → RunEndsOtherwise options source keyboard list))
+
+-- a fault that is told with status 1 refuses the source
+abbrev pub RefusesWith1 : {X : Type 0} → Result X PlayFault → Options → (source : List ℕ) → Type 0
+RefusesWith1 r options source = IfErr r (λ fault. fault_status fault ≡ 1 → Refuses options source fault)

@@ -1,18 +1,19 @@
 //! Tries the seeds that the words ask for.
-ghost use Rattle.std.specs.Prelude.{◌+◌, ◌-◌, ◌^◌, ◌≤◌, ◌<◌, IfOk, IsFalse, IsTrue, OnOk};
+ghost use Rattle.std.specs.Prelude.{◌≡◌, ◌+◌, ◌-◌, ◌^◌, ◌≤◌, ◌<◌, IfOk, OnOk};
 ghost use Rattle.occ_choices.specs.Plans.{choices_of};
 ghost use Rattle.occ_play_inputs.specs.Asked.{IsAskedBy, IsSeeded};
-ghost use Rattle.occ_program.specs.Trying.{RunEnds, RunEndsNot, HasEnded, IsTriedSeed};
+ghost use Rattle.occ_program.specs.Coming.{IsTriedBy, TriesFrom};
+ghost use Rattle.occ_program.specs.Trying.{IsTriedSeed, RefusesWith1, TellsEnd};
 ghost use Rattle.occ_seeds.specs.Seeds.{seeded};
 ghost use Rattle.occ_shown.specs.Counting.{failures_of};
 
 use crate::program::options_of;
 use occ_choices::Plan;
-use occ_play::{Ending, Options, PlayFault, Played, play_in};
+use occ_play::{Ending, Options, PlayFault, play_in, status_of_fault};
 use occ_play_inputs::{Failure, Inputs, Words};
 use occ_seeds::seeded_plan;
 use occ_shown::Counted;
-use std::alloc::{AllocError, Global};
+use std::alloc::Global;
 use std::io::Write;
 
 /// Puts the choices of the first seed by which the run doesn't end into the plan, where the words name a seed; those of the last
@@ -23,7 +24,9 @@ pub(crate) fn take_seed(
     inputs: &mut Inputs,
 ) -> Result<(), Failure>
     requires { IsAskedBy words.now inputs.old.plan }
-    ensures { OnOk result (IsAskedBy words.now inputs.new.plan) }
+    ensures asked { OnOk result (IsAskedBy words.now inputs.new.plan) }
+    ensures tried { OnOk result (IsTriedBy words.now
+        inputs.new.source.items inputs.new.keyboard.items inputs.new.plan) }
 {
     match (words.choices, words.seed) {
         (None, Some(first)) => take_seed_from(alloc, words, inputs, first),
@@ -31,7 +34,8 @@ pub(crate) fn take_seed(
     }
 }
 
-/// Puts the choices of a seed into the plan, of those that are tried from this one on.
+/// Puts the choices of a seed into the plan, of those that are tried from this one on. A source that is refused is refused by
+/// whichever choices.
 fn take_seed_from(
     alloc: Global,
     words: &Words<'_>,
@@ -39,9 +43,10 @@ fn take_seed_from(
     first: u32,
 ) -> Result<(), Failure>
     requires { first ≤ 1000000000 }
-    ensures { OnOk result (IsSeeded words.now.limit first words.now.tries inputs.new.plan) }
+    ensures seeded { OnOk result (IsSeeded words.now.limit first words.now.tries inputs.new.plan) }
+    ensures tried { OnOk result (TriesFrom words.now first inputs.new) }
 {
-    let seed = tried_seed(
+    let tried = tried_seed(
         &options_of(words),
         alloc,
         inputs.source.as_slice(),
@@ -49,14 +54,32 @@ fn take_seed_from(
         words.limit,
         first,
         words.tries,
-    )?;
-    let plan = seeded_plan(alloc, seed, words.limit)?;
+    );
+    match tried {
+        Ok(seed) => plan_seed(alloc, words.limit, inputs, seed),
+        Err(fault) if status_of_fault(&fault) == 1 => plan_seed(alloc, words.limit, inputs, first),
+        Err(_) => Err(Failure::Memory),
+    }
+}
+
+/// Puts the choices of this seed into the plan.
+fn plan_seed(
+    alloc: Global,
+    limit: u32,
+    inputs: &mut Inputs,
+    seed: u32,
+) -> Result<(), Failure>
+    ensures planned { OnOk result (choices_of inputs.new.plan ≡ seeded seed limit) }
+    ensures source { inputs.new.source ≡ inputs.old.source }
+    ensures keyboard { inputs.new.keyboard ≡ inputs.old.keyboard }
+{
+    let plan = seeded_plan(alloc, seed, limit)?;
     inputs.plan = plan;
     Ok(())
 }
 
-/// The first of so many seeds, from this one on, by whose choices a run of the source doesn't end, or is not played at all; the last
-/// of them where each of the others ends.
+/// The first of so many seeds, from this one on, by whose choices a run of the source doesn't end; the last of them where each of
+/// the others ends.
 fn tried_seed(
     options: &Options,
     alloc: Global,
@@ -65,10 +88,12 @@ fn tried_seed(
     limit: u32,
     first: u32,
     tries: u32,
-) -> Result<u32, AllocError>
+) -> Result<u32, PlayFault>
     requires some { 1 ≤ tries }
     requires few { first + tries < 4294967296 }
-    ensures { IfOk result (IsTriedSeed options.now source.now keyboard.now limit first tries) }
+    ensures tried {
+        IfOk result (IsTriedSeed options.now source.now keyboard.now limit first tries) }
+    ensures refused { RefusesWith1 result options.now source.now }
 {
     let last = tries - 1;
     for place in 0..last {
@@ -88,17 +113,14 @@ fn ends_by(
     keyboard: &[u8],
     limit: u32,
     seed: u32,
-) -> Result<bool, AllocError>
-    ensures ends { IfOk result (λ is. IsTrue is
-        → RunEnds options.now source.now keyboard.now (seeded seed limit)) }
-    ensures not { IfOk result (λ is. IsFalse is
-        → RunEndsNot options.now source.now keyboard.now (seeded seed limit)) }
+) -> Result<bool, PlayFault>
+    ensures ends { TellsEnd result options.now source.now keyboard.now (seeded seed limit) }
+    ensures refused { RefusesWith1 result options.now source.now }
 {
     let plan = seeded_plan(alloc, seed, limit)?;
     let mut answer = Vec::new(alloc);
     let mut out = Counted::new(&mut answer);
-    let ends = ends_on(options, alloc, source, keyboard, &plan, &mut out);
-    Ok(ends)
+    ends_on(options, alloc, source, keyboard, &plan, &mut out)
 }
 
 /// Whether the run by this plan ends.
@@ -109,24 +131,11 @@ fn ends_on<W: Write>(
     keyboard: &[u8],
     plan: &Plan,
     out: &mut Counted<W>,
-) -> bool
+) -> Result<bool, PlayFault>
     requires room { failures_of out.old < 2 ^ 64 - 1 }
-    ensures ends { IsTrue result → RunEnds options.now source.now keyboard.now
-        (choices_of plan.now) }
-    ensures not { IsFalse result → RunEndsNot options.now source.now keyboard.now
-        (choices_of plan.now) }
+    ensures ends { TellsEnd result options.now source.now keyboard.now (choices_of plan.now) }
+    ensures refused { RefusesWith1 result options.now source.now }
 {
-    let played = play_in(options, alloc, source, keyboard, plan, false, out);
-    has_ended(&played)
-}
-
-/// Whether a play came to the end of its run.
-fn has_ended(played: &Result<Played, PlayFault>) -> bool
-    ensures ends { IsTrue result → HasEnded played.now }
-    ensures not { IsFalse result → HasEnded played.now → ⊥ }
-{
-    match played {
-        Ok(played) => played.ending == Ending::Ended,
-        Err(_) => false,
-    }
+    let played = play_in(options, alloc, source, keyboard, plan, false, out)?;
+    Ok(played.ending == Ending::Ended)
 }

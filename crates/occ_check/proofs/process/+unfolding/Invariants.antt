@@ -10,16 +10,16 @@ use Rattle.occ_check_opened.specs.Weights.{node_size, nodes_size}
 use Rattle.occ_check_opened.specs.Progress.{counted, meant_at, weight_at}
 use Rattle.occ_check_opened.proofs.Listing.{Listed}
 use Rattle.occ_check.proofs.Gathering.{Gathered}
-use Rattle.occ_check_choices.proofs.ChoiceLists.{choices_in, put_choices}
-use Rattle.occ_check_arms.proofs.ArmLists.{arms_in, put_arms}
-use Rattle.occ_check_choices.proofs.OptionLists.{options_in, put_options}
+use Rattle.occ_check_parts.proofs.ChoiceLists.{choices_in, put_choices}
+use Rattle.occ_check_parts.proofs.ArmLists.{arms_in, put_arms}
+use Rattle.occ_check_parts.proofs.OptionLists.{options_in, put_options}
 use Rattle.occ_check_clashes.specs.Tags.{AreTagsOf, listed_in}
-use Rattle.occ_check_arms.proofs.VariantLists.{put_variants, variants_in}
-use Rattle.occ_check_copies.proofs.Beside.{branches_in, branch_one, branch_step, put_branch}
+use Rattle.occ_check_parts.proofs.VariantLists.{put_variants, variants_in}
+use Rattle.occ_check_parts.proofs.Beside.{branches_in, branch_one, branch_step, put_branch}
 use Rattle.occ_check.proofs.InTurn.{in_turn, in_turn_one, in_turn_step, put_term}
 use Rattle.occ_tree_grammar.specs.Lines.Views.{replicator_of}
 use Rattle.occ_check_meaning.specs.Performing.{copied}
-use Rattle.occ_check_copies.proofs.CopyLists.{Copied}
+use Rattle.occ_check_parts.proofs.CopyLists.{Copied}
 use Rattle.occ_check.proofs.process.+unfolding.Given as goal
 
 abbrev pub decreases-process_unfolded : goal.decreases-process_unfolded

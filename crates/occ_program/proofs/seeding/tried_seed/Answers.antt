@@ -6,15 +6,15 @@ use Rattle.occ_seeds.specs.Seeds.{seeded}
 
 pub loop-place-preserved : goal.loop-place-preserved
 loop-place-preserved c =
-    one_more {P = λ k. RunEnds c.args.options.now c.args.source.now c.args.keyboard.now (seeded (c.args.first + k) c.args.limit)} c.loop-place.place c.loop-place.invariant (c.in_ok-ends.ensures.ends c.if-not-ends.false)
+    one_more {P = λ k. RunEnds c.args.options.now c.args.source.now c.args.keyboard.now (seeded (c.args.first + k) c.args.limit)} c.loop-place.place c.loop-place.invariant (c.in_ok-ends.ensures.ends.0 c.if-not-ends.false)
 
-pub returns-then-not-ends : goal.returns-then-not-ends
-returns-then-not-ends c =
+pub returns-then-not-ends-clause-tried : goal.returns-then-not-ends-clause-tried
+returns-then-not-ends-clause-tried c =
     let lt = c.loop-place-test.true in
-    record { place = c.loop-place.place; within = omega (arith, lt); is = refl; before = c.loop-place.invariant; own = inl (c.in_ok-ends.ensures.not c.if-not-ends.true) }
+    record { place = c.loop-place.place; within = omega (arith, lt); is = refl; before = c.loop-place.invariant; own = inl (c.in_ok-ends.ensures.ends.1 c.if-not-ends.true) }
 
-pub returns : goal.returns
-returns c =
+pub returns-clause-tried : goal.returns-clause-tried
+returns-clause-tried c =
     let past = c.loop-place-test.false in
     let inside = c.loop-place.auto.place-end in
     let some = c.requires.some in

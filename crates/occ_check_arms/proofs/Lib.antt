@@ -1,3 +1,0 @@
-pub mod HeldLists
-pub mod VariantLists
-pub mod ArmLists

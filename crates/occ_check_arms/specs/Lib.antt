@@ -1,3 +1,0 @@
-pub mod Guards
-pub mod Variants
-pub mod Arms
