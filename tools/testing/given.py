@@ -37,12 +37,17 @@ WRONG = [
     "--limit=1 --limit=1", "--trace --trace",
     # words of one run beside a search, or beside a check
     "--explore --limit=1", "--workers=2 --explore", "--explore --choices=c", "--explore --trace", "--explore --watch",
-    "--explore --chart=s", "--explore --arrows=5", "--explore --steps=u", "--check --trace",
+    "--explore --chart=s", "--explore --arrows=5", "--explore --steps=u", "--explore --seed=1", "--explore --seed=1 --tries=2",
+    "--explore --trace-to=t", "--explore --json", "--explore --last=1", "--check --explore", "--check --states=5", "--check --record=r",
+    "--check --trace", "--check --trace-to=t", "--check --json", "--check --chart=s", "--check --arrows=5", "--check --last=5",
+    "--check --steps=u", "--check --seed=1", "--check --tries=2", "--check --choices=c", "--check --workers=2", "--check --watch",
+    "--check --limit=1",
     # words that exclude one another, and words that need another one
     "--chart=s --last=5 --arrows=5", "--seed=1 --workers=2", "--states=5", "--arrows=5", "--last=5", "--tries=2", "--json",
     # one file named twice
     "--record=x.occ", "--chart=x.occ", "--record=f --choices=f", "--chart=f --choices=f", "--record=f --chart=f", "--trace-to=x.occ",
-    "--chart=f --trace-to=f", "--steps=x.occ", "--steps=f --trace-to=f",
+    "--chart=f --trace-to=f", "--steps=x.occ", "--steps=f --trace-to=f", "--trace-to=c --choices=c", "--steps=c --choices=c",
+    "--record=f --trace-to=f", "--record=f --steps=f", "--chart=f --steps=f",
 ]
 # words that are allowed
 ALLOWED = [

@@ -84,6 +84,7 @@ COUNTED = HEAD + """  CHAN OF INT::[]BYTE c:
 """
 ECHO = HEAD + "  SEQ i = 0 FOR 3\n    BYTE b:\n    SEQ\n      keyboard ? b\n      screen ! b\n:\n"
 ENDLESS = HEAD + "  WHILE TRUE\n    SKIP\n:\n"
+DINING = (TOP / "examples/faults/dining.occ").read_text()
 SOURCES = [("a byte", BYTE), ("a pipeline", PIPELINE), ("copies", COPIES), ("a choice", CHOICE), ("tags", TAGS), ("a count", COUNTED)]
 REFUSED = [
     ("an open string", HEAD + '  screen ! "ab\n:\n'),
@@ -119,6 +120,7 @@ def table():
     yield "a keyboard", ECHO, "hi", ["--watch", "--choices", "zeros.choices"]
     yield *REFUSED[-2], "", ["--watch"]
     yield "no end", ENDLESS, "", ["--limit", "100"]
+    yield "seeds", DINING, "", ["--seed", "1", "--tries", "4", "--limit", "100"]
     yield "no source", None, "", []
     yield "help", BYTE, "", ["--help"]
     yield "wrong words", BYTE, "", ["--limit", "x"]

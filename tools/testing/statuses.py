@@ -33,6 +33,34 @@ ENDS = HEAD + """  CHAN OF INT c, d:
     d ! 1
 :
 """
+EITHER = HEAD + """  CHAN OF BYTE a, b:
+  PAR
+    a ! 'a'
+    b ! 'b'
+    BYTE x:
+    SEQ
+      ALT
+        a ? x
+          b ? x
+        b ? x
+          a ? x
+      screen ! x
+:
+"""
+RACE = HEAD + """  [3]CHAN OF BYTE c:
+  PAR
+    PAR i = 0 FOR 3
+      SEQ j = 0 FOR 3
+        c[i] ! BYTE (((i * 3) + j) + 97)
+    BYTE x:
+    SEQ k = 0 FOR 9
+      SEQ
+        ALT i = 0 FOR 3
+          c[i] ? x
+            SKIP
+        screen ! x
+:
+"""
 MOST = "a picture has 990 arrows at most"
 SVG = "{http://www.w3.org/2000/svg}"
 STUCK = "after 2 communications no process can go on:\n"
@@ -145,6 +173,8 @@ CASES = [
     of(FAULTS, ["--explore=full"], 3, '1 fault ARITH line 3 "" by 1 choice\neach run ends within 1 turn\nall, 2 states\n'),
     of(FAULTS, ["--explore", "--errors", "stop"], 2, '1 stopped ARITH line 3 "" by 1 choice\neach run ends within 1 turn\nall, 2 states\n'),
     of(ENDLESS, ["--explore"], 0, "some run goes on for ever\nall, 1 state\n"),
+    of(EITHER, ["--explore"], 0, '1 ended "a" by 10 choices\n2 ended "b" by 10 choices\neach run ends within 10 turns\nall, 26 states\n'),
+    of(EITHER, ["--explore=endings"], 0, "1 ended by 10 choices\neach run ends within 10 turns\nall, 26 states\n"),
     of(SHARED, ["--explore"], 1, "", "refused 50 SharedVariable line 5 x\n"),
     of(LETTER, ["--explore"], 6, "", "write failed\n", to="/dev/full"),
     of(LETTER, ["--explore", "--record", "none/x"], 6, '1 ended "A" by 2 choices\neach run ends after 2 turns\none answer: the program has no ALT\n', "write failed\n"),
@@ -158,9 +188,12 @@ CASES = [
     of(LETTER, ["--check"], 0),
     of(STOPS, ["--check"], 0),
     of(SHARED, ["--check"], 1, "", "refused 50 SharedVariable line 5 x\n"),
-    of(SHARED, ["--check", "--trace"], 7, "", None),
+    of(SHARED, ["--check", "--explain"], 1, "", SHARED_TOLD),
+    of(LETTER, ["--check", "--explain"], 0),
     Case(["--check"], 0, given=LETTER),
     Case(["--version"], 0, None),
+    Case(["--help"], 6, "", "write failed\n", to="/dev/full"),
+    Case(["--version"], 6, "", "write failed\n", to="/dev/full"),
     of(LETTER, ["--arrows", "1"], 7, "", None),
     of(LETTER, ["--last", "1"], 7, "", None),
     of(LETTER, ["--chart", "/dev/null", "--last", "1"], 0, "A"),
@@ -320,7 +353,7 @@ def counted(program):
     os.close(ours)
     lines = told.decode().split("\r")
     counts = [int(line.split()[0]) for line in lines if line.endswith(" states")]
-    if (running.returncode, out.decode(), "") != plain or len(counts) < 4 or counts != sorted(counts) or lines[-1] or lines[-2].strip():
+    if (running.returncode, out.decode(), "") != plain or len(counts) < 4 or counts != sorted(set(counts)) or lines[-1] or lines[-2].strip():
         return f"{plain}; on a terminal {running.returncode} {out!r} {told!r}"
     return None
 
@@ -343,6 +376,40 @@ def written(program):
         if said != text.splitlines():
             wrong.append(f"objects: {said}, and not {text!r}")
         return "; ".join(wrong) or None
+
+
+def by_workers(program):
+    """What is wrong with what workers leave, or nothing: the files are of the very run that was answered, which has no more turns than
+    it may, and each turn once."""
+    with room_of({"x.occ": RACE}) as room:
+        wrong = []
+        for number in range(20):
+            limit = 5 + number
+            words = ["--workers", "3", "--limit", str(limit), "--trace", "--record", "kept", "--trace-to", "lines", "--steps", "turns", "--chart", "drawn", "x.occ"]
+            came = run(program, room, words)
+            kept, lines, turns, drawn = ((room / name).read_text() for name in ("kept", "lines", "turns", "drawn"))
+            told = [found[1] for turn in turns.splitlines() for found in [re.search(r", (\d+) p\d+>", turn)] if found]
+            made = [line for line in lines.splitlines() if line[0].isdigit()]
+            count = len([line for line in tree.fromstring(drawn).iter(f"{SVG}path") if line.get("stroke") == "black"])
+            if not came[1].endswith(lines) or len(turns.splitlines()) != kept.count("\n") or kept.count("\n") > limit or len(told) != len(made) or count != len(made):
+                wrong.append(f"{words}: {came} {kept.count(chr(10))} {len(told)} {count}")
+            if (came[0] == 4) != (kept.count("\n") == limit and lines.endswith("limit\n")):
+                wrong.append(f"{words}: {came[0]} after {kept.count(chr(10))}")
+            if run(program, room, ["--choices", "kept", "--trace", "x.occ"])[:2] != came[:2]:
+                wrong.append(f"{words}: not played again")
+        return "; ".join(wrong[:3]) or None
+
+
+def waited(program):
+    """What is wrong with a source that is missing, where the keyboard goes on, or nothing: it is told before a key is read."""
+    with room_of() as room, subprocess.Popen([program, "none.occ"], cwd=room, stdin=subprocess.PIPE, stdout=subprocess.PIPE, stderr=subprocess.PIPE) as running:
+        try:
+            status = running.wait(timeout=20)
+        except subprocess.TimeoutExpired:
+            running.kill()
+            return "the keyboard is read first"
+        err = running.stderr.read()
+        return None if (status, err) == (6, b"read failed\n") else f"{status} {err!r}"
 
 
 def item_of(item):
@@ -435,7 +502,7 @@ def helped(program):
         return None if is_well else f"--help: {status} {out!r} {err!r}"
 
 
-CHECKS = [recorded, explored, reported, typed, counted, written, drawn, seeded, helped]
+CHECKS = [recorded, explored, reported, typed, counted, written, by_workers, waited, drawn, seeded, helped]
 
 
 def jobs():

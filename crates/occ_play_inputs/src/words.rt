@@ -59,6 +59,9 @@ static OF_ONE_RUN: [&str; 13] = [
     "seed", "tries", "watch",
 ];
 
+/// What has no place beside `--check` either.
+static OF_A_SEARCH: [&str; 3] = ["record", "explore", "states"];
+
 /// What is told below the words.
 const MORE_HELP: &str =
     r#"A turn is what one process does up to its next stop: an output, an input, an ALT, a PAR,
@@ -544,9 +547,7 @@ fn check_word<'a>(alloc: Global) -> Result<Arg<'a>, AllocError> {
         .long("check")
         .help("Says whether the source is refused, and plays nothing")
         .action(ArgAction::SetTrue);
-    but_one_run(word)?
-        .conflicts_with("record")?
-        .conflicts_with("explore")
+    but_one_run(word)?.conflicts_with_all(OF_A_SEARCH.as_slice())
 }
 
 fn file_word<'a>(alloc: Global) -> Arg<'a> {
