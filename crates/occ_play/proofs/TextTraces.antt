@@ -1,7 +1,7 @@
 -- The trace of a replay of a text's code is that of a run of the text.
-use Rattle.std.proofs.Common.{◌≡◌, ◌∙◌, ◌≤◌, ◌<◌, ◌^◌, ◌+◌, refl, sym, ap, subst, ℕ, List, [], ◌∷◌, ◌++◌, length, length-append, arith}
+use Rattle.std.proofs.Common.{◌≡◌, ◌∙◌, ◌≤◌, ◌<◌, ◌^◌, ◌+◌, refl, sym, ap, subst, ℕ, List, [], ◌∷◌, length, length-append, arith}
 use Rattle.occ_term.specs.declared.names.Channel.{Channel}
-use Rattle.occ_term.specs.Runs.{Entry, Event, Run, communications, entries}
+use Rattle.occ_term.specs.Runs.{Entry, Event, Run, entries}
 use Rattle.occ_term.specs.System.{System, start}
 use Rattle.occ_term.specs.UnfoldedProgram.{UnfoldedProgram, meaning}
 use Rattle.occ_term.specs.declared.communication.Communication.{Communication}

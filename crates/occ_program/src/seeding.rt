@@ -63,12 +63,7 @@ fn take_seed_from(
 }
 
 /// Puts the choices of this seed into the plan.
-fn plan_seed(
-    alloc: Global,
-    limit: u32,
-    inputs: &mut Inputs,
-    seed: u32,
-) -> Result<(), Failure>
+fn plan_seed(alloc: Global, limit: u32, inputs: &mut Inputs, seed: u32) -> Result<(), Failure>
     ensures planned { OnOk result (choices_of inputs.new.plan ≡ seeded seed limit) }
     ensures source { inputs.new.source ≡ inputs.old.source }
     ensures keyboard { inputs.new.keyboard ≡ inputs.old.keyboard }
@@ -91,8 +86,7 @@ fn tried_seed(
 ) -> Result<u32, PlayFault>
     requires some { 1 ≤ tries }
     requires few { first + tries < 4294967296 }
-    ensures tried {
-        IfOk result (IsTriedSeed options.now source.now keyboard.now limit first tries) }
+    ensures tried { IfOk result (IsTriedSeed options.now source.now keyboard.now limit first tries) }
     ensures refused { RefusesWith1 result options.now source.now }
 {
     let last = tries - 1;

@@ -74,34 +74,31 @@ module _ (workers : ℕ) (options : Options) (source keyboard : List ℕ) (limit
   noted_fault contents old new (play.Run f) h = h.0
   noted_fault contents old new (play.Memory e) h = h.0
 
-  pub last_noted : (played : Played) (note : Edition) → ToldByCrew workers options source keyboard limit trace (Ok (played, note)) → note.last ≡ true
-  last_noted played note h = ap (λ (e : Edition). e.last) h.1.1
-
   -- lines of what the note is of
   pub seen_answer : {A : Type 0} (played : Played) (note : Edition) (lines : Option (Vec ℕ A)) → ToldByCrew workers options source keyboard limit trace (Ok (played, note)) → IfSome lines (λ l. l.items ≡ trace_text note.entries)
       → SeenByCrew workers options source keyboard limit trace (Ok (played, lines))
   seen_answer played note lines h told = (h.0, (h.1.0, subst (λ (e : Edition). IfSome lines (λ l. l.items ≡ trace_text e.entries)) h.1.1 told))
 
-  pub seen_fault : {A : Type 0} (f : PlayFault) → ToldByCrew workers options source keyboard limit trace (Err f) → SeenByCrew {A} workers options source keyboard limit trace (Err f)
-  seen_fault (play.Text f) h = h
-  seen_fault (play.Parse f) h = h
-  seen_fault (play.Check f) h = h
-  seen_fault (play.Usage f) h = h
-  seen_fault (play.Code f) h = h
-  seen_fault (play.Write written) h = (h.0, ((h.1.0.0, None), (h.1.1.0, tt)))
-  seen_fault (play.Run f) h = h
-  seen_fault (play.Memory e) h = h
+  pub seen_fault : (A : Type 0) (f : PlayFault) → ToldByCrew workers options source keyboard limit trace (Err f) → SeenByCrew {A = A} workers options source keyboard limit trace (Err f)
+  seen_fault A (play.Text f) h = h
+  seen_fault A (play.Parse f) h = h
+  seen_fault A (play.Check f) h = h
+  seen_fault A (play.Usage f) h = h
+  seen_fault A (play.Code f) h = h
+  seen_fault A (play.Write written) h = (h.0, ((h.1.0.0, None), (h.1.1.0, tt)))
+  seen_fault A (play.Run f) h = h
+  seen_fault A (play.Memory e) h = h
 
   -- without the lines
   pub came_answer : {A : Type 0} (played : Played) (lines : Option (Vec ℕ A)) → SeenByCrew workers options source keyboard limit trace (Ok (played, lines)) → CameByCrew workers options source keyboard limit trace (Ok played)
   came_answer played lines h = (h.0, h.1.0)
 
-  pub came_fault : {A : Type 0} (f : PlayFault) → SeenByCrew {A} workers options source keyboard limit trace (Err f) → CameByCrew workers options source keyboard limit trace (Err f)
-  came_fault (play.Text f) h = h
-  came_fault (play.Parse f) h = h
-  came_fault (play.Check f) h = h
-  came_fault (play.Usage f) h = h
-  came_fault (play.Code f) h = h
-  came_fault (play.Write written) h = (h.0, (h.1.0.0, h.1.1.0))
-  came_fault (play.Run f) h = h
-  came_fault (play.Memory e) h = h
+  pub came_fault : (A : Type 0) (f : PlayFault) → SeenByCrew {A = A} workers options source keyboard limit trace (Err f) → CameByCrew workers options source keyboard limit trace (Err f)
+  came_fault A (play.Text f) h = h
+  came_fault A (play.Parse f) h = h
+  came_fault A (play.Check f) h = h
+  came_fault A (play.Usage f) h = h
+  came_fault A (play.Code f) h = h
+  came_fault A (play.Write written) h = (h.0, (h.1.0.0, h.1.1.0))
+  came_fault A (play.Run f) h = h
+  came_fault A (play.Memory e) h = h
