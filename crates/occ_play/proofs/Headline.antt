@@ -8,7 +8,6 @@ use Rattle.occ_usage.specs.Refusals.{UsageRefuses}
 use Rattle.occ_term.specs.declared.fault.Errors.{Errors}
 use Rattle.occ_term.specs.declared.fault.Errors.TheVariants.{Halt, Stop}
 use Rattle.occ_term.specs.declared.fault.Fault.{Fault}
-use Rattle.occ_term.specs.System.{noted_in}
 use Rattle.occ_term.specs.Runs.{communications, messages_on, shown, shown_by, EndsBy}
 use Rattle.occ_term.specs.UnfoldedProgram.{UnfoldedProgram, IsWellFormed, declared, Lawful}
 use Rattle.occ_machine.specs.Compiled.{Program, IsCompiledFrom}
@@ -28,7 +27,7 @@ use Rattle.occ_play.specs.declared.playing.Options.{Options}
 use Rattle.occ_play.specs.declared.fault.PlayFault.{PlayFault}
 use Rattle.occ_play.specs.declared.fault.PlayFault.TheVariants as play
 use Rattle.occ_play.specs.Playing.{AnswersAreOfRuns, IsAnswer, IsTextsCode, Ran, Refuses, RefusesCode, RefusesText, Unfolds, UsageRefusesText, CodeRefusesText}
-use Rattle.occ_net_replay.specs.Replay.{Net, Replays, ending_of, ending_by, standing_by, stopped_by}
+use Rattle.occ_net_replay.specs.Replay.{Replays, ending_of, ending_by, standing_by, stopped_by}
 use Rattle.occ_net_replay.proofs.Law.{noted_never_end, replays_are_one_run, replays_are_runs}
 
 -- the bytes of a keyboard

@@ -9,7 +9,6 @@ use Rattle.occ_net_tables.specs.Outcomes.{IsOutcome}
 use Rattle.occ_net.specs.Networks.{Past}
 use Rattle.occ_net.specs.Outcomes.{IsReplayOf}
 use Rattle.occ_run.specs.Gathered.{IsGathered}
-use Rattle.occ_run.specs.declared.fault.RunFault.TheVariants as run
 use Rattle.occ_play.specs.declared.playing.Played.{Played}
 use Rattle.occ_play.specs.declared.fault.PlayFault.{PlayFault}
 use Rattle.occ_play.specs.declared.fault.PlayFault.TheVariants as play

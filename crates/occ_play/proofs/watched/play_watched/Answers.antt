@@ -34,6 +34,6 @@ written-requires-clause-ran g c =
     }
 
 pub watch_network-requires-clause-may : goal.watch_network-requires-clause-may
-watch_network-requires-clause-may g c =
+watch_network-requires-clause-may g c = λ _ _.
     let keyboard = c.args.keyboard.now in
     may_tell g.J.Naming.may c.args.options.now c.args.source.now keyboard c.args.limit _ c.in-Ok.code c.in-Ok.ensures.code (are_bytes keyboard (λ k. (c.type_inv.keyboard k).fits)) c.ranges.limit.fits c.requires.may
