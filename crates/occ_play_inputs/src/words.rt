@@ -547,7 +547,12 @@ fn check_word<'a>(alloc: Global) -> Result<Arg<'a>, AllocError> {
         .long("check")
         .help("Says whether the source is refused, and plays nothing")
         .action(ArgAction::SetTrue);
-    but_one_run(word)?.conflicts_with_all(OF_A_SEARCH.as_slice())
+    but_a_search(but_one_run(word)?)
+}
+
+/// A word beside which those of a search may not stand either.
+fn but_a_search<'a>(word: Arg<'a>) -> Result<Arg<'a>, AllocError> {
+    word.conflicts_with_all(OF_A_SEARCH.as_slice())
 }
 
 fn file_word<'a>(alloc: Global) -> Arg<'a> {
