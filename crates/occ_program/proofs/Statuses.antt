@@ -1,7 +1,7 @@
 -- Exit statuses are at most 7, and what they come from.
 use Rattle.std.proofs.Common.{ℕ, ◌≤◌, ◌≡◌, ◌⊎◌, inl, inr, List, Bool, true, false, ap, arith, refl, subst, sym}
 use Rattle.std.specs.Result.{result_and}
-use Rattle.std.specs.Prelude.{Result, Ok, Err, IfOk, IfErr, IfSome, None, Option, Some, if◌then◌else◌, unwrap_or}
+use Rattle.std.specs.Prelude.{IfNone, Result, Ok, Err, IfOk, IfErr, IfSome, None, Option, Some, if◌then◌else◌, unwrap_or}
 use Rattle.std.specs.Option.{ForSome}
 use Rattle.occ_choices.specs.Crews.{IsCrew}
 use Rattle.occ_text.specs.declared.fault.TextFault.TheVariants as text
@@ -28,7 +28,7 @@ use Rattle.occ_watching.specs.Coming.{CameTo}
 use Rattle.occ_explore.specs.declared.exploration.Asked.{Asked as AskedFor}
 use Rattle.occ_explore.specs.declared.exploration.Exploration.{Exploration}
 use Rattle.occ_explore.specs.declared.exploration.Answer.{Answer}
-use Rattle.occ_exploring.specs.Alone.{IsOnlyFor, only_status}
+use Rattle.occ_exploring.specs.Alone.{IsOnlyFor, IsUntoldFor, only_status}
 use Rattle.occ_exploring.specs.Explored.{IsExplored}
 use Rattle.occ_explore.specs.declared.exploration.Verdict.{Verdict}
 use Rattle.occ_explore.specs.declared.exploration.Verdict.TheVariants.{All, More}
@@ -121,11 +121,12 @@ searched_to words source keyboard bytes keys asked options (Err f) same from typ
 -- what one run told, by its two clauses
 pub only_to : (words : Asked) (source keyboard bytes keys : List ℕ) (options : Options) (found : Result (Option Answer) PlayFault)
     → options ≡ options_in words → bytes ≡ source → keys ≡ keyboard
-    → IfOk found (λ o. IfSome o (IsOnlyFor options bytes keys)) → IfErr found (Refuses options bytes) → OnlyTo words source keyboard found
-only_to words source keyboard bytes keys options (Ok None) same from typed h g = tt
-only_to words source keyboard bytes keys options (Ok (Some a)) same from typed h g =
+    → IfOk found (λ o. IfSome o (IsOnlyFor options bytes keys)) → IfOk found (λ o. IfNone o (IsUntoldFor options bytes keys words.states)) → IfErr found (Refuses options bytes) → OnlyTo words source keyboard found
+only_to words source keyboard bytes keys options (Ok None) same from typed h u g =
+    subst (λ o. IsUntoldFor o source keyboard words.states) same (subst (λ k. IsUntoldFor options source k words.states) typed (subst (λ s. IsUntoldFor options s keys words.states) from u))
+only_to words source keyboard bytes keys options (Ok (Some a)) same from typed h u g =
     subst (λ o. IsOnlyFor o source keyboard a) same (subst (λ k. IsOnlyFor options source k a) typed (subst (λ s. IsOnlyFor options s keys a) from h))
-only_to words source keyboard bytes keys options (Err f) same from typed h g = subst (λ o. Refuses o source f) same (subst (λ s. Refuses options s f) from g)
+only_to words source keyboard bytes keys options (Err f) same from typed h u g = subst (λ o. Refuses o source f) same (subst (λ s. Refuses options s f) from g)
 
 pub only_small : (a : Answer) → only_status a ≤ 7
 only_small a = by (is_fault a.ending) (has_stopped a.ending)

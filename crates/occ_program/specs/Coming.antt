@@ -1,6 +1,6 @@
 -- What an exit status says of the source, the keyboard and the choices that were played.
 -- Manual: nothing; this is (own).
-use Rattle.std.specs.Prelude.{Bool, IsTrue, false, true, unwrap_or, List, None, Option, Some, Result, ℕ, ◌≡◌, Ok, Err, ⊤}
+use Rattle.std.specs.Prelude.{Bool, IsTrue, false, true, unwrap_or, List, None, Option, Some, Result, ℕ, ◌≡◌, Ok, Err}
 use Rattle.occ_net_replay.specs.declared.choice.Choice.{Choice}
 use Rattle.occ_play_inputs.specs.declared.failure.Failure.{Failure}
 use Rattle.occ_choices.specs.declared.plan.Plan.{Plan}
@@ -17,7 +17,7 @@ use Rattle.occ_play.specs.Status.{fault_status, status}
 use Rattle.occ_explore.specs.declared.exploration.Asked.{Asked}
 use Rattle.occ_explore.specs.declared.exploration.Exploration.{Exploration}
 use Rattle.occ_explore.specs.declared.exploration.Answer.{Answer}
-use Rattle.occ_exploring.specs.Alone.{IsOnlyFor, only_status}
+use Rattle.occ_exploring.specs.Alone.{IsOnlyFor, IsUntoldFor, only_status}
 use Rattle.occ_exploring.specs.Explored.{IsExplored}
 use Rattle.occ_exploring.specs.Statuses.{search_status}
 use Rattle.occ_shown.specs.Counting.{AppendsTo}
@@ -59,16 +59,18 @@ IsTriedBy words source keyboard plan = IsTriedPlanFor (options_in words) source 
 abbrev pub TriesFrom : Words → (first : ℕ) → Inputs → Type 0
 TriesFrom words first inputs = IsTriedPlan (options_in words) inputs.source.items inputs.keyboard.items words.limit first words.tries inputs.plan
 
--- the status of what a source came to, by the choices or the workers and with the trace that the words ask for
-pub record IsStatusFor (words : Words) (s : ℕ) : Type 0 where
-  pub source : List ℕ
-  pub keyboard : List ℕ
+-- the status of what this source came to, by the choices or the workers and with the trace that the words ask for
+pub record IsStatusOf (words : Words) (source keyboard : List ℕ) (s : ℕ) : Type 0 where
   pub plan : Plan
   pub asked : IsAskedBy words plan
   pub tried : IsTriedBy words source keyboard plan
   pub played : Result Played PlayFault
   pub came : CameToBy (workers_in words) words source keyboard (choices_of plan) played
   pub is : s ≡ status played
+
+-- that of some source
+abbrev pub IsStatusFor : Words → ℕ → Type 0
+IsStatusFor words s = (source : List ℕ) × (keyboard : List ℕ) × IsStatusOf words source keyboard s
 
 -- ---- a search of all lists of choices
 
@@ -83,7 +85,7 @@ found_status (Err fault) = fault_status fault
 
 -- whether one run tells it, as the words ask
 abbrev pub OnlyTo : Words → (source keyboard : List ℕ) → Result (Option Answer) PlayFault → Type 0
-OnlyTo words source keyboard (Ok None) = ⊤
+OnlyTo words source keyboard (Ok None) = IsUntoldFor (options_in words) source keyboard words.states
 OnlyTo words source keyboard (Ok (Some a)) = IsOnlyFor (options_in words) source keyboard a
 OnlyTo words source keyboard (Err fault) = Refuses (options_in words) source fault
 

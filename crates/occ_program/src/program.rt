@@ -1,6 +1,7 @@
 //! The program around `play`: what it reads and prints, and its exit status.
 ghost use Rattle.std.specs.Prelude.{◌≡◌, ◌≤◌, ◌<◌, ◌-◌, ◌^◌, ◌⊎◌, IfErr, IfOk, IfSome, None, Some, false, true};
-ghost use Rattle.occ_program.specs.Coming.{IsLookStatus, IsStatusFor, PlayedTo, ProgramStatus, RefusesSource, options_in, workers_in};
+ghost use Rattle.occ_play_inputs.specs.Asked.{IsAskedBy};
+ghost use Rattle.occ_program.specs.Coming.{IsLookStatus, IsStatusFor, IsStatusOf, PlayedTo, ProgramStatus, RefusesSource, options_in, workers_in};
 ghost use Rattle.occ_shown.specs.Counting.{failures_of};
 ghost use Rattle.occ_play.specs.Status.{status};
 ghost use Rattle.occ_play_inputs.specs.Failures.{failure_status};
@@ -148,13 +149,28 @@ where
     ensures small { IfOk result (λ status. status ≤ 7) }
 {
     let mut inputs = read_inputs(rt, alloc, words)?;
-    take_seed(alloc, words, &mut inputs)?;
+    run_inputs(rt, alloc, words, &mut inputs)
+}
+
+/// Plays what was read, and leaves what the words ask for.
+fn run_inputs<R: Files + Print + Eprint + Threads + Wait + Sync>(
+    rt: &R,
+    alloc: Global,
+    words: &Words<'_>,
+    inputs: &mut Inputs,
+) -> Result<u8, Failure>
+    requires { IsAskedBy words.now inputs.old.plan }
+    ensures came { IfOk result
+        (IsStatusOf words.now inputs.old.source.items inputs.old.keyboard.items) }
+    ensures small { IfOk result (λ status. status ≤ 7) }
+{
+    take_seed(alloc, words, inputs)?;
     let mut screen = Noting::new(io::writer(rt));
-    let played = play_on(rt, alloc, words, &inputs, &mut screen)?;
+    let played = play_on(rt, alloc, words, inputs, &mut screen)?;
     let mut folder = Disk::new(rt, alloc);
-    let left = leave(&mut folder, alloc, words, &inputs, &played)?;
+    let left = leave(&mut folder, alloc, words, inputs, &played)?;
     let came = left.and(played);
-    Ok(told(rt, alloc, words, &inputs, &came, screen.reason()))
+    Ok(told(rt, alloc, words, inputs, &came, screen.reason()))
 }
 
 /// Records the used choices, draws a chart, and writes the trace and the turns, in this order, where the words ask for that. Where one

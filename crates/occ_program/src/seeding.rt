@@ -25,6 +25,8 @@ pub(crate) fn take_seed(
 ) -> Result<(), Failure>
     requires { IsAskedBy words.now inputs.old.plan }
     ensures asked { OnOk result (IsAskedBy words.now inputs.new.plan) }
+    ensures source { inputs.new.source ≡ inputs.old.source }
+    ensures keyboard { inputs.new.keyboard ≡ inputs.old.keyboard }
     ensures tried { OnOk result (IsTriedBy words.now
         inputs.new.source.items inputs.new.keyboard.items inputs.new.plan) }
 {
@@ -45,6 +47,8 @@ fn take_seed_from(
     requires { first ≤ 1000000000 }
     ensures seeded { OnOk result (IsSeeded words.now.limit first words.now.tries inputs.new.plan) }
     ensures tried { OnOk result (TriesFrom words.now first inputs.new) }
+    ensures source { inputs.new.source ≡ inputs.old.source }
+    ensures keyboard { inputs.new.keyboard ≡ inputs.old.keyboard }
 {
     let tried = tried_seed(
         &options_of(words),

@@ -1,22 +1,13 @@
-use Rattle.std.proofs.Common.{subst, sym}
-use Rattle.occ_choices.specs.Plans.{choices_of}
-use Rattle.occ_program.specs.Coming.{CameToBy, workers_asked}
-use Rattle.occ_program.proofs.Statuses.{came_to_both, crew_asked}
+use Rattle.std.specs.Prelude.{Err, IfOk, Ok, Result}
+use Rattle.std.proofs.Common.{List, ℕ}
+use Rattle.occ_play_inputs.specs.declared.failure.Failure.{Failure}
+use Rattle.occ_play_inputs.specs.declared.words.Words.{Words}
+use Rattle.occ_program.specs.Coming.{IsStatusFor, IsStatusOf}
 use Rattle.occ_program.proofs.program.run_words.Goals as goal
 
+of_some : (words : Words) (source keyboard : List ℕ) (r : Result ℕ Failure) → IfOk r (IsStatusOf words source keyboard) → IfOk r (IsStatusFor words)
+of_some words source keyboard (Ok s) h = (source, keyboard, h)
+of_some words source keyboard (Err f) h = tt
+
 pub returns-clause-came : goal.returns-clause-came
-returns-clause-came g c =
-    let inputs = c.take_seed.new.inputs in
-    let words = c.args.words.now in
-    let workers = workers_asked words.watch words.workers words.choices in
-    let came = came_to_both workers words inputs.source.items inputs.keyboard.items (choices_of inputs.plan) c.in_ok-left.left c.in_ok-played.played (crew_asked words.watch words.workers words.choices words.workers_in_range) c.in_ok-left.ensures c.in_ok-played.ensures in
-    record {
-      source = inputs.source.items;
-      keyboard = inputs.keyboard.items;
-      plan = inputs.plan;
-      asked = c.in_ok-take_seed.ensures.asked;
-      tried = c.in_ok-take_seed.ensures.tried;
-      played = c.and-came.result;
-      came = subst (CameToBy workers words inputs.source.items inputs.keyboard.items (choices_of inputs.plan)) (sym c.and-came.ensures) came;
-      is = c.told.ensures;
-    }
+returns-clause-came g c = of_some c.args.words.now c.in_ok-inputs.inputs.source.items c.in_ok-inputs.inputs.keyboard.items c.run_inputs.result c.run_inputs.ensures.came
