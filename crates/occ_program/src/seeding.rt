@@ -1,5 +1,6 @@
 //! Tries the seeds that the words ask for.
-ghost use Rattle.std.specs.Prelude.{◌≡◌, ◌+◌, ◌-◌, ◌^◌, ◌≤◌, ◌<◌, IfOk, OnOk};
+ghost use Rattle.std.specs.Prelude.{◌≡◌, ◌≢◌, ◌+◌, ◌-◌, ◌^◌, ◌≤◌, ◌<◌, IfOk, IsFalse, IsTrue, OnOk};
+ghost use Rattle.occ_term.specs.declared.ending.Ending.TheVariants.{Ended};
 ghost use Rattle.occ_choices.specs.Plans.{choices_of};
 ghost use Rattle.occ_play_inputs.specs.Asked.{IsAskedBy, IsSeeded};
 ghost use Rattle.occ_program.specs.Coming.{IsTriedBy, TriesFrom};
@@ -9,7 +10,7 @@ ghost use Rattle.occ_shown.specs.Counting.{failures_of};
 
 use crate::program::options_of;
 use occ_choices::Plan;
-use occ_play::{Ending, Options, PlayFault, play_in, status_of_fault};
+use occ_play::{Ending, Options, PlayFault, Played, play_in, status_of_fault};
 use occ_play_inputs::{Failure, Inputs, Words};
 use occ_seeds::seeded_plan;
 use occ_shown::Counted;
@@ -134,6 +135,15 @@ fn ends_on<W: Write>(
     ensures ends { TellsEnd result options.now source.now keyboard.now (choices_of plan.now) }
     ensures refused { RefusesWith1 result options.now source.now }
 {
-    let played = play_in(options, alloc, source, keyboard, plan, false, out)?;
-    Ok(played.ending == Ending::Ended)
+    match play_in(options, alloc, source, keyboard, plan, false, out) {
+        Ok(played) => Ok(has_ended(&played)),
+        Err(fault) => Err(fault),
+    }
+}
+
+fn has_ended(played: &Played) -> bool
+    ensures ends { IsTrue result → played.now.ending ≡ Ended }
+    ensures other { IsFalse result → played.now.ending ≢ Ended }
+{
+    played.ending == Ending::Ended
 }

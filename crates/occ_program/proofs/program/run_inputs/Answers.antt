@@ -1,4 +1,4 @@
-use Rattle.std.proofs.Common.{ap, subst, sym}
+use Rattle.std.proofs.Common.{subst, sym}
 use Rattle.occ_choices.specs.Plans.{choices_of}
 use Rattle.occ_program.specs.Coming.{CameToBy, IsStatusOf, workers_asked}
 use Rattle.occ_program.proofs.Statuses.{came_to_both, crew_asked}
