@@ -61,6 +61,7 @@ RACE = HEAD + """  [3]CHAN OF BYTE c:
         screen ! x
 :
 """
+DEFAULTS = {"--limit": "1000000", "--quantum": "1", "--errors": "halt", "--tries": "1", "--arrows": "200", "--explore": "answers", "--states": "1000000"}
 MOST = "a picture has 990 arrows at most"
 SVG = "{http://www.w3.org/2000/svg}"
 STUCK = "after 2 communications no process can go on:\n"
@@ -499,7 +500,8 @@ def helped(program):
     with room_of() as room:
         status, out, err = run(program, room, ["--help"])
         is_well = status == 0 and "Usage" in out and "--choices" in out and not err
-        return None if is_well else f"--help: {status} {out!r} {err!r}"
+        defaults = dict(re.findall(r"(?m)^ *(--[a-z]+).*\[default: (\w+)\]", out))
+        return None if is_well and defaults == DEFAULTS else f"--help: {status} {out!r} {err!r}"
 
 
 CHECKS = [recorded, explored, reported, typed, counted, written, by_workers, waited, drawn, seeded, helped]
