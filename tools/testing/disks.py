@@ -82,6 +82,11 @@ def links(program):
                 came = run(program, folder, [word, name, "x.occ"])
                 if came != (7, b"", OWN_FILE) or (folder / "x.occ").read_text() != LONG:
                     yield f"{word} {name}: {came[0]} {came[2]!r}"
+        top = pathlib.Path("/", folder.name)
+        came = run(program, folder, ["--record", str(top), "--chart", top.name, "x.occ"])
+        top.unlink(missing_ok=True)
+        if came[0] == 7:
+            yield f"{top} and {top.name}: {came[2]!r}"
         for first, second in (("one", "other"), ("new", "./new"), ("link", "target"), ("new", str(folder / "new"))):
             came = run(program, folder, ["--record", first, "--chart", second, "x.occ"])
             if came != (7, b"", OWN_FILE):
