@@ -1,5 +1,5 @@
 -- Beginnings of turns of several processes, in any order.
-use Rattle.std.proofs.Common.{◌≡◌, ◌∙◌, refl, sym, ap, subst, Bool, true, false, IsTrue, IsFalse, ℕ, suc, ◌⊎◌, inl, inr, List, Some}
+use Rattle.std.proofs.Common.{◌≡◌, ◌∙◌, refl, sym, ap, subst, Bool, true, false, IsTrue, IsFalse, ℕ, suc, ◌⊎◌, inl, inr, List, Some, ℤ}
 use Rattle.std.specs.Prelude.{slice_get}
 use Rattle.std.proofs.Math.Path.{fun_ext}
 use mathlib.Core.Bool.{true≢false}
@@ -70,12 +70,16 @@ pub record AlikeIn (R : Left → Store → Left → Store → Type 0) (a b : Lef
   pub goes : R a t b store
   pub same : (c : ℕ) → s c ≡ t c → s' c ≡ store c
 
+still_same : {x y a b : ℤ} → (x ≡ y) ⊎ ((x ≡ a) × (y ≡ b)) → a ≡ b → x ≡ y
+still_same (inl e) h = e
+still_same (inr e) h = e.0 ∙ h ∙ sym e.1
+
 module _ (d : Declared) where
   agree_on : {a b : Left} {s s' t t' : Store} → Kept d a b s s' → AgreeOn (uses_of_left a).reads s t → ((c : ℕ) → s c ≡ t c → s' c ≡ t' c) → AgreeOn (uses_of_left b).reads s' t'
   agree_on k h m c r = m c (h c (k.uses.reads c r))
 
   step_alike : {a b : Left} {s s' : Store} → Step a s b s' → LeftHas d a → (t : Store) → AgreeOn (uses_of_left a).reads s t → AlikeIn Step a b s s' t
-  step_alike {a = a} {b = b} {s = s} {s' = s'} x h t m = let y = steps_rest_on_reads d a b s s' t h m x in record { store = y.store; goes = y.step; same = y.same }
+  step_alike {a = a} {b = b} {s = s} {s' = s'} x h t m = let y = steps_rest_on_reads d a b s s' t h m x in record { store = y.store; goes = y.step; same = λ c. still_same (y.same c) }
 
   steps_alike : {a b : Left} {s s' : Store} → Steps a s b s' → LeftHas d a → StoreHas d s → (t : Store) → AgreeOn (uses_of_left a).reads s t → AlikeIn Steps a b s s' t
   steps_alike none h k t m = record { store = t; goes = none; same = λ c e. e }

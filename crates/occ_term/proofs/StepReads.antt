@@ -1,5 +1,5 @@
 -- A private step rests on the cells that are read, and on no other.
-use Rattle.std.proofs.Common.{◌≡◌, ◌∙◌, refl, sym, ap, subst, Bool, true, false, IsTrue, ℕ, zero, suc, ◌+◌, ◌*◌, ℤ, pos, ◌+ℤ◌, nat_eq, nat_le, if◌then◌else◌, List, [], ◌∷◌, ◌++◌, Option, Some, None, length, take, replicate}
+use Rattle.std.proofs.Common.{◌≡◌, ◌∙◌, refl, sym, ap, subst, Bool, true, false, IsTrue, ℕ, zero, suc, ◌+◌, ◌*◌, ◌⊎◌, inl, inr, ℤ, pos, ◌+ℤ◌, nat_eq, nat_le, if◌then◌else◌, List, [], ◌∷◌, ◌++◌, Option, Some, None, length, take, replicate}
 use Rattle.std.specs.Prelude.{int_le, nat_abs, ◌&&◌, ◌||◌}
 use Rattle.std.specs.Bool.{⊤}
 use Rattle.occ_term.specs.Messages.{fault, product, message, simple_part}
@@ -33,17 +33,21 @@ after_same (Fails e) f g h = refl
 after_both : {X Y : Type 0} (x x' : Evaluated X) (f g : X → Evaluated Y) → x ≡ x' → ((y : X) → f y ≡ g y) → after x f ≡ after x' g
 after_both x x' f g e h = ap (λ z. after z f) e ∙ after_same x' f g h
 
-if_same : (b : Bool) (v x y : ℤ) → x ≡ y → (if b then v else x) ≡ (if b then v else y)
-if_same true v x y e = refl
-if_same false v x y e = e
+if_same : (b : Bool) (v x y p q : ℤ) → (x ≡ y) ⊎ ((x ≡ p) × (y ≡ q)) → ((if b then v else x) ≡ (if b then v else y)) ⊎ (((if b then v else x) ≡ p) × ((if b then v else y) ≡ q))
+if_same true v x y p q e = inl refl
+if_same false v x y p q e = e
 
 module _ (d : Declared) (u : Uses) (s0 t0 : Store) (agree : AgreeOn u.reads s0 t0) where
-  -- what was the same in both is the same
+  -- each cell has the same value in both, or the value that it had in each
   abbrev Same : Store → Store → Type 0
-  Same s t = (c : ℕ) → s0 c ≡ t0 c → s c ≡ t c
+  Same s t = (c : ℕ) → (s c ≡ t c) ⊎ ((s c ≡ s0 c) × (t c ≡ t0 c))
 
   agreed : (a : Uses) → IsPartOf a u → (s t : Store) → Same s t → AgreeOn a.reads s t
-  agreed a p s t m c h = m c (agree c (p.reads c h))
+  agreed a p s t m c h = by (m c)
+    where
+      by : (s c ≡ t c) ⊎ ((s c ≡ s0 c) × (t c ≡ t0 c)) → s c ≡ t c
+      by (inl e) = e
+      by (inr e) = e.0 ∙ agree c (p.reads c h) ∙ sym e.1
 
   abbrev Twin : {X : Type 0} → Outcome X → Outcome X → Type 0
   Twin (Gives x s) o = (t : Store) × (o ≡ Gives x t) × Same s t
@@ -67,7 +71,7 @@ module _ (d : Declared) (u : Uses) (s0 t0 : Store) (agree : AgreeOn u.reads s0 t
   -- ---- storing
 
   same_with : (s t : Store) (cell : ℕ) (v : ℤ) → Same s t → Same (store_with s cell v) (store_with t cell v)
-  same_with s t cell v m c e = if_same (nat_eq cell c) v (s c) (t c) (m c e)
+  same_with s t cell v m c = if_same (nat_eq cell c) v (s c) (t c) (s0 c) (t0 c) (m c)
 
   same_from : (first : ℕ) (vs : List ℤ) (s t : Store) → Same s t → Same (store_from first vs s) (store_from first vs t)
   same_from first [] s t m = m
@@ -376,11 +380,11 @@ module _ (d : Declared) (u : Uses) (s0 t0 : Store) (agree : AgreeOn u.reads s0 t
 record FaultsAlike (x : Doing) (s : Store) (e : Fault) (s' t : Store) : Type 0 where
   pub store : Store
   pub is : FaultsIn x t e store
-  pub same : (c : ℕ) → s c ≡ t c → s' c ≡ store c
+  pub same : (c : ℕ) → (s' c ≡ store c) ⊎ ((s' c ≡ s c) × (store c ≡ t c))
 
 module _ (d : Declared) (u : Uses) (s t : Store) (agree : AgreeOn u.reads s t) where
-  id : (c : ℕ) → s c ≡ t c → s c ≡ t c
-  id c e = e
+  id : (c : ℕ) → (s c ≡ t c) ⊎ ((s c ≡ s c) × (t c ≡ t c))
+  id c = inr (refl, refl)
 
   fault_alike : (x : Doing) (e : Fault) (s' : Store) → DoingHas d x → IsPartOf (uses_of_doing x) u → FaultsIn x s e s' → FaultsAlike x s e s' t
   fault_alike x e s' h k (in_assign {ts = ts} {vs = vs} q) = let y = faults_twin d u s t agree (assigned ts vs s) (assigned ts vs t) e s' q (assigned_twin d u s t agree ts vs _ h.1 h.2 k s t id) in record { store = y.0; is = in_assign y.1; same = y.2 }
