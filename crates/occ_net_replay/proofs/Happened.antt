@@ -10,7 +10,8 @@ use Rattle.occ_term.specs.Runs.{TakesPart, Meeting, by_message, by_skip, MeetsAt
 use Rattle.occ_term.specs.declared.communication.Communication.{Communication}
 use Rattle.occ_term.specs.declared.communication.End.{End}
 use Rattle.occ_term.specs.declared.communication.End.TheVariants.{Process as OfProcess, Keyboard, Screen, Error}
-use Rattle.occ_term.specs.System.{Process, System, system, MayGo, SystemTurn, communication, has_byte, offers as offers_of, ChangeIn, GetsOn, PassesBy, PassesSkip, process_sends, keyboard_sends, process_receives, screen_receives, error_receives, Meets, meets as meets_in, passes_skip}
+use Rattle.occ_term.specs.System.{Process, System, system, MayGo, SystemTurn, communication, has_byte, offers as offers_of, ChangeIn, GetsOn, PassesBy, PassesSkip, process_sends, keyboard_sends, process_receives, screen_receives, error_receives, Meets, meets as meets_in, passes_skip, Receives}
+use Rattle.occ_term.specs.Frames.{is_held}
 use Rattle.occ_term.specs.TermTyping.{Declared}
 use Rattle.occ_term.specs.Values.{Store}
 use Rattle.occ_machine.specs.SameStop.{FitsProtocol}
@@ -19,7 +20,7 @@ use Rattle.occ_machine.specs.declared.task.Arm.{Arm}
 use Rattle.occ_machine.specs.declared.task.Task.{Task}
 use Rattle.occ_machine.specs.declared.task.Wait.TheVariants as W
 use Rattle.occ_net_replay.specs.Following.{AreBytes}
-use Rattle.occ_net_replay.specs.Replay.{Net, HasTask, may_go, made_ready, has_taken, took_arm, byte_message, took_turn, with_task, standing, arm_chosen, task_gives, keyboard_gives, Gets, task_gets, arm_gets, screen_gets, error_gets, PassesOn, joined, traced, one_more, noted_at, Happens, meets, skips, forks, joins, settles, stays}
+use Rattle.occ_net_replay.specs.Replay.{Net, HasTask, may_go, made_ready, has_taken, took_arm, byte_message, took_turn, with_task, standing, arm_chosen, task_gives, keyboard_gives, Gets, task_gets, arm_gets, screen_gets, error_gets, PassesOn, joined, traced, one_more, noted_at, Happens, meets, skips, forks, joins, settles, stays, AreDone}
 use Rattle.occ_net_replay.specs.Moments.{Quiet}
 use Rattle.occ_net_replay.proofs.Faults.{uncalm_no_fault, part_waits}
 use Rattle.occ_net_replay.proofs.Joinable.{Joinable, NoneJoins, joinable}
@@ -33,6 +34,9 @@ use Rattle.occ_net_replay.proofs.Settling as settling
 use Rattle.occ_net_replay.proofs.Settling.{quiet_ready}
 
 module _ (d : Declared) (p : Program) (procs : List Numbered) (protocol : d.protocols 0 ≡ Some (Simple [] Byte)) (quantum : ℕ) where
+  abbrev Comes : (k n : ℕ) (net next : Net) → Option Communication → System → Type 0
+  Comes k n net next met after = settling.Comes d p procs protocol quantum k n net next met after
+
   abbrev Happened : (k n : ℕ) (net now : Net) → Option Communication → System → Type 0
   Happened k n net now met after = settling.Happened d p procs protocol quantum k n net now met after
 
@@ -78,6 +82,19 @@ module _ (d : Declared) (p : Program) (procs : List Numbered) (protocol : d.prot
 
     getter : (c : ℕ) (m : Message) (w : ℕ) → TakesPart n (communication c Keyboard (OfProcess w) m) → w ≡ n
     getter = settling.getter d p procs protocol quantum k n pick net sys before after proc s noted there quiet may bytes turn noted_is st
+
+    by_byte : (c b : ℕ) (kb : List ℕ) (m : Message) → net.keyboard ≡ b ∷ kb → c ≡ 0 → m ≡ byte_message b → (y : End) (proc' : Process) → Receives (offers_of mid) c m y (system kb proc s noted) (system kb proc' s noted) → Meets mid (communication c Keyboard y m) (system kb proc' s noted)
+    by_byte = settling.by_byte d p procs protocol quantum k n pick net sys before after proc s noted there quiet may bytes turn noted_is st
+
+    module _ (m : ℕ) (t : Task) (ns : List ℕ) (h : HasTask now.tasks m t) (w : t.wait ≡ W.Joins ns) (among : IsTrue (is_held ns n)) (done : AreDone now.tasks ns) where
+      abbrev new : Net
+      new = settling.new d p procs protocol quantum k n pick net sys before after proc s noted there quiet may bytes turn noted_is st m t ns h w among done
+
+      join_quiet : Quiet new
+      join_quiet = settling.join_quiet d p procs protocol quantum k n pick net sys before after proc s noted there quiet may bytes turn noted_is st m t ns h w among done
+
+      join_state : State d p procs k new.tasks proc s
+      join_state = settling.join_state d p procs protocol quantum k n pick net sys before after proc s noted there quiet may bytes turn noted_is st m t ns h w among done
 
     -- a communication of the network is one of the system
     given_meets : (z c : ℕ) (u : Task) (m : Message) → HasTask now.tasks z u → u.wait ≡ W.Offers c m → (y : End) (b e : Net) → b.tasks ≡ slice_set now.tasks z (Some (made_ready u)) → Gets pick (standing now) c m y b e → (a : System) × Meets mid (communication c (OfProcess z) y m) a

@@ -8,12 +8,14 @@ use Rattle.occ_term.specs.Selecting.{Enabled, Setting}
 use Rattle.occ_term.specs.Steps.{Do, Offering, Awaiting, Choosing, Forking, Halted, Faulted, Done, Left, left, Taken, SkipTaken, Taking}
 use Rattle.occ_term.specs.Runs.{meets_skip}
 use Rattle.occ_term.specs.System.{Processes, arm_skips, change_here, no_processes, passes_skip, process}
-use Rattle.occ_term.specs.Terms.{Branches, Reception, Skip, Stop}
+use Rattle.occ_term.specs.Terms.{Branches, Reception, Skip, Stop, Term}
 use Rattle.occ_machine.specs.SameStop.{indices_in, numbers_of}
 use Rattle.occ_machine.specs.declared.task.Arm.{Arm}
+use Rattle.occ_machine.specs.declared.task.Wait.{Wait}
 use Rattle.occ_machine.specs.declared.task.Wait.TheVariants as W
+use Rattle.occ_net_replay.specs.Examples.{whole_number}
 use Rattle.occ_net_replay.specs.MomentExamples.{AtStop, EitherArmRows, OtherStoreRows, SameStopRows, OtherStopRows, MissingRows, UnquietRows}
-use Rattle.occ_net_replay.specs.Moments.{At, Among, here, below, OnSameChannels, by_term, by_taking, message_taken, both_go, both_offer, both_await, both_choose, both_fork, both_fail}
+use Rattle.occ_net_replay.specs.Moments.{At, Among, here, below, OnSameChannels, ProceedsBy, by_term, by_taking, message_taken, both_go, both_offer, both_await, both_choose, both_fork, both_fail}
 
 pub same_stop_rows : SameStopRows
 same_stop_rows = (both_go by_term, both_offer, both_await, both_choose (refl, (refl, tt)), both_fork refl, both_go by_taking, both_go by_taking)
@@ -49,8 +51,12 @@ not_done (both_go x) = elim x [ ]
 not_taking : AtStop W.Ready (Taking [] (SkipTaken Stop)) → ⊥
 not_taking (both_go x) = elim x [ ]
 
+-- a term is begun by a task that is ready
+is_ready : {w : Wait} {t : Term} → ProceedsBy w (Do t) → w ≡ W.Ready
+is_ready by_term = refl
+
 not_taken : AtStop (W.Took 10 [] None) (Do Stop) → ⊥
-not_taken (both_go x) = elim x [ ]
+not_taken (both_go x) = let e = is_ready x in absurd cc
 
 -- what was taken, and with which indices
 at_taking : {arm : ℕ} {is : List ℤ} {m : Option Message} {again : List Setting} {what : Taken} → AtStop (W.Took arm is m) (Taking again what) → (is ≡ indices_in again) × (m ≡ message_taken what)

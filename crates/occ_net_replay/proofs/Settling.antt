@@ -244,7 +244,7 @@ module _ (d : Declared) (p : Program) (procs : List Numbered) (protocol : d.prot
     getter c m w (inl e) = absurd cc
     getter c m w (inr e) = number_is e
 
-    by_byte : (c b : ℕ) (kb : List ℕ) (m : Message) → net.keyboard ≡ b ∷ kb → c ≡ 0 → m ≡ byte_message b → (y : End) (proc' : Process) → Receives (offers_of mid) c m y (system kb proc s noted) (system kb proc' s noted) → Meets mid (communication c Keyboard y m) (system kb proc' s noted)
+    pub by_byte : (c b : ℕ) (kb : List ℕ) (m : Message) → net.keyboard ≡ b ∷ kb → c ≡ 0 → m ≡ byte_message b → (y : End) (proc' : Process) → Receives (offers_of mid) c m y (system kb proc s noted) (system kb proc' s noted) → Meets mid (communication c Keyboard y m) (system kb proc' s noted)
     by_byte c b kb m e z q y proc' r =
         subst (λ x. Receives (offers_of (system x proc s noted)) c m y (system kb proc s noted) (system kb proc' s noted) → Meets (system x proc s noted) (communication c Keyboard y m) (system kb proc' s noted)) (sym e) (λ g. meets_in (keyboard_sends z q) g) r
 
@@ -376,7 +376,7 @@ module _ (d : Declared) (p : Program) (procs : List Numbered) (protocol : d.prot
       abbrev with_join : Task
       with_join = joined_with t (merged p.bodies now.tasks ns t.frame)
 
-      abbrev new : Net
+      abbrev pub new : Net
       new = with_task now m with_join
 
       after_done : IsTrue (is_done after.wait)
@@ -415,12 +415,12 @@ module _ (d : Declared) (p : Program) (procs : List Numbered) (protocol : d.prot
           by true f = there'.1 (one_parent i m u t ms ns there'.0 v f h w among)
           by false f = quiet.unjoined i u ms (other i u there'.0 not_mine) v (done_map net.tasks new.tasks ms (before_done f) all)
 
-      join_quiet : Quiet new
+      pub join_quiet : Quiet new
       join_quiet =
           quiet_again net new n quiet (λ i u g f e. other i u (still_there i u g f).0 e) no_bytes_more
           (λ u g. ap (λ z. is_calm z.wait) (mine_after u g) ∙ ap is_calm (done_wait after.wait after_done)) join_unjoined
 
-      join_state : State d p procs k new.tasks proc s
+      pub join_state : State d p procs k new.tasks proc s
       join_state = has_joined d p procs k now.tasks proc s st m t ns h w done
 
       next_joined : Next k n net new sys
