@@ -8,7 +8,7 @@ use crate::scan::{Text, Word};
 use crate::walk::class_at;
 
 /// The last PROC at the left margin, and the first line where there is none.
-fn last_proc(text: &Text<'_>) -> usize {
+pub(crate) fn last_proc(text: &Text<'_>) -> usize {
     for i in (0..text.lines.len()).rev() {
         if text.indent_at(i) == 0 && class_at(text.words_at(i), 0) == Class::Proc {
             return i;
