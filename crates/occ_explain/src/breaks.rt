@@ -1,7 +1,7 @@
 //! Lines that go on, where none follows or one too far to the left.
 
 use crate::class::Class;
-use crate::finding::{Finding, index_of};
+use crate::finding::Finding;
 use crate::mismatch::found_at;
 use crate::saying::joined;
 use crate::scan::{Text, Word};
@@ -27,12 +27,12 @@ fn break_at(words: &[Word<'_>]) -> usize {
 fn break_hint(words: &[Word<'_>], at: usize) -> &'static str {
     let before = at.saturating_sub(1);
     match class_at(words, at) {
-        Class::Semicolon => "leave `;` out: each process stands in a line of its own, with nothing behind it",
+        Class::Semicolon =>
+            "leave `;` out: each process stands in a line of its own, with nothing behind it",
         Class::Comma => "leave `,` out, or write the rest of the list behind it",
-        _ if index_of(words, Class::BadByte) < words.len() => "",
-        Class::Dyadic if class_at(words, before) == Class::Dyadic => "one more is written x := x + 1",
-        Class::Minus if class_at(words, before) == Class::Minus => "one less is written x := x - 1",
-        _ => "write the rest behind it, or in the next line, as far to the right as this one or further",
+        Class::Dyadic if class_at(words, before) == Class::Dyadic => "write x := x + 1 to add one",
+        _ =>
+            "write the rest behind it, or in the next line, as far to the right as this one or further",
     }
 }
 
@@ -50,12 +50,12 @@ pub(crate) fn break_finding(
     let line = word.line;
     let head = format!(in alloc; "line {line} ends with `")?;
     let is_last = at.saturating_add(1) >= words.len();
-    let tail: &[u8] = if is_last {
-        b"`, so it goes on, and no line follows"
+    let tail = if is_last {
+        "`, so it goes on, and no line follows"
     } else {
-        b"`, so it goes on here, where a line begins too far to the left"
+        "`, so it goes on here, where a line begins too far to the left"
     };
-    let wrong = joined(alloc, &[head.as_bytes(), word.bytes, tail])?;
+    let wrong = joined(alloc, &[head.as_bytes(), word.bytes, tail.as_bytes()])?;
     let hint = joined(alloc, &[break_hint(words, at).as_bytes()])?;
     let place = if is_last { at } else { at.saturating_add(1) };
     Ok(found_at(words, place, wrong, hint))

@@ -2,7 +2,7 @@
 
 use crate::class::Class;
 use crate::finding::{Finding, index_of};
-use crate::mismatch::found_at;
+use crate::mismatch::{conversion, found_at};
 use crate::saying::joined;
 use crate::scan::{Text, Word};
 use crate::scope::{Declared, Kind, Spec, declaration_of, formal_count, formal_numbered};
@@ -50,8 +50,11 @@ fn actual_at(words: &[Word<'_>], open: usize, number: usize) -> usize {
 /// A number of formals or actuals: `1 actual`.
 fn said_count(alloc: Global, count: usize, word: &str) -> Result<Vec<u8>, AllocError> {
     let number = format!(in alloc; "{count} ")?;
-    let more: &[u8] = if count == 1 { b"" } else { b"s" };
-    joined(alloc, &[number.as_bytes(), word.as_bytes(), more])
+    let more = if count == 1 { "" } else { "s" };
+    joined(
+        alloc,
+        &[number.as_bytes(), word.as_bytes(), more.as_bytes()],
+    )
 }
 
 /// The head of a PROC, as a hint.
@@ -88,7 +91,23 @@ fn unequal(
         ],
     )?;
     let hint = head_text(alloc, text, head)?;
-    Ok(found_at(words, index_of(words, Class::OpenParen).saturating_add(1), wrong, hint))
+    Ok(found_at(
+        words,
+        index_of(words, Class::OpenParen).saturating_add(1),
+        wrong,
+        hint,
+    ))
+}
+
+/// What stands before a type.
+fn article(is_value: bool, spelled: &[u8]) -> &'static str {
+    if is_value {
+        "a VAL "
+    } else if spelled.starts_with(b"INT") {
+        "an "
+    } else {
+        "a "
+    }
 }
 
 /// What a formal is: `n` is a VAL INT.
@@ -96,14 +115,16 @@ fn formal_text(alloc: Global, text: &Text<'_>, pair: &Pair) -> Result<Vec<u8>, A
     let head = text.words_at(pair.head);
     let name = words_text(alloc, head, pair.formal, pair.formal.saturating_add(1))?;
     let spelled = words_text(alloc, head, pair.spec.from, pair.spec.to)?;
-    let article: &[u8] = match pair.spec.kind {
-        Kind::Value => b"a VAL ",
-        _ if spelled.starts_with(b"INT") => b"an ",
-        _ => b"a ",
-    };
+    let article = article(pair.spec.kind == Kind::Value, spelled.as_slice());
     joined(
         alloc,
-        &[b"but the formal `".as_slice(), name.as_slice(), b"` is ".as_slice(), article, spelled.as_slice()],
+        &[
+            b"but the formal `".as_slice(),
+            name.as_slice(),
+            b"` is ".as_slice(),
+            article.as_bytes(),
+            spelled.as_slice(),
+        ],
     )
 }
 
@@ -117,11 +138,23 @@ fn unfit(
     hint: &[u8],
 ) -> Result<Option<Finding>, AllocError> {
     let words = text.words_at(index);
-    let said = words_text(alloc, words, pair.actual, expression_end(words, pair.actual))?;
+    let said = words_text(
+        alloc,
+        words,
+        pair.actual,
+        expression_end(words, pair.actual),
+    )?;
     let formal = formal_text(alloc, text, pair)?;
     let wrong = joined(
         alloc,
-        &[b"`".as_slice(), said.as_slice(), b"` is ".as_slice(), is, b", ".as_slice(), formal.as_slice()],
+        &[
+            b"`".as_slice(),
+            said.as_slice(),
+            b"` is ".as_slice(),
+            is,
+            b", ".as_slice(),
+            formal.as_slice(),
+        ],
     )?;
     let hint = joined(alloc, &[hint])?;
     Ok(found_at(words, pair.actual, wrong, hint))
@@ -136,6 +169,10 @@ fn named(text: &Text<'_>, index: usize, at: usize) -> Option<Declared> {
     declaration_of(text, index, words.get(at)?.bytes)
 }
 
+/// What to do where a protocol with a name meets another type.
+const OWN_TYPE: &str =
+    "a protocol with a name is its own type, also where it has one part: use one name for both";
+
 /// An actual of a formal that is a channel.
 fn channel_actual(
     alloc: Global,
@@ -145,22 +182,47 @@ fn channel_actual(
 ) -> Result<Option<Finding>, AllocError> {
     let head = text.words_at(pair.head);
     let Some(found) = named(text, index, pair.actual) else {
-        return unfit(alloc, text, index, pair, b"no channel", b"hand over the name of a channel");
+        return unfit(
+            alloc,
+            text,
+            index,
+            pair,
+            b"no channel",
+            b"hand over the name of a channel",
+        );
     };
-    let own = words_text(alloc, text.words_at(found.line), found.spec.of, found.spec.to)?;
+    let own = words_text(
+        alloc,
+        text.words_at(found.line),
+        found.spec.of,
+        found.spec.to,
+    )?;
     let wanted = words_text(alloc, head, pair.spec.of, pair.spec.to)?;
     let is = declared_text(alloc, text, &found)?;
     if found.spec.kind != Kind::Channel {
-        return unfit(alloc, text, index, pair, is.as_slice(), b"hand over the name of a channel");
+        return unfit(
+            alloc,
+            text,
+            index,
+            pair,
+            is.as_slice(),
+            b"hand over the name of a channel",
+        );
     }
     let own_class = class_at(text.words_at(found.line), found.spec.of);
     let is_named = own_class == Class::Name || class_at(head, pair.spec.of) == Class::Name;
     if own.as_slice() != wanted.as_slice() && is_named {
-        let hint = b"a protocol with a name is its own type, also where it has one part: use one name for both";
-        return unfit(alloc, text, index, pair, is.as_slice(), hint);
+        return unfit(alloc, text, index, pair, is.as_slice(), OWN_TYPE.as_bytes());
     }
     if own.as_slice() != wanted.as_slice() || found.spec.sizes < pair.spec.sizes {
-        return unfit(alloc, text, index, pair, is.as_slice(), b"both carry the same");
+        return unfit(
+            alloc,
+            text,
+            index,
+            pair,
+            is.as_slice(),
+            b"hand over a channel that carries what the formal does",
+        );
     }
     Ok(None)
 }
@@ -182,7 +244,14 @@ fn value_actual(
         && found.spec.kind == Kind::Channel
     {
         let is = declared_text(alloc, text, &found)?;
-        return unfit(alloc, text, index, pair, is.as_slice(), b"input from the channel first, and hand over what it gave");
+        return unfit(
+            alloc,
+            text,
+            index,
+            pair,
+            is.as_slice(),
+            b"input from the channel first, and hand over what it gave",
+        );
     }
     let (Some(wanted), Some(own)) = (
         spelled_type(text.words_at(pair.head), pair.spec.from),
@@ -194,12 +263,24 @@ fn value_actual(
         return Ok(None);
     }
     let is = type_text(alloc, text, index, pair.actual, own)?;
-    let hint: &[u8] = match (own.sizes, wanted.sizes) {
-        (0, 0) if is_variable => b"the variable has the type of the formal",
-        (0, 0) => b"convert it: `INT x`, `BYTE x`",
-        _ => b"both have the same number of dimensions",
+    let hint = match (own.sizes, wanted.sizes) {
+        (0, 0) if is_variable => joined(
+            alloc,
+            &[b"hand over a variable of the formal's type".as_slice()],
+        )?,
+        (0, 0) => conversion(
+            alloc,
+            text.words_at(index),
+            pair.actual,
+            own,
+            wanted.primitive,
+        )?,
+        _ => joined(
+            alloc,
+            &[b"actual and formal have the same number of dimensions".as_slice()],
+        )?,
     };
-    unfit(alloc, text, index, pair, is.as_slice(), hint)
+    unfit(alloc, text, index, pair, is.as_slice(), hint.as_slice())
 }
 
 /// What does not fit in a line that is refused for its actuals; nothing where the words do not tell.

@@ -17,13 +17,13 @@ pub(crate) fn last_proc(text: &Text<'_>) -> usize {
     0
 }
 
-/// The line that a refusal names; the main process for one of the whole text. There is none in a text without words.
+/// The line that a refusal names; that of the main process for one of a whole program. There is none in a text without words.
 pub(crate) fn line_index(text: &Text<'_>, refusal: &Refusal<'_>) -> Option<usize> {
     if text.lines.is_empty() {
         return None;
     }
     if refusal.line == 0 {
-        return if refusal.number == 42 {
+        return if matches!(refusal.number, 42 | 43 | 60) {
             Some(last_proc(text))
         } else {
             None

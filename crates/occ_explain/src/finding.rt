@@ -21,7 +21,7 @@ use crate::refusal::Refusal;
 use crate::saying::{between, leaving_text};
 use crate::scan::{Text, Word};
 use crate::types::types_text;
-use crate::walk::first_leaving;
+use crate::walk::{bytes_at, class_at, first_leaving};
 use std::alloc::{AllocError, Global};
 
 /// A place behind so many bytes of a physical line.
@@ -127,17 +127,29 @@ pub(crate) fn told_as(
     Ok(Finding { spot, wrong, hint })
 }
 
-/// A semicolon that ends its physical line, before the word in this place.
-fn semicolon_before(words: &[Word<'_>], at: usize) -> Option<usize> {
+/// A semicolon that ends its physical line before the word in this place, or a comma that does so right before it.
+fn break_before(words: &[Word<'_>], at: usize) -> Option<usize> {
     let mut last = words.get(at)?.line;
     for i in (0..at).rev() {
         let word = words.get(i)?;
-        if word.line < last && word.class == Class::Semicolon {
+        let is_right_before = i.saturating_add(1) == at;
+        let is_break = word.class == Class::Semicolon
+            || is_right_before && word.class == Class::Comma;
+        if word.line < last && is_break {
             return Some(i);
         }
         last = word.line;
     }
     None
+}
+
+/// What to write in place of a semicolon or a comma that ends a line.
+fn unbroken(class: Class) -> &'static str {
+    if class == Class::Semicolon {
+        "write the parts of a SEQ in lines of their own, with nothing between them"
+    } else {
+        "end a declaration with a colon, or go on with its next name"
+    }
 }
 
 /// A line that leaves the grammar.
@@ -152,14 +164,14 @@ fn unexpected(alloc: Global, text: &Text<'_>, index: usize) -> Result<Finding, A
     if leaving.at == 0 {
         leaving.wanted = Some(start);
     }
-    if let Some(at) = semicolon_before(words, leaving.at) {
+    if let Some(at) = break_before(words, leaving.at) {
         return told_as(
             alloc,
             spot_at(words, at),
             "`",
-            b";",
+            bytes_at(words, at),
             "` at the end of a line, which then goes on in the next one",
-            b"the parts of a SEQ stand in lines of their own, with nothing between them",
+            unbroken(class_at(words, at)).as_bytes(),
         );
     }
     let wrong = leaving_text(alloc, words, &leaving)?;
@@ -213,7 +225,8 @@ fn typed_hint(number: u32) -> &'static str {
         35 => "a size is 1 at least; the count of a replicated PAR is 0 at least",
         40 => "copy one of them first, and hand the copy over",
         41 => "assign one after the other, in a SEQ",
-        60 => "each call, and each copy of a replicated PAR, has code of its own: make the copies fewer, or loop within one",
+        60 =>
+            "each call, and each copy of a replicated PAR, has code of its own: make the copies fewer, or loop within one",
         _ => "",
     }
 }

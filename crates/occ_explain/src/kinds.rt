@@ -5,11 +5,12 @@ use crate::context::start_of;
 use crate::finding::{Finding, index_of};
 use crate::grammar::Part;
 use crate::mismatch::found_at;
-use crate::saying::joined;
+use crate::names::other_main;
+use crate::saying::{between, joined};
 use crate::scan::{Text, Word};
-use crate::scope::{Declared, Kind, behind_sizes, declaration_of, formal_count, formal_numbered, index_at};
+use crate::scope::{Declared, Kind, declaration_of, formal_count, formal_numbered, index_at};
 use crate::types::{declared_text, operand_begin, words_text};
-use crate::walk::class_at;
+use crate::walk::{bytes_at, class_at};
 use std::alloc::{AllocError, Global};
 
 /// What a name has to be at its place.
@@ -97,7 +98,10 @@ fn role_of(text: &Text<'_>, index: usize, at: usize) -> Role {
     if at == 0 && class_at(words, 1) == Class::OpenParen && assign == words.len() {
         return Role::Called;
     }
-    if class_at(words, 1) == Class::OpenParen && class_at(words, 0) == Class::Name && depth_at(words, at) == 1 {
+    if class_at(words, 1) == Class::OpenParen
+        && class_at(words, 0) == Class::Name
+        && depth_at(words, at) == 1
+    {
         return Role::Any;
     }
     match depth_at(words, at) {
@@ -111,18 +115,36 @@ fn role_of(text: &Text<'_>, index: usize, at: usize) -> Role {
 /// What is said of a name that is no such thing, and what to do.
 fn refused_role(role: Role, kind: Kind) -> Option<(&'static str, &'static str)> {
     match (role, kind) {
-        (Role::Target, Kind::Value) => Some((", and cannot be assigned", "declare a variable, and assign to that")),
-        (Role::Target, Kind::Index) => Some((", and cannot be assigned", "use a WHILE and a variable to count in another way")),
-        (Role::Target, Kind::Channel) => Some((", and cannot be assigned", "output to a channel with `!`: c ! x")),
+        (Role::Target, Kind::Value) => Some((
+            ", and cannot be assigned",
+            "declare a variable, and assign to that",
+        )),
+        (Role::Target, Kind::Index) => Some((
+            ", and cannot be assigned",
+            "use a WHILE and a variable to count in another way",
+        )),
+        (Role::Target, Kind::Channel) => Some((
+            ", and cannot be assigned",
+            "output to a channel with `!`: c ! x",
+        )),
         (Role::Target, Kind::Procedure | Kind::Protocol) => Some((", and cannot be assigned", "")),
         (Role::End, Kind::Channel) => None,
-        (Role::End, _) => Some((", and no channel", "`?` inputs from a channel, and `!` outputs to one: CHAN OF INT c:")),
+        (Role::End, _) => Some((
+            ", and no channel",
+            "`?` inputs from a channel, and `!` outputs to one: CHAN OF INT c:",
+        )),
         (Role::Called, Kind::Procedure) => None,
         (Role::Called, _) => Some((", and only a PROC can be called", "")),
         (Role::Carried, Kind::Protocol) => None,
-        (Role::Carried, _) => Some((", and no protocol", "a channel carries BOOL, BYTE, INT, arrays of them, or a protocol")),
+        (Role::Carried, _) => Some((
+            ", and no protocol",
+            "a channel carries BOOL, BYTE, INT, arrays of them, or a protocol",
+        )),
         (Role::Read, Kind::Channel) => Some((", and has no value", "input from it first: c ? x")),
-        (Role::Read, Kind::Procedure) => Some((", and has no value", "a PROC gives its result by a formal that it sets")),
+        (Role::Read, Kind::Procedure) => Some((
+            ", and has no value",
+            "a PROC gives its result by a formal that it sets",
+        )),
         (Role::Read, Kind::Protocol) => Some((", and has no value", "")),
         _ => None,
     }
@@ -139,12 +161,22 @@ fn said_of(
     let told = declared_text(alloc, text, found)?;
     joined(
         alloc,
-        &[b"`".as_slice(), name, b"` is ".as_slice(), told.as_slice(), says.as_bytes()],
+        &[
+            b"`".as_slice(),
+            name,
+            b"` is ".as_slice(),
+            told.as_slice(),
+            says.as_bytes(),
+        ],
     )
 }
 
 /// A value or an index that is handed over to a formal that may be set.
-fn handed_over(alloc: Global, text: &Text<'_>, index: usize) -> Result<Option<Finding>, AllocError> {
+fn handed_over(
+    alloc: Global,
+    text: &Text<'_>,
+    index: usize,
+) -> Result<Option<Finding>, AllocError> {
     let words = text.words_at(index);
     if class_at(words, 0) != Class::Name || class_at(words, 1) != Class::OpenParen {
         return Ok(None);
@@ -158,7 +190,10 @@ fn handed_over(alloc: Global, text: &Text<'_>, index: usize) -> Result<Option<Fi
         {
             let says = ", and its formal is a variable, which the PROC may assign";
             let wrong = said_of(alloc, text, word.bytes, &found, says)?;
-            let hint = joined(alloc, &[b"write VAL before the formal, or hand over a variable".as_slice()])?;
+            let hint = joined(
+                alloc,
+                &[b"write VAL before the formal, or hand over a variable".as_slice()],
+            )?;
             return Ok(found_at(words, at, wrong, hint));
         }
     }
@@ -174,7 +209,10 @@ pub(crate) fn kind_finding(
     let words = text.words_at(index);
     if class_at(words, 0) == Class::Else {
         let wrong = joined(alloc, &[b"a second ELSE in one CASE".as_slice()])?;
-        let hint = joined(alloc, &[b"a CASE has one ELSE, for all values without an option".as_slice()])?;
+        let hint = joined(
+            alloc,
+            &[b"a CASE has one ELSE, for all values without an option".as_slice()],
+        )?;
         return Ok(found_at(words, 0, wrong, hint));
     }
     for at in 0..words.len() {
@@ -262,9 +300,7 @@ pub(crate) fn subscript_finding(
             && is_at_least(subscript, size)
         {
             let wrong = said_of(alloc, text, word.bytes, &found, "")?;
-            let (_, count) = behind_sizes(words, place);
-            let says: &[u8] = if count > 1 { b"its first subscript is from 0 to below " } else { b"its subscript is from 0 to below " };
-            let hint = joined(alloc, &[says, size])?;
+            let hint = between(alloc, "its first subscript is from 0 to below ", size, "")?;
             return Ok(found_at(words, place.saturating_add(1), wrong, hint));
         }
     }
@@ -298,10 +334,28 @@ fn is_byte_channel(words: &[Word<'_>], number: usize) -> bool {
             spec.kind == Kind::Channel
                 && spec.sizes == 0
                 && spec.to == spec.of.saturating_add(1)
-                && words.get(spec.of).map_or(false, |word| word.bytes == b"BYTE".as_slice())
+                && bytes_at(words, spec.of) == b"BYTE".as_slice()
         }
         None => false,
     }
+}
+
+/// What to do about a last PROC that is no main process.
+fn main_hint(alloc: Global, text: &Text<'_>, index: usize) -> Result<Vec<u8>, AllocError> {
+    if other_main(text, index).is_some() {
+        let name = words_text(alloc, text.words_at(index), 1, 2)?;
+        return joined(
+            alloc,
+            &[
+                b"the last PROC is the main process: move `".as_slice(),
+                name.as_slice(),
+                b"` above `main`".as_slice(),
+            ],
+        );
+    }
+    let hint =
+        b"the main process comes last, with one to three formals: (CHAN OF BYTE keyboard, screen, error)";
+    joined(alloc, &[hint.as_slice()])
 }
 
 /// The last PROC, which is no main process.
@@ -311,38 +365,43 @@ pub(crate) fn main_finding(
     index: usize,
 ) -> Result<Option<Finding>, AllocError> {
     let words = text.words_at(index);
+    let hint = main_hint(alloc, text, index)?;
     if class_at(words, 0) != Class::Proc {
         let wrong = joined(alloc, &[b"there is no PROC".as_slice()])?;
-        let hint = joined(alloc, &[b"a program ends with a PROC such as PROC main (CHAN OF BYTE keyboard, screen)".as_slice()])?;
         return Ok(found_at(words, 0, wrong, hint));
     }
     let name = words_text(alloc, words, 1, 2)?;
     let count = formal_count(words);
-    let head = b"the last PROC is the main process, and `";
-    let hint: &[u8] = b"the main process comes last, and its formals are one to three channels: (CHAN OF BYTE keyboard, screen, error)";
-    let hint = joined(alloc, &[hint])?;
     for number in 0..count {
         if !is_byte_channel(words, number)
             && let Some((at, spec)) = formal_numbered(words, number)
         {
             let formal = words_text(alloc, words, at, at.saturating_add(1))?;
-            let found = Declared { line: index, at, spec };
+            let found = Declared {
+                line: index,
+                at,
+                spec,
+            };
             let kind = declared_text(alloc, text, &found)?;
             let wrong = joined(
                 alloc,
                 &[
-                    head.as_slice(),
+                    b"the last PROC, `".as_slice(),
                     name.as_slice(),
-                    b"` has the formal `".as_slice(),
+                    b"`, has the formal `".as_slice(),
                     formal.as_slice(),
-                    b"`, ".as_slice(),
+                    b"`, which is ".as_slice(),
                     kind.as_slice(),
                 ],
             )?;
             return Ok(found_at(words, at, wrong, hint));
         }
     }
-    let says = if count == 0 { "` has no formals" } else { "` has more than three formals" };
-    let wrong = joined(alloc, &[head.as_slice(), name.as_slice(), says.as_bytes()])?;
+    let says = if count == 0 {
+        "`, has no formals"
+    } else {
+        "`, has more than three formals"
+    };
+    let wrong = between(alloc, "the last PROC, `", name.as_slice(), says)?;
     Ok(found_at(words, 1, wrong, hint))
 }

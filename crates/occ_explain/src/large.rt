@@ -137,8 +137,10 @@ fn name_count(words: &[Word<'_>]) -> u64 {
 /// Whether a line declares variables or channels.
 fn declares(words: &[Word<'_>]) -> bool {
     let last = words.len().saturating_sub(1);
-    matches!(class_at(words, 0), Class::Chan | Class::OpenBracket | Class::Primitive)
-        && class_at(words, last) == Class::Colon
+    matches!(
+        class_at(words, 0),
+        Class::Chan | Class::OpenBracket | Class::Primitive
+    ) && class_at(words, last) == Class::Colon
 }
 
 /// How many nodes a line has at least.
@@ -186,15 +188,22 @@ fn added(text: &Text<'_>, tallies: &[Tally], index: usize, round: Round, before:
         }
         return tally;
     }
-    if matches!(class_at(words, 0), Class::Val | Class::Colon | Class::Proc | Class::Protocol) {
+    if matches!(
+        class_at(words, 0),
+        Class::Val | Class::Colon | Class::Proc | Class::Protocol
+    ) {
         return tally;
     }
-    tally.nodes = tally.nodes.and(least_nodes(words).saturating_mul(times), index);
+    tally.nodes = tally
+        .nodes
+        .and(least_nodes(words).saturating_mul(times), index);
     if round.is_par {
         tally.processes = tally.processes.and(times, index);
     }
     if class_at(words, 0) == Class::Par && index_at(words).is_some() {
-        tally.processes = tally.processes.and(times.saturating_mul(copies(text, index)), index);
+        tally.processes = tally
+            .processes
+            .and(times.saturating_mul(copies(text, index)), index);
     }
     if class_at(words, 0) == Class::Name
         && class_at(words, 1) == Class::OpenParen
@@ -295,7 +304,10 @@ fn passed(
     let number = text.number_at(count.line);
     let counted = format!(in alloc; "at least {least} ")?;
     let limit = format!(in alloc; ", of which line {number} makes most; {most} are allowed")?;
-    let wrong = joined(alloc, &[counted.as_bytes(), says.as_bytes(), limit.as_bytes()])?;
+    let wrong = joined(
+        alloc,
+        &[counted.as_bytes(), says.as_bytes(), limit.as_bytes()],
+    )?;
     let hint = joined(alloc, &[hint.as_bytes()])?;
     Ok(found_at(text.words_at(count.line), 0, wrong, hint))
 }
@@ -344,16 +356,28 @@ fn depth_finding(alloc: Global, text: &Text<'_>) -> Result<Option<Finding>, Allo
         let words = text.words_at(index);
         let chain = joined_operands(words);
         if chain > MOST_LEVELS {
-            let wrong = format!(in alloc; "{chain} times AND or OR in one line, and each is a level deeper; {MOST_LEVELS} levels are allowed")?;
+            let wrong = format!(in alloc;
+                "{chain} times AND or OR in one line, and each is a level deeper; {MOST_LEVELS} levels are allowed"
+            )?;
             let wrong = joined(alloc, &[wrong.as_bytes()])?;
-            let hint = joined(alloc, &[b"split the expression, and keep its parts in variables".as_slice()])?;
+            let hint = joined(
+                alloc,
+                &[b"split the expression, and keep its parts in variables".as_slice()],
+            )?;
             return Ok(found_at(words, 0, wrong, hint));
         }
         let levels = levels_round(text, index);
         if levels > MOST_LEVELS {
-            let wrong = format!(in alloc; "this line stands {levels} levels deep; {MOST_LEVELS} are allowed")?;
+            let wrong = format!(in alloc;
+                "this line stands {levels} levels deep; {MOST_LEVELS} are allowed"
+            )?;
             let wrong = joined(alloc, &[wrong.as_bytes()])?;
-            let hint = joined(alloc, &[b"each name that is declared before an arm or a choice is a level, and so is each line above it".as_slice()])?;
+            let hint = joined(
+                alloc,
+                &[
+                    b"each name that is declared before an arm or a choice is a level, and so is each line above it".as_slice(),
+                ],
+            )?;
             return Ok(found_at(words, 0, wrong, hint));
         }
     }
@@ -361,13 +385,19 @@ fn depth_finding(alloc: Global, text: &Text<'_>) -> Result<Option<Finding>, Allo
 }
 
 /// Which limit a program passes that is refused as too large; nothing where the words do not tell.
-pub(crate) fn large_finding(
-    alloc: Global,
-    text: &Text<'_>,
-) -> Result<Option<Finding>, AllocError> {
+pub(crate) fn large_finding(alloc: Global, text: &Text<'_>) -> Result<Option<Finding>, AllocError> {
     if let Some(tally) = main_tally(alloc, text)? {
-        let calls = "each call, and each copy of a replicated PAR, counts its own: make the arrays smaller, or the copies fewer";
-        let found = passed(alloc, text, tally.cells, 0, 1_048_576, "cells of variables and arrays", calls)?;
+        let calls =
+            "each call, and each copy of a replicated PAR, counts its own: make the arrays smaller, or the copies fewer";
+        let found = passed(
+            alloc,
+            text,
+            tally.cells,
+            0,
+            1_048_576,
+            "cells of variables and arrays",
+            calls,
+        )?;
         if found.is_some() {
             return Ok(found);
         }
@@ -375,13 +405,23 @@ pub(crate) fn large_finding(
         if found.is_some() {
             return Ok(found);
         }
-        let branches = "each branch of a PAR is a process: make the count of a replicated PAR smaller";
+        let branches =
+            "each branch of a PAR is a process: make the count of a replicated PAR smaller";
         let found = passed(alloc, text, tally.processes, 1, 4096, "processes", branches)?;
         if found.is_some() {
             return Ok(found);
         }
-        let nodes = "each call, and each copy of a replicated PAR, is unfolded where it stands: make the copies fewer, or loop within one";
-        let found = passed(alloc, text, tally.nodes, 0, 100_000, "nodes of the unfolded program", nodes)?;
+        let nodes =
+            "each call, and each copy of a replicated PAR, is unfolded where it stands: make the copies fewer, or loop within one";
+        let found = passed(
+            alloc,
+            text,
+            tally.nodes,
+            0,
+            100_000,
+            "nodes of the unfolded program",
+            nodes,
+        )?;
         if found.is_some() {
             return Ok(found);
         }

@@ -4,15 +4,15 @@ use crate::class::Class;
 use crate::context::{parent_of, start_of};
 use crate::finding::{Finding, index_of};
 use crate::grammar::Part;
-use crate::mismatch::found_at;
-use crate::saying::joined;
+use crate::mismatch::{conversion, found_at};
+use crate::saying::{between, joined};
 use crate::scan::{Text, Word};
 use crate::scope::{Declared, Kind, behind_sizes, declaration_of};
 use crate::types::{
     Primitive, Type, expression_end, operand_begin, operand_end, spelled_type, type_at, type_text,
     words_text,
 };
-use crate::walk::class_at;
+use crate::walk::{bytes_at, class_at};
 use std::alloc::{AllocError, Global};
 
 /// A message: the line that sends or takes it, where its first item stands, and the channel.
@@ -207,7 +207,15 @@ fn carries(
     };
     let spelled = words_text(alloc, words, at, end)?;
     if parts.count < 2 {
-        return joined(alloc, &[b"`".as_slice(), name, b"` carries ".as_slice(), spelled.as_slice()]);
+        return joined(
+            alloc,
+            &[
+                b"`".as_slice(),
+                name,
+                b"` carries ".as_slice(),
+                spelled.as_slice(),
+            ],
+        );
     }
     let place = number.saturating_add(1);
     let place = format!(in alloc; "part {place} of the message is ")?;
@@ -226,8 +234,11 @@ fn part_end(words: &[Word<'_>], at: usize) -> usize {
 
 fn said_count(alloc: Global, count: usize, word: &str) -> Result<Vec<u8>, AllocError> {
     let number = format!(in alloc; "{count} ")?;
-    let more: &[u8] = if count == 1 { b"" } else { b"s" };
-    joined(alloc, &[number.as_bytes(), word.as_bytes(), more])
+    let more = if count == 1 { "" } else { "s" };
+    joined(
+        alloc,
+        &[number.as_bytes(), word.as_bytes(), more.as_bytes()],
+    )
 }
 
 /// Another number of items than the protocol has parts.
@@ -253,7 +264,10 @@ fn unequal(
             given.as_slice(),
         ],
     )?;
-    let hint = joined(alloc, &[b"all parts of a message go together, with semicolons between them".as_slice()])?;
+    let hint = joined(
+        alloc,
+        &[b"all parts of a message go together, with semicolons between them".as_slice()],
+    )?;
     Ok(found_at(words, message.at, wrong, hint))
 }
 
@@ -266,37 +280,25 @@ fn item_hint(
     wanted: Type,
     is_input: bool,
 ) -> Result<Vec<u8>, AllocError> {
-    let end = expression_end(words, at);
-    let said = words_text(alloc, words, at, end)?;
     if is_input {
-        return joined(alloc, &[b"input into a variable of that type".as_slice()]);
+        return joined(
+            alloc,
+            &[b"input into a variable of the type that the channel carries".as_slice()],
+        );
     }
     let is_letter = class_at(words, at) == Class::Text && wanted.sizes == 0;
     if is_letter && wanted.primitive == Primitive::Byte {
         return joined(
             alloc,
-            &[b"send a string byte by byte, in a replicated SEQ; one letter is written 'a'".as_slice()],
+            &[
+                b"send a string byte by byte, in a replicated SEQ; one letter is written 'a'".as_slice(),
+            ],
         );
     }
-    let name: &[u8] = match (found.sizes, wanted.sizes, wanted.primitive) {
-        (0, 0, Primitive::Byte) => b"BYTE",
-        (0, 0, Primitive::Int) => b"INT",
-        (0, 0, Primitive::Bool) => b"BOOL",
-        _ => return Ok(Vec::new(alloc)),
-    };
-    let is_number = class_at(words, at) == Class::Number && end == at.saturating_add(1);
-    if is_number {
-        return joined(
-            alloc,
-            &[b"write it with its type: `".as_slice(), said.as_slice(), b" (".as_slice(), name, b")`".as_slice()],
-        );
+    if wanted.sizes > 0 {
+        return Ok(Vec::new(alloc));
     }
-    let (open, close): (&[u8], &[u8]) = if operand_end(words, at) >= end {
-        (b" ", b"`")
-    } else {
-        (b" (", b")`")
-    };
-    joined(alloc, &[b"convert it: `".as_slice(), name, open, said.as_slice(), close])
+    conversion(alloc, words, at, found, wanted.primitive)
 }
 
 /// An item of another type than its part.
@@ -311,7 +313,8 @@ fn item_finding(
     let at = item_at(words, message.at, number);
     let other = text.words_at(parts.line);
     let part = item_at(other, parts.at, number);
-    let (Some(wanted), Some(found)) = (spelled_type(other, part), type_at(text, message.line, at)) else {
+    let (Some(wanted), Some(found)) = (spelled_type(other, part), type_at(text, message.line, at))
+    else {
         return Ok(None);
     };
     let is_counted = class_at(other, operand_end(other, part)) == Class::DoubleColon;
@@ -319,25 +322,31 @@ fn item_finding(
     let kind = type_text(alloc, text, message.line, at, found)?;
     let said = words_text(alloc, words, at, expression_end(words, at))?;
     let carried = carries(alloc, text, message, parts, number)?;
-    let (head, middle): (&[u8], &[u8]) = (b"`", b"` is ");
     if is_counted != has_count {
-        let hint: &[u8] = if is_counted {
-            b"write the count and the array: `n::a`"
+        let hint = if is_counted {
+            "write the count and the array: `n::a`"
         } else {
-            b"write no count here"
+            "write no count here"
         };
-        let wrong = joined(alloc, &[carried.as_slice()])?;
-        let hint = joined(alloc, &[hint])?;
-        return Ok(found_at(words, at, wrong, hint));
+        let hint = joined(alloc, &[hint.as_bytes()])?;
+        return Ok(found_at(words, at, carried, hint));
     }
     let spelled = words_text(alloc, other, part, behind_type(other, part))?;
-    let is_spelled = kind.len() == spelled.len().saturating_add(2) && kind.ends_with(spelled.as_slice());
+    let is_spelled = kind.len() == spelled.len().saturating_add(2)
+        && kind.ends_with(spelled.as_slice());
     if found == wanted && (found.sizes == 0 || is_spelled || !kind.starts_with(b"a [")) {
         return Ok(None);
     }
     let wrong = joined(
         alloc,
-        &[head, said.as_slice(), middle, kind.as_slice(), b", but ".as_slice(), carried.as_slice()],
+        &[
+            b"`".as_slice(),
+            said.as_slice(),
+            b"` is ".as_slice(),
+            kind.as_slice(),
+            b", but ".as_slice(),
+            carried.as_slice(),
+        ],
     )?;
     let hint = item_hint(alloc, words, at, found, wanted, message.is_input)?;
     Ok(found_at(words, at, wrong, hint))
@@ -393,17 +402,34 @@ fn tagged(
     let is_case = class_at(words, message.at) == Class::Case;
     if message.is_input && message.at > 0 && !is_case {
         let says = "` carries messages with tags, and this input has no CASE";
-        return about_channel(alloc, text, message, says, "write `? CASE`, and a tag behind it or variants below");
+        return about_channel(
+            alloc,
+            text,
+            message,
+            says,
+            "write `? CASE`, and a tag behind it or variants below",
+        );
     }
-    let at = if is_case { message.at.saturating_add(1) } else { message.at };
-    let tag = words.get(at).map_or(b"".as_slice(), |word| word.bytes);
+    let at = if is_case {
+        message.at.saturating_add(1)
+    } else {
+        message.at
+    };
+    let tag = bytes_at(words, at);
     let Some(line) = tag_line(text, protocol, tag) else {
         let tags = tags_text(alloc, text, protocol)?;
         let wrong = joined(
             alloc,
-            &[b"a message on `".as_slice(), channel_name(text, &message.channel), b"` begins with a tag".as_slice()],
+            &[
+                b"a message on `".as_slice(),
+                channel_name(text, &message.channel),
+                b"` begins with a tag".as_slice(),
+            ],
         )?;
-        let hint = joined(alloc, &[b"the tags of its protocol are ".as_slice(), tags.as_slice()])?;
+        let hint = joined(
+            alloc,
+            &[b"the tags of its protocol are ".as_slice(), tags.as_slice()],
+        )?;
         return Ok(found_at(words, at, wrong, hint));
     };
     let parts = Parts {
@@ -439,7 +465,13 @@ pub(crate) fn message_finding(
     }
     if class_at(words, message.at) == Class::Case || message.at == 0 {
         let says = "` carries messages without tags, and CASE takes a tag";
-        return about_channel(alloc, text, &message, says, "leave CASE out, and input into variables");
+        return about_channel(
+            alloc,
+            text,
+            &message,
+            says,
+            "leave CASE out, and input into variables",
+        );
     }
     compared(alloc, text, &message, &plain_parts(text, &message))
 }
@@ -458,16 +490,20 @@ pub(crate) fn tag_finding(
     };
     let words = text.words_at(index);
     let is_case = class_at(words, message.at) == Class::Case;
-    let at = if is_case { message.at.saturating_add(1) } else { message.at };
+    let at = if is_case {
+        message.at.saturating_add(1)
+    } else {
+        message.at
+    };
     let Some(word) = words.get(at) else {
         return Ok(None);
     };
-    let says: &[u8] = if tag_line(text, protocol, word.bytes).is_some() {
-        b"` stands twice in this input"
+    let says = if tag_line(text, protocol, word.bytes).is_some() {
+        "` stands twice in this input"
     } else {
-        b"` is no tag of the protocol"
+        "` is no tag of the protocol"
     };
-    let wrong = joined(alloc, &[b"`".as_slice(), word.bytes, says])?;
+    let wrong = between(alloc, "`", word.bytes, says)?;
     let tags = tags_text(alloc, text, protocol)?;
     let hint = joined(alloc, &[b"the tags are ".as_slice(), tags.as_slice()])?;
     Ok(found_at(words, at, wrong, hint))

@@ -4,14 +4,14 @@ use crate::class::Class;
 use crate::context::{parent_of, start_of};
 use crate::finding::{Finding, index_of, spot_at};
 use crate::grammar::Part;
-use crate::saying::joined;
+use crate::saying::{between, joined};
 use crate::scan::{Text, Word};
 use crate::scope::{behind_sizes, declaration_of, index_at};
 use crate::types::{
-    Primitive, Type, called, declared_text, expression_end, operand_begin, operand_end, operand_type,
-    spelled_type, type_at, type_text, words_text,
+    Primitive, Type, called, declared_text, expression_end, operand_begin, operand_end,
+    operand_type, spelled_type, type_at, type_text, words_text,
 };
-use crate::walk::class_at;
+use crate::walk::{bytes_at, class_at};
 use std::alloc::{AllocError, Global};
 
 /// Words of a line, from one place up to another, and their type.
@@ -49,38 +49,49 @@ fn is_taken(found: Type, takes: Takes) -> bool {
         }
 }
 
-/// Whether the words are one number.
-fn is_number(words: &[Word<'_>], typed: Typed) -> bool {
-    typed.to == typed.from.saturating_add(1) && class_at(words, typed.from) == Class::Number
+/// Whether the expression at a place is one number.
+fn is_number(words: &[Word<'_>], at: usize) -> bool {
+    class_at(words, at) == Class::Number && operand_end(words, at) == at.saturating_add(1)
 }
 
-/// How a value of another primitive type is made of an expression.
-fn conversion(
+/// How a value of another primitive type is made of the expression at a place, which has this type.
+pub(crate) fn conversion(
     alloc: Global,
     words: &[Word<'_>],
-    typed: Typed,
+    at: usize,
+    found: Type,
     to: Primitive,
 ) -> Result<Vec<u8>, AllocError> {
-    let said = words_text(alloc, words, typed.from, typed.to)?;
+    let end = expression_end(words, at);
+    let is_operand = operand_end(words, at) >= end;
+    converted(alloc, words, at, end, is_operand, found, to)
+}
+
+/// How a value of another primitive type is made of these words, which are an operand or a longer expression.
+fn converted(
+    alloc: Global,
+    words: &[Word<'_>],
+    from: usize,
+    end: usize,
+    is_operand: bool,
+    found: Type,
+    to: Primitive,
+) -> Result<Vec<u8>, AllocError> {
+    if found.sizes > 0 || found.primitive == to {
+        return Ok(Vec::new(alloc));
+    }
+    let said = words_text(alloc, words, from, end)?;
     let said = said.as_slice();
-    if typed.found.sizes > 0 {
-        return joined(alloc, &[]);
-    }
-    let name: &[u8] = match to {
-        Primitive::Bool => {
-            return joined(alloc, &[b"compare it: `".as_slice(), said, b" <> 0`".as_slice()]);
-        }
-        Primitive::Byte => b"BYTE",
-        Primitive::Int => b"INT",
+    let is_literal = is_operand && is_number(words, from);
+    let (before, after) = match to {
+        Primitive::Bool => ("compare it, as in `", " <> 0`"),
+        Primitive::Byte if is_literal => ("write it with its type: `", " (BYTE)`"),
+        Primitive::Byte if is_operand => ("convert it: `BYTE ", "`"),
+        Primitive::Byte => ("convert it: `BYTE (", ")`"),
+        Primitive::Int if is_operand => ("convert it: `INT ", "`"),
+        Primitive::Int => ("convert it: `INT (", ")`"),
     };
-    let head: &[u8] = b"convert it: `";
-    if is_number(words, typed) && to == Primitive::Byte {
-        return joined(alloc, &[b"write it as a BYTE: `".as_slice(), said, b" (BYTE)`".as_slice()]);
-    }
-    if operand_end(words, typed.from) >= typed.to {
-        return joined(alloc, &[head, name, b" ".as_slice(), said, b"`".as_slice()]);
-    }
-    joined(alloc, &[head, name, b" (".as_slice(), said, b")`".as_slice()])
+    joined(alloc, &[before.as_bytes(), said, after.as_bytes()])
 }
 
 /// The expression at a place, where its type is known.
@@ -118,7 +129,12 @@ fn said_type(
     };
     joined(
         alloc,
-        &[b"`".as_slice(), said.as_slice(), b"` is ".as_slice(), kind.as_slice()],
+        &[
+            b"`".as_slice(),
+            said.as_slice(),
+            b"` is ".as_slice(),
+            kind.as_slice(),
+        ],
     )
 }
 
@@ -156,19 +172,31 @@ fn unwanted(
     };
     let mut wrong = said_type(alloc, text, index, typed)?;
     wrong.extend_from_slice(wanted.says.as_bytes())?;
-    let hint = conversion(alloc, words, typed, to)?;
+    let hint = conversion(alloc, words, wanted.at, typed.found, to)?;
     Ok(found_at(words, wanted.at, wrong, hint))
 }
 
 /// Which operands an operator takes, and how that is said.
 fn operands_of(words: &[Word<'_>], at: usize) -> (Takes, Takes, &'static str) {
-    let bytes = words.get(at).map_or(b"".as_slice(), |word| word.bytes);
+    let bytes = bytes_at(words, at);
     match bytes {
-        b"AND" | b"OR" => (Takes::Truth, Takes::Truth, ", but AND and OR join values of BOOL"),
+        b"AND" | b"OR" => (
+            Takes::Truth,
+            Takes::Truth,
+            ", but AND and OR join values of BOOL",
+        ),
         b"AFTER" => (Takes::Int, Takes::Int, ", but AFTER compares two of INT"),
-        b"<<" | b">>" => (Takes::Number, Takes::Int, ", but a shift takes a number, and an INT for the count"),
+        b"<<" | b">>" => (
+            Takes::Number,
+            Takes::Int,
+            ", but a shift takes a number, and an INT for the count",
+        ),
         b"=" | b"<>" => (Takes::Any, Takes::Any, ", and arrays are not compared"),
-        _ => (Takes::Number, Takes::Number, ", but the operator takes an INT or a BYTE"),
+        _ => (
+            Takes::Number,
+            Takes::Number,
+            ", but the operator takes an INT or a BYTE",
+        ),
     }
 }
 
@@ -217,9 +245,12 @@ fn refused_operand(
     wrong.extend_from_slice(says.as_bytes())?;
     let hint = match to {
         Some(to) if typed.found.sizes == 0 && typed.found.primitive != to => {
-            conversion(alloc, words, typed, to)?
+            converted(alloc, words, typed.from, typed.to, true, typed.found, to)?
         }
-        _ if typed.found.sizes > 0 => joined(alloc, &[b"use its components one by one".as_slice()])?,
+        _ if typed.found.sizes > 0 => joined(
+            alloc,
+            &[b"use its components one by one".as_slice()],
+        )?,
         _ => Vec::new(alloc),
     };
     Ok(found_at(words, typed.from, wrong, hint))
@@ -240,16 +271,26 @@ fn different(
     wrong.append(&mut other)?;
     // a number is written with the other's type, and else the smaller type becomes an INT
     let (odd, to) = match (left.found.primitive, right.found.primitive) {
-        (Primitive::Byte, Primitive::Int) if is_number(words, right) => (right, Primitive::Byte),
-        (Primitive::Int, Primitive::Byte) if is_number(words, left) => (left, Primitive::Byte),
+        (Primitive::Byte, Primitive::Int) if is_number(words, right.from) => (
+            right,
+            Primitive::Byte,
+        ),
+        (Primitive::Int, Primitive::Byte) if is_number(words, left.from) => (left, Primitive::Byte),
         (Primitive::Int, _) => (right, Primitive::Int),
         _ => (left, right.found.primitive),
     };
     let hint = if odd.found.primitive == Primitive::Byte && to == Primitive::Int {
         let said = words_text(alloc, words, odd.from, odd.to)?;
-        joined(alloc, &[b"convert it: `(INT ".as_slice(), said.as_slice(), b")`".as_slice()])?
+        joined(
+            alloc,
+            &[
+                b"convert it: `(INT ".as_slice(),
+                said.as_slice(),
+                b")`".as_slice(),
+            ],
+        )?
     } else if to == Primitive::Byte {
-        conversion(alloc, words, odd, to)?
+        converted(alloc, words, odd.from, odd.to, true, odd.found, to)?
     } else {
         Vec::new(alloc)
     };
@@ -271,14 +312,17 @@ fn operator_finding(
         if let Some(typed) = typed
             && !is_taken(typed.found, takes)
         {
-            let to = if takes == Takes::Int { Some(Primitive::Int) } else { None };
+            let to = if takes == Takes::Int {
+                Some(Primitive::Int)
+            } else {
+                None
+            };
             return refused_operand(alloc, text, index, typed, says, to);
         }
     }
     match (left, right) {
         (Some(left), Some(right))
-            if first == second && left.found.primitive != right.found.primitive =>
-        {
+            if first == second && left.found.primitive != right.found.primitive => {
             different(alloc, text, index, left, right)
         }
         _ => Ok(None),
@@ -419,7 +463,10 @@ fn unequal(
 ) -> Result<Option<Finding>, AllocError> {
     let wrong = format!(in alloc; "`:=` has {targets} on its left and {values} on its right")?;
     let wrong = joined(alloc, &[wrong.as_bytes()])?;
-    let hint = joined(alloc, &[b"write as many values as variables, with commas between them".as_slice()])?;
+    let hint = joined(
+        alloc,
+        &[b"write as many values as variables, with commas between them".as_slice()],
+    )?;
     Ok(found_at(words, sign, wrong, hint))
 }
 
@@ -442,10 +489,16 @@ fn sides_finding(
     wrong.extend_from_slice(b", but ")?;
     wrong.append(&mut other)?;
     let hint = match (left.found.sizes, right.found.sizes) {
-        (0, 0) => conversion(alloc, words, right, left.found.primitive)?,
-        (0, _) => joined(alloc, &[b"an array goes into an array of its size".as_slice()])?,
+        (0, 0) => conversion(alloc, words, right.from, right.found, left.found.primitive)?,
+        (0, _) => joined(
+            alloc,
+            &[b"an array goes into an array of its size".as_slice()],
+        )?,
         (_, 0) => joined(alloc, &[b"set the components one by one".as_slice()])?,
-        _ => joined(alloc, &[b"both sides of an assignment have one size".as_slice()])?,
+        _ => joined(
+            alloc,
+            &[b"both sides of an assignment have one size".as_slice()],
+        )?,
     };
     Ok(found_at(words, right.from, wrong, hint))
 }
@@ -480,7 +533,11 @@ fn sides(alloc: Global, text: &Text<'_>, index: usize) -> Result<Option<Finding>
 }
 
 /// A named value of another type than is given.
-fn named_value(alloc: Global, text: &Text<'_>, index: usize) -> Result<Option<Finding>, AllocError> {
+fn named_value(
+    alloc: Global,
+    text: &Text<'_>,
+    index: usize,
+) -> Result<Option<Finding>, AllocError> {
     let words = text.words_at(index);
     let is = index_of(words, Class::Is);
     if class_at(words, 0) != Class::Val || is < 3 {
@@ -497,15 +554,24 @@ fn named_value(alloc: Global, text: &Text<'_>, index: usize) -> Result<Option<Fi
     }
     let mut wrong = said_type(alloc, text, index, value)?;
     let name = words_text(alloc, words, is.saturating_sub(1), is)?;
-    for part in [b", but `".as_slice(), name.as_slice(), b"` is declared as ".as_slice(), called(given).as_bytes()] {
-        wrong.extend_from_slice(part)?;
-    }
+    let mut other = between(alloc, ", but `", name.as_slice(), "` is declared as ")?;
+    wrong.append(&mut other)?;
+    wrong.extend_from_slice(called(given).as_bytes())?;
     let hint = if given.sizes == 0 {
-        conversion(alloc, words, value, given.primitive)?
+        conversion(alloc, words, value.from, value.found, given.primitive)?
     } else {
         Vec::new(alloc)
     };
     Ok(found_at(words, value.from, wrong, hint))
+}
+
+/// What a type takes, and the most that it does.
+fn range_of(words: &[Word<'_>], at: usize) -> (&'static str, u64) {
+    match bytes_at(words, at) {
+        b"BYTE" => ("a BYTE is 0 to 255", 255),
+        b"BOOL" => ("a BOOL is made of 0 or 1", 1),
+        _ => ("an INT is at most 2147483647", 2_147_483_647),
+    }
 }
 
 /// A number outside the type that stands behind it.
@@ -516,14 +582,9 @@ fn outside(alloc: Global, text: &Text<'_>, index: usize) -> Result<Option<Findin
         if word.class != Class::Number || operand_end(words, at) != at.saturating_add(4) {
             continue;
         }
-        let (range, most): (&str, u64) = match words.get(at.saturating_add(2)).map_or(b"".as_slice(), |word| word.bytes) {
-            b"BYTE" => ("a BYTE is 0 to 255", 255),
-            b"BOOL" => ("a BOOL is made of 0 or 1", 1),
-            _ => continue,
-        };
+        let (range, most) = range_of(words, at.saturating_add(2));
         if is_above(word.bytes, most) {
-            let said = words_text(alloc, words, at, at.saturating_add(1))?;
-            let wrong = joined(alloc, &[b"`".as_slice(), said.as_slice(), b"` is too large for its type".as_slice()])?;
+            let wrong = between(alloc, "`", word.bytes, "` is too large for its type")?;
             let hint = joined(alloc, &[range.as_bytes()])?;
             return Ok(found_at(words, at, wrong, hint));
         }
@@ -549,7 +610,9 @@ fn too_many(alloc: Global, text: &Text<'_>, index: usize) -> Result<Option<Findi
     let words = text.words_at(index);
     for at in 0..words.len() {
         let word = words[at];
-        if word.class != Class::Name || class_at(words, at.saturating_add(1)) != Class::OpenBracket {
+        if word.class != Class::Name
+            || class_at(words, at.saturating_add(1)) != Class::OpenBracket
+        {
             continue;
         }
         let Some(found) = declaration_of(text, index, word.bytes) else {
@@ -562,9 +625,10 @@ fn too_many(alloc: Global, text: &Text<'_>, index: usize) -> Result<Option<Findi
             let mut kind = declared_text(alloc, text, &found)?;
             wrong.append(&mut kind)?;
             let sizes = found.spec.sizes;
-            let more = format!(in alloc; ", which takes {sizes} subscripts")?;
-            let more: &[u8] = if sizes == 0 { b", which takes no subscript" } else { more.as_bytes() };
-            wrong.extend_from_slice(more)?;
+            let more = format!(in alloc;
+                ", and stands under {subscripts} subscripts; it takes {sizes}"
+            )?;
+            wrong.extend_from_slice(more.as_bytes())?;
             return Ok(found_at(words, at.saturating_add(1), wrong, Vec::new(alloc)));
         }
     }
@@ -591,7 +655,7 @@ fn options(alloc: Global, text: &Text<'_>, index: usize) -> Result<Option<Findin
             let mut wrong = said_type(alloc, text, index, option)?;
             wrong.extend_from_slice(b", but the CASE selects by ")?;
             wrong.extend_from_slice(called(selector).as_bytes())?;
-            let hint = conversion(alloc, words, option, selector.primitive)?;
+            let hint = conversion(alloc, words, at, option.found, selector.primitive)?;
             return Ok(found_at(words, at, wrong, hint));
         }
         at = expression_end(words, at).saturating_add(1);

@@ -10,7 +10,7 @@ use crate::saying::{between, joined};
 use crate::scan::{Text, Word};
 use crate::scope::{Kind, declaration_of, declares, formal_count, formal_numbered};
 use crate::types::{operand_begin, operand_end, words_text};
-use crate::walk::class_at;
+use crate::walk::{bytes_at, class_at};
 use std::alloc::{AllocError, Global};
 
 /// A name without subscripts.
@@ -228,7 +228,8 @@ fn declared_hint(
 fn absent_hint(alloc: Global, behind: Class, name: &[u8]) -> Result<Vec<u8>, AllocError> {
     let (before, after) = match behind {
         Class::OpenParen => {
-            let says = b"write this PROC above: no library is read, so copy it from there".as_slice();
+            let says =
+                b"write this PROC above: no library is read, so copy it from there".as_slice();
             return joined(alloc, &[says]);
         }
         Class::Exclamation | Class::Question => ("declare the channel above: `CHAN OF INT ", ":`"),
@@ -279,7 +280,7 @@ fn use_hint(
     name: &[u8],
 ) -> Result<Vec<u8>, AllocError> {
     if !is_there {
-        let head = b"it has another name here: it is handed on in line ";
+        let head = b"it has another name here, and is handed on in line ";
         return handing_calls(alloc, text, head, name);
     }
     let hint = other_use(alloc, text, index, name)?;
@@ -289,23 +290,26 @@ fn use_hint(
     handing_calls(alloc, text, b"it is handed on in line ", name)
 }
 
-/// What is said of a variable or a channel that two branches use.
-fn said_shared(number: u32) -> &'static str {
+/// What is said before and behind the name of a variable or a channel that two branches use.
+fn said_shared(number: u32) -> (&'static str, &'static str) {
     match number {
-        50 => "` is written in one branch of a PAR and used in another",
-        51 => "` is input from in two branches of a PAR",
-        _ => "` is output to in two branches of a PAR",
+        50 => (
+            "`",
+            "` is written in one branch of a PAR and used in another",
+        ),
+        51 => ("two branches of a PAR input from `", "`"),
+        _ => ("two branches of a PAR output to `", "`"),
     }
 }
 
 /// How that is mended.
-fn shared_advice(number: u32, name: &[u8]) -> &'static [u8] {
+fn shared_advice(number: u32, name: &[u8]) -> &'static str {
     match number {
-        50 => b"give each branch a variable of its own, or send the value over a channel",
+        50 => "give each branch a variable of its own, or send the value over a channel",
         52 if name == b"screen".as_slice() => {
-            b"let one process output to the screen, and send it what the others have to say"
+            "let one process output to the screen, and send it what the others have to say"
         }
-        _ => b"give each pair of processes a channel of its own",
+        _ => "give each pair of processes a channel of its own",
     }
 }
 
@@ -354,15 +358,13 @@ fn whole_array(
     for line in [index, other] {
         if let Some(at) = varying(text, line) {
             let number = text.number_at(line);
-            let place = format!(in alloc; "` in line {number}, counts as the whole array")?;
+            let place = format!(in alloc;
+                "` (line {number}), which is no constant, the whole array counts"
+            )?;
             let said = words_text(alloc, text.words_at(line), at, at.saturating_add(1))?;
             return joined(
                 alloc,
-                &[
-                    b"; an array under a subscript that is no constant, as `".as_slice(),
-                    said.as_slice(),
-                    place.as_bytes(),
-                ],
+                &[b"; under `".as_slice(), said.as_slice(), place.as_bytes()],
             );
         }
     }
@@ -402,12 +404,14 @@ fn shared(
         hint.append(&mut whole)?;
     }
     if is_in_row(name) {
-        hint.extend_from_slice(b"; give each branch an array of one dimension in place of a row")?;
+        hint.extend_from_slice(b": declare an array of one dimension for each branch")?;
     } else {
-        hint.extend_from_slice(if hint.is_empty() { b"" } else { b": " })?;
-        hint.extend_from_slice(shared_advice(number, name))?;
+        let colon = if hint.is_empty() { "" } else { ": " };
+        hint.extend_from_slice(colon.as_bytes())?;
+        hint.extend_from_slice(shared_advice(number, name).as_bytes())?;
     }
-    told_as(alloc, spot, "`", name, said_shared(number), hint.as_slice())
+    let (before, after) = said_shared(number);
+    told_as(alloc, spot, before, name, after, hint.as_slice())
 }
 
 /// The keyboard, the screen or the error channel: the line of the main process, the place of its formal, and what it is.
@@ -423,9 +427,21 @@ struct Stream {
 /// of that name.
 fn stream_of(text: &Text<'_>, number: u32, name: &[u8]) -> Option<Stream> {
     let (formal, is_input, says) = match (number, name) {
-        (52, b"keyboard") => (0, true, "the first formal of the last PROC, so it is the keyboard"),
-        (51, b"screen") => (1, false, "the second formal of the last PROC, so it is the screen"),
-        (51, b"error") => (2, false, "the third formal of the last PROC, so it is the error channel"),
+        (52, b"keyboard") => (
+            0,
+            true,
+            "the first formal of the last PROC, so it is the keyboard",
+        ),
+        (51, b"screen") => (
+            1,
+            false,
+            "the second formal of the last PROC, so it is the screen",
+        ),
+        (51, b"error") => (
+            2,
+            false,
+            "the third formal of the last PROC, so it is the error channel",
+        ),
         _ => return None,
     };
     let head = last_proc(text);
@@ -445,12 +461,12 @@ fn stream_of(text: &Text<'_>, number: u32, name: &[u8]) -> Option<Stream> {
 }
 
 /// The PROC called `main`, where that is not the last one at the left margin.
-fn other_main(text: &Text<'_>, head: usize) -> Option<usize> {
+pub(crate) fn other_main(text: &Text<'_>, head: usize) -> Option<usize> {
     for i in 0..head {
         let words = text.words_at(i);
         if class_at(words, 0) == Class::Proc
             && text.indent_at(i) == 0
-            && words.get(1).map_or(false, |word| word.bytes == b"main".as_slice())
+            && bytes_at(words, 1) == b"main".as_slice()
         {
             return Some(i);
         }
@@ -465,7 +481,11 @@ fn stream_hint(alloc: Global, text: &Text<'_>, place: &Stream) -> Result<Vec<u8>
     if other_main(text, place.head).is_some() {
         return joined(
             alloc,
-            &[b"the last PROC is the main process: move `".as_slice(), name.as_slice(), b"` above `main`".as_slice()],
+            &[
+                b"the last PROC is the main process: move `".as_slice(),
+                name.as_slice(),
+                b"` above `main`".as_slice(),
+            ],
         );
     }
     if formal_count(words) == 1 {
@@ -478,8 +498,8 @@ fn stream_hint(alloc: Global, text: &Text<'_>, place: &Stream) -> Result<Vec<u8>
             ],
         );
     }
-    let hint: &[u8] = b"the main process inputs from its first formal, and outputs to the others";
-    joined(alloc, &[hint])
+    let hint = "the main process inputs from its first formal, and outputs to the others";
+    joined(alloc, &[hint.as_bytes()])
 }
 
 /// A program that outputs to the keyboard, or inputs from the screen or the error channel.
@@ -495,17 +515,33 @@ fn stream_finding(
     let words = text.words_at(index);
     let head = text.words_at(place.head);
     let name = words_text(alloc, head, place.at, place.at.saturating_add(1))?;
-    let class = if number == 52 { Class::Exclamation } else { Class::Question };
+    let class = if number == 52 {
+        Class::Exclamation
+    } else {
+        Class::Question
+    };
     let sign = index_of(words, class);
-    let at = if sign < words.len() { operand_begin(words, sign) } else { 0 };
-    let says = if place.is_input { ", which only gives input" } else { ", which only takes output" };
-    let wrong = joined(
-        alloc,
-        &[b"` is ".as_slice(), place.says.as_bytes(), says.as_bytes()],
-    )?;
+    let at = if sign < words.len() {
+        operand_begin(words, sign)
+    } else {
+        0
+    };
+    let says = if place.is_input {
+        ", which only gives input"
+    } else {
+        ", which only takes output"
+    };
     let hint = stream_hint(alloc, text, place)?;
-    let mut found = told_as(alloc, spot_at(words, at), "`", name.as_slice(), "", hint.as_slice())?;
-    found.wrong.extend_from_slice(wrong.as_slice())?;
+    let mut found = told_as(
+        alloc,
+        spot_at(words, at),
+        "`",
+        name.as_slice(),
+        "` is ",
+        hint.as_slice(),
+    )?;
+    found.wrong.extend_from_slice(place.says.as_bytes())?;
+    found.wrong.extend_from_slice(says.as_bytes())?;
     Ok(found)
 }
 

@@ -5,7 +5,7 @@ use crate::class::Class;
 use crate::finding::{Finding, plain, spot_at, told_as};
 use crate::scan::Word;
 use crate::types::words_text;
-use crate::walk::class_at;
+use crate::walk::{bytes_at, class_at};
 use std::alloc::{AllocError, Global};
 
 /// What a byte or a character that begins no word is called, and what is written in its place.
@@ -36,12 +36,12 @@ static BYTES: [(&[u8], &str, &str); 17] = [
         "a dash",
         "write - for minus, and -- to begin a comment",
     ),
+    (b"\xC2\xA0", "a no-break space", "write a plain space"),
     (
-        b"\xC2\xA0",
-        "a no-break space",
-        "write a plain space",
+        b"_",
+        "`_`",
+        "a name has letters, digits and dots: write my.var",
     ),
-    (b"_", "`_`", "a name has letters, digits and dots: write my.var"),
     (
         b"{",
         "`{`",
@@ -54,11 +54,7 @@ static BYTES: [(&[u8], &str, &str); 17] = [
     ),
     (b"|", "`|`", "write OR for conditions, and \\/ for bits"),
     (b"%", "`%`", "write \\ or REM for the remainder"),
-    (
-        b"^",
-        "`^`",
-        "write >< for exclusive or; there is no power",
-    ),
+    (b"^", "`^`", "write >< for exclusive or; there is no power"),
 ];
 
 fn is_odd(class: Class) -> bool {
@@ -135,7 +131,7 @@ pub(crate) fn odd_finding(
 /// Whether the byte is the point of a real number.
 fn is_real(words: &[Word<'_>], at: usize) -> bool {
     at > 0
-        && words.get(at).map_or(false, |word| word.bytes == b".".as_slice())
+        && bytes_at(words, at) == b".".as_slice()
         && class_at(words, at.saturating_sub(1)) == Class::Number
 }
 
@@ -145,7 +141,11 @@ fn real(alloc: Global, words: &[Word<'_>], at: usize) -> Result<Finding, AllocEr
 {
     let from = at.saturating_sub(1);
     let is_digits = class_at(words, at.saturating_add(1)) == Class::Number;
-    let to = if is_digits { at.saturating_add(2) } else { at.saturating_add(1) };
+    let to = if is_digits {
+        at.saturating_add(2)
+    } else {
+        at.saturating_add(1)
+    };
     let said = words_text(alloc, words, from, to)?;
     told_as(
         alloc,
@@ -159,7 +159,10 @@ fn real(alloc: Global, words: &[Word<'_>], at: usize) -> Result<Finding, AllocEr
 
 /// Whether a byte or a character has a name of its own.
 fn is_listed(bytes: &[u8]) -> bool {
-    BYTES.as_slice().iter().any(|(begin, _, _)| bytes.starts_with(begin))
+    BYTES
+        .as_slice()
+        .iter()
+        .any(|(begin, _, _)| bytes.starts_with(begin))
 }
 
 fn byte_text(bytes: &[u8]) -> (&'static str, &'static str) {
@@ -191,7 +194,10 @@ fn literal_text(class: Class, bytes: &[u8]) -> (&'static str, &'static str) {
             "` is not one character",
             "an escape begins with a star: '*n' ends a line",
         ),
-        (_, b"''") => ("` holds no character", "write one character between the quotes: ' ' is a space"),
+        (_, b"''") => (
+            "` holds no character",
+            "write one character between the quotes: ' ' is a space",
+        ),
         (_, [b'\'', ..]) if !is_closed(bytes) => (
             "` has no closing quote",
             "write a single quote on both sides of the character: 'a'",

@@ -132,11 +132,7 @@ fn formal_at(words: &[Word<'_>], at: usize, before: Spec) -> Option<(usize, Spec
 }
 
 /// The first formal of a PROC at which something holds: it has this name, or so many stand before it.
-fn formal_where(
-    words: &[Word<'_>],
-    name: Option<&[u8]>,
-    number: usize,
-) -> Option<(usize, Spec)> {
+fn formal_where(words: &[Word<'_>], name: Option<&[u8]>, number: usize) -> Option<(usize, Spec)> {
     let mut at = 3;
     let mut spec = untyped(Kind::Variable);
     for count in 0..words.len() {

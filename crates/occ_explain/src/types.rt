@@ -4,7 +4,7 @@ use crate::class::Class;
 use crate::saying::{between, told};
 use crate::scan::{Text, Word};
 use crate::scope::{Declared, Kind, behind_bracket, behind_sizes, declaration_of};
-use crate::walk::class_at;
+use crate::walk::{bytes_at, class_at};
 use std::alloc::{AllocError, Global};
 
 #[derive(Clone, Copy, PartialEq)]
@@ -49,7 +49,7 @@ fn single(primitive: Primitive) -> Step {
 
 /// The primitive type that a word spells.
 fn primitive_of(words: &[Word<'_>], at: usize) -> Option<Primitive> {
-    match words.get(at)?.bytes {
+    match bytes_at(words, at) {
         b"BOOL" => Some(Primitive::Bool),
         b"BYTE" => Some(Primitive::Byte),
         b"INT" => Some(Primitive::Int),
@@ -112,7 +112,7 @@ pub(crate) fn gives_truth(words: &[Word<'_>], at: usize) -> bool {
     match class_at(words, at) {
         Class::And | Class::Equal | Class::Or => true,
         Class::Dyadic => {
-            let bytes = words.get(at).map_or(b"".as_slice(), |word| word.bytes);
+            let bytes = bytes_at(words, at);
             matches!(bytes, b"<>" | b"<" | b">" | b"<=" | b">=" | b"AFTER")
         }
         _ => false,
@@ -122,7 +122,11 @@ pub(crate) fn gives_truth(words: &[Word<'_>], at: usize) -> bool {
 /// The type of a literal.
 fn literal(words: &[Word<'_>], asked: Asked, primitive: Primitive) -> Step {
     if has_type(words, asked.at) {
-        under(primitive_of(words, asked.at.saturating_add(2)), 0, asked.subscripts)
+        under(
+            primitive_of(words, asked.at.saturating_add(2)),
+            0,
+            asked.subscripts,
+        )
     } else {
         under(Some(primitive), 0, asked.subscripts)
     }
@@ -143,7 +147,11 @@ fn named(text: &Text<'_>, asked: Asked, name: &[u8], subscripts: usize) -> Step 
             is_alone: false,
         }),
         Kind::Value | Kind::Variable => {
-            under(primitive_of(words, found.spec.of), found.spec.sizes, subscripts)
+            under(
+                primitive_of(words, found.spec.of),
+                found.spec.sizes,
+                subscripts,
+            )
         }
         _ => Step::Is(None),
     }
@@ -185,7 +193,12 @@ fn one_step(text: &Text<'_>, asked: Asked) -> Step {
         Class::Truth => under(Some(Primitive::Bool), 0, asked.subscripts),
         Class::Name => {
             let (_, count) = behind_sizes(words, asked.at.saturating_add(1));
-            named(text, asked, word.bytes, asked.subscripts.saturating_add(count))
+            named(
+                text,
+                asked,
+                word.bytes,
+                asked.subscripts.saturating_add(count),
+            )
         }
         _ => Step::Is(None),
     }
@@ -252,7 +265,8 @@ pub(crate) fn expression_end(words: &[Word<'_>], at: usize) -> usize {
             | Class::For
             | Class::Is
             | Class::Question
-            | Class::Semicolon if depth == 0 => return i,
+            | Class::Semicolon
+                if depth == 0 => return i,
             _ => {}
         }
     }
@@ -353,7 +367,12 @@ pub(crate) fn spelled_text(
     text: &Text<'_>,
     found: &Declared,
 ) -> Result<Vec<u8>, AllocError> {
-    words_text(alloc, text.words_at(found.line), found.spec.from, found.spec.to)
+    words_text(
+        alloc,
+        text.words_at(found.line),
+        found.spec.from,
+        found.spec.to,
+    )
 }
 
 /// Whether the word stands among those before it.
