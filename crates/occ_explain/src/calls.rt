@@ -5,7 +5,9 @@ use crate::finding::{Finding, index_of};
 use crate::mismatch::{conversion, found_at};
 use crate::saying::joined;
 use crate::scan::{Text, Word};
-use crate::scope::{Declared, Kind, Spec, declaration_of, formal_count, formal_numbered};
+use crate::scope::{
+    Declared, Kind, Spec, behind_sizes, declaration_of, formal_count, formal_numbered,
+};
 use crate::types::{
     declared_text, expression_end, operand_end, spelled_type, type_at, type_text, words_text,
 };
@@ -214,17 +216,26 @@ fn channel_actual(
     if own.as_slice() != wanted.as_slice() && is_named {
         return unfit(alloc, text, index, pair, is.as_slice(), OWN_TYPE.as_bytes());
     }
-    if own.as_slice() != wanted.as_slice() || found.spec.sizes < pair.spec.sizes {
-        return unfit(
-            alloc,
-            text,
-            index,
-            pair,
-            is.as_slice(),
-            b"hand over a channel that carries what the formal does",
-        );
+    if own.as_slice() != wanted.as_slice() {
+        let hint = b"hand over a channel that carries what the formal does";
+        return unfit(alloc, text, index, pair, is.as_slice(), hint);
     }
-    Ok(None)
+    let (_, subscripts) = behind_sizes(text.words_at(index), pair.actual.saturating_add(1));
+    if found.spec.sizes.saturating_sub(subscripts) == pair.spec.sizes {
+        return Ok(None);
+    }
+    let hint = "write as many subscripts behind its name as leave the sizes of the formal";
+    if subscripts == 0 {
+        return unfit(alloc, text, index, pair, is.as_slice(), hint.as_bytes());
+    }
+    unfit(
+        alloc,
+        text,
+        index,
+        pair,
+        b"a part of an array",
+        hint.as_bytes(),
+    )
 }
 
 /// An actual of a formal that is a variable or a value.

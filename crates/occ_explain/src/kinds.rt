@@ -57,11 +57,21 @@ fn in_input(words: &[Word<'_>], at: usize, sign: usize) -> Role {
     }
 }
 
-/// What a name has to be in an output.
-fn in_output(words: &[Word<'_>], at: usize, sign: usize) -> Role {
+/// Whether the channel of an output has a protocol with a name, or is none.
+fn has_protocol(text: &Text<'_>, index: usize, sign: usize) -> bool {
+    let words = text.words_at(index);
+    let name = bytes_at(words, operand_begin(words, sign));
+    match declaration_of(text, index, name) {
+        Some(found) => class_at(text.words_at(found.line), found.spec.of) == Class::Name,
+        None => true,
+    }
+}
+
+/// What a name has to be in an output, which may begin with a tag.
+fn in_output(words: &[Word<'_>], at: usize, sign: usize, is_tagged: bool) -> Role {
     if at == operand_begin(words, sign) {
         Role::End
-    } else if at == sign.saturating_add(1) {
+    } else if at == sign.saturating_add(1) && is_tagged {
         Role::Any
     } else {
         Role::Read
@@ -106,7 +116,9 @@ fn role_of(text: &Text<'_>, index: usize, at: usize) -> Role {
     }
     match depth_at(words, at) {
         0 if input < words.len() => in_input(words, at, input),
-        0 if output < words.len() => in_output(words, at, output),
+        0 if output < words.len() => {
+            in_output(words, at, output, has_protocol(text, index, output))
+        }
         0 if assign < words.len() && at < assign => Role::Target,
         _ => Role::Read,
     }

@@ -6,7 +6,7 @@ use crate::finding::{Finding, index_of, spot_at};
 use crate::grammar::Part;
 use crate::saying::{between, joined};
 use crate::scan::{Text, Word};
-use crate::scope::{behind_sizes, declaration_of, index_at};
+use crate::scope::{Kind, behind_sizes, declaration_of, index_at};
 use crate::types::{
     Primitive, Type, called, declared_text, expression_end, operand_begin, operand_end,
     operand_type, spelled_type, type_at, type_text, words_text,
@@ -379,8 +379,23 @@ fn wanted_behind(words: &[Word<'_>], at: usize) -> Option<Wanted> {
             says: ", but a CASE selects by an INT or a BYTE",
         }),
         Class::Monadic | Class::Minus if !is_between(words, at) => wanted_monadic(words, at),
+        Class::Primitive if is_conversion(words, at) => Some(Wanted {
+            at: at.saturating_add(1),
+            takes: Takes::Any,
+            says: ", but a conversion takes a single value",
+        }),
         _ => None,
     }
+}
+
+/// Whether a type that is no part of a declaration stands before an operand.
+fn is_conversion(words: &[Word<'_>], at: usize) -> bool {
+    let before = class_at(words, at.saturating_sub(1));
+    let is_declaring = matches!(
+        before,
+        Class::CloseBracket | Class::DoubleColon | Class::Of | Class::Val
+    );
+    at > 0 && !is_declaring && !matches!(class_at(words, 0), Class::Proc | Class::Protocol)
 }
 
 /// What an operator with a single operand takes.
@@ -663,13 +678,34 @@ fn options(alloc: Global, text: &Text<'_>, index: usize) -> Result<Option<Findin
     Ok(None)
 }
 
+/// An array of channels in the place of one.
+fn channels(alloc: Global, text: &Text<'_>, index: usize) -> Result<Option<Finding>, AllocError> {
+    let words = text.words_at(index);
+    let sign = index_of(words, Class::Exclamation).min(index_of(words, Class::Question));
+    let at = operand_begin(words, sign);
+    let name = bytes_at(words, at);
+    let Some(found) = declaration_of(text, index, name) else {
+        return Ok(None);
+    };
+    let (_, subscripts) = behind_sizes(words, at.saturating_add(1));
+    if sign == words.len() || found.spec.kind != Kind::Channel || subscripts >= found.spec.sizes {
+        return Ok(None);
+    }
+    let mut wrong = between(alloc, "`", name, "` is ")?;
+    let mut kind = declared_text(alloc, text, &found)?;
+    wrong.append(&mut kind)?;
+    wrong.extend_from_slice(b", and a message goes over one of them")?;
+    let hint = between(alloc, "write a subscript for each size: `", name, "[0]`")?;
+    Ok(found_at(words, at, wrong, hint))
+}
+
 /// What does not fit in a line that is refused for its types; nothing where the words do not tell.
 pub(crate) fn mismatch(
     alloc: Global,
     text: &Text<'_>,
     index: usize,
 ) -> Result<Option<Finding>, AllocError> {
-    for look in 0..7 {
+    for look in 0..8 {
         let found = match look {
             0 => operators(alloc, text, index)?,
             1 => places(alloc, text, index)?,
@@ -677,6 +713,7 @@ pub(crate) fn mismatch(
             3 => named_value(alloc, text, index)?,
             4 => outside(alloc, text, index)?,
             5 => too_many(alloc, text, index)?,
+            6 => channels(alloc, text, index)?,
             _ => options(alloc, text, index)?,
         };
         if found.is_some() {
