@@ -362,7 +362,7 @@ impl<J: Naming> Publisher<J> {
         (self, note)
     }
 
-    /// Whether this note, which is one of the last list, is of what is published. It is, unless the publisher is behind it.
+    /// Whether this note of the last list is known to be of what is published. Where it answers `false` nothing is known.
     pub fn is_closed_by(&self, note: &Note<J>) -> bool
         requires { note.now.last ≡ true }
         ensures { IsTrue result → self.now ≡ publishing note.now.entries [] true }

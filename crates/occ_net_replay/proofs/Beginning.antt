@@ -31,7 +31,7 @@ use Rattle.occ_machine.specs.declared.task.Task.{Task}
 use Rattle.occ_machine.specs.declared.task.Wait.{Wait}
 use Rattle.occ_net_replay.specs.Following.{AreBytes, or_limit}
 use Rattle.occ_net_replay.specs.Replay.{Net, Tasks, HasTask, first_task, first_net, first_tasks, none_begun, may_go, ready_from, is_done, ended, main_done, ending_by, ending_of, first_noted, standing_by, stopped_by}
-use Rattle.occ_net_replay.specs.Moments.{At, Among, first, later, here, below}
+use Rattle.occ_net_replay.specs.Moments.{At, Among, first, later, here, below, by_term}
 use Rattle.occ_net_replay.proofs.Holding.{number_of, Belongs, Stands, may_turn, Own, Holds}
 use Rattle.occ_net_replay.proofs.Merging.{done_stands}
 use Rattle.occ_net_replay.proofs.Placed.{size, Placed, LeftPlaced}
@@ -138,7 +138,7 @@ module _ (d : Declared) (p : Program) (procs : List Numbered) (protocol : d.prot
             task = main_task b.body;
             has_task = main_there p.bodies b.body b.code;
             but = empty_set;
-            stands = may_turn refl refl (subst (λ z. Alike k d b.body (main_task b.body) (left (Do z) [])) same (b.does.alike k (main_task b.body) (omega (arith, few)) is_first));
+            stands = may_turn refl refl by_term (subst (λ z. Alike k d b.body (main_task b.body) (left (Do z) [])) same (b.does.alike k (main_task b.body) (omega (arith, few)) is_first));
             typed = (typed, tt);
             uses = subst (λ z. IsPartOf (uses_of_left (left (Do t) [])) (uses_of z)) (sym same) (both_parts (uses_of t) no_use (uses_of t) (whole_part (uses_of t)) (no_part (uses_of t)));
             placed = subst (λ z. LeftPlaced procs 1 (1 + size z) (left (Do t) [])) (sym same) (subst (λ z. Placed z 1 (1 + size t) t) (sym listed) (main_placed t numbers lawful), tt);

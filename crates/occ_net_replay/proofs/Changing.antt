@@ -27,7 +27,7 @@ module _ (d : Declared) (p : Program) (procs : List Numbered) (k l : ℕ) (f : F
     pub covers : (c : ℕ) → IsTrue ((uses_of t).writes c) → IsTrue (but c)
 
   stands_above : (body : Body) (task : Task) (a : Left) (qs : Processes) (but : Numbers) → Stands d p procs k body task a qs but → (x : Among n own ps qs) → ((bs : Branches) (j : List Context) → a ≡ left (Forking bs) j → SameNumbers bs qs → IsPartOf (uses_of t) (uses_of_branches bs)) → Above body task a (put_among x next others) but
-  stands_above body task a qs but (may_turn m g al) x part = elim x [ ]
+  stands_above body task a qs but (may_turn m g y al) x part = elim x [ ]
   stands_above body task a qs but (may_join m e z al) x part = absurd (true≢false (sym (ended_inside x z) ∙ live))
   stands_above body task a qs but (offers w al) x part = elim x [ ]
   stands_above body task a qs but (awaits w al) x part = elim x [ ]

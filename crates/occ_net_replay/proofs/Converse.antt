@@ -41,7 +41,8 @@ use Rattle.occ_net_replay.proofs.Merging.{done_stands}
 use Rattle.occ_net_replay.proofs.Placed.{size, AreSome, LeftPlaced}
 use Rattle.occ_net_replay.proofs.Putting.{mine}
 use Rattle.occ_net_replay.proofs.Runs.{listed, run_more, met_more, turns_more, on-append, FitAll, fit_append}
-use Rattle.occ_net_replay.proofs.Settling.{Follows, Comes, Happened, happened}
+use Rattle.occ_net_replay.proofs.Happened.{happened}
+use Rattle.occ_net_replay.proofs.Settling.{Follows, Comes, Happened}
 use Rattle.occ_net_replay.proofs.States.{Live}
 use Rattle.occ_net_replay.proofs.Still.{all_done, meets_nobody}
 use Rattle.occ_net_replay.proofs.Tables.{ready_place, set_same, task_once}

@@ -98,8 +98,8 @@ going_noted (Faulted e) h = absurd (true≢false (sym h))
 going_noted Done h = refl
 
 pub stands_noted : (d : Declared) (p : Program) (procs : List Numbered) (k : ℕ) (body : Body) (t : Task) (own : Left) (ps : Processes) (but : Numbers) → Stands d p procs k body t own ps but → fault_noted (status own) ≡ noted_at t.wait
-stands_noted d p procs k body t own ps but (may_turn {x = x} g h a) = going_noted x h ∙ sym (ready_no_fault t.wait g)
-stands_noted d p procs k body t own ps but (may_join g m e a) = sym (ready_no_fault t.wait g)
+stands_noted d p procs k body t own ps but (may_turn {x = x} g h y a) = going_noted x h ∙ sym (ready_no_fault t.wait g)
+stands_noted d p procs k body t own ps but (may_join g m e a) = sym (ready_no_fault t.wait (ap may_go g))
 stands_noted d p procs k body t own ps but (offers w a) = sym (ap noted_at w)
 stands_noted d p procs k body t own ps but (awaits w a) = sym (ap noted_at w)
 stands_noted d p procs k body t own ps but (chooses w a) = sym (ap noted_at w)

@@ -21,7 +21,7 @@ use Rattle.occ_machine.specs.Compiled.{Program}
 use Rattle.occ_machine.specs.Machine.{Body}
 use Rattle.occ_machine.specs.declared.task.Task.{Task}
 use Rattle.occ_net_replay.specs.Replay.{Tasks, HasTask, may_go, first_task, turns_of, turns_at, branch_frame, branch_task, with_branches}
-use Rattle.occ_net_replay.specs.Moments.{first, later, here}
+use Rattle.occ_net_replay.specs.Moments.{first, later, here, by_term}
 use Rattle.occ_net_replay.proofs.Holding.{SameNumbers, Belongs, may_turn, Own, AllHold, one_term, placed_order, used_part, held_used}
 use Rattle.occ_net_replay.proofs.Placed.{size, Placed, BranchesPlaced, LeftPlaced}
 use Rattle.occ_net_replay.proofs.Putting.{InAmong}
@@ -150,7 +150,7 @@ module _ (d : Declared) (p : Program) (procs : List Numbered) (belongs_at : (n :
           task = task;
           has_task = there;
           but = empty_set;
-          stands = may_turn refl refl (subst (λ z. Alike k d b.body task (left (Do z) [])) same (b.does.alike k task small is_first));
+          stands = may_turn refl refl by_term (subst (λ z. Alike k d b.body task (left (Do z) [])) same (b.does.alike k task small is_first));
           typed = (typed, tt);
           uses = subst (λ z. IsPartOf (uses_of_left (left (Do t) [])) (uses_of z)) (sym same) (both_parts (uses_of t) no_use (uses_of t) (whole_part (uses_of t)) (no_part (uses_of t)));
           placed = subst (λ z. LeftPlaced procs (n + 1) (n + 1 + size z) (left (Do t) [])) (sym same) (placed, tt);

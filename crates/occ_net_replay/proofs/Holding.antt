@@ -7,9 +7,9 @@ use Rattle.occ_term.specs.declared.message.Message.{Message}
 use Rattle.occ_term.specs.Going.{IsGoing}
 use Rattle.occ_term.specs.Frames.{Variables, is_held, at}
 use Rattle.occ_term.specs.Processes.{Numbered, numbered}
-use Rattle.occ_term.specs.Selecting.{Enabled}
+use Rattle.occ_term.specs.Selecting.{Enabled, Setting}
 use Rattle.occ_term.specs.StepUses.{IsPartOf, uses_of_left}
-use Rattle.occ_term.specs.Steps.{Doing, Do, Offering, Awaiting, Choosing, Taking, MessageTaken, Forking, Halted, Faulted, Done, Context, Left, left}
+use Rattle.occ_term.specs.Steps.{Doing, Do, Offering, Awaiting, Choosing, Taken, Taking, MessageTaken, Forking, Halted, Faulted, Done, Context, Left, left}
 use Rattle.occ_term.specs.System.{Process, process, Processes, no_processes, and_process, AllEnded}
 use Rattle.occ_term.specs.TermTyping.{Declared}
 use Rattle.occ_term.specs.Terms.{Term, Skip, Branches, no_branches, and_branch, Reception}
@@ -18,7 +18,7 @@ use Rattle.occ_term.specs.Uses.{Uses, Numbers, empty_set, uses_of, uses_of_branc
 use Rattle.occ_term.specs.Values.{Store, is_of_declared}
 use Rattle.occ_term.proofs.KeptStores.{left_part, right_part, whole_part}
 use Rattle.occ_term.proofs.TypedValues.{or_left, or_right}
-use Rattle.occ_machine.specs.SameStop.{Agrees, Frames, FitsProtocol, SameArms, Joined, joined_with, numbers_of, used_by}
+use Rattle.occ_machine.specs.SameStop.{Agrees, Frames, FitsProtocol, SameArms, Joined, indices_in, joined_with, numbers_of, used_by}
 use Rattle.occ_machine.specs.Alike.{Alike, DoesAs}
 use Rattle.occ_machine.specs.Compiled.{Program}
 use Rattle.occ_machine.specs.Machine.{Body}
@@ -26,7 +26,7 @@ use Rattle.occ_machine.specs.declared.task.Arm.{Arm}
 use Rattle.occ_machine.specs.declared.task.Task.{Task}
 use Rattle.occ_machine.specs.declared.task.Wait.TheVariants as W
 use Rattle.occ_net_replay.specs.Replay.{Tasks, HasTask, may_go, made_ready, has_taken}
-use Rattle.occ_net_replay.specs.Moments.{At, here, below, Among, first, later}
+use Rattle.occ_net_replay.specs.Moments.{At, here, below, Among, first, later, ProceedsBy, by_taking, message_taken}
 use Rattle.occ_net_replay.proofs.Fewer.{Fewer, alike_fewer, arms_fewer}
 use Rattle.occ_net_replay.proofs.Placed.{size, BranchesPlaced, LeftPlaced}
 
@@ -41,6 +41,10 @@ SameNumbers (and_branch n b bs) (and_process (process m own qs) ps) = (m ≡ n) 
 pub record AgreesBut (cells : List ℕ) (but : Numbers) (f : Variables) (s : Store) : Type 0 where
   pub shape : Frames cells f
   pub same : (c : ℕ) → IsTrue (is_held cells c) → IsFalse (but c) → at f c ≡ s c
+
+-- an arm that was taken, where the task has the arm's indices
+pub takes_arm : (a : Arm) (again : List Setting) (what : Taken) → a.indices ≡ indices_in again → ProceedsBy (W.Took a.number a.indices (message_taken what)) (Taking again what)
+takes_arm a again what e = subst (λ is. ProceedsBy (W.Took a.number is (message_taken what)) (Taking again what)) (sym e) by_taking
 
 pub agrees_all : (d : Declared) (cells : List ℕ) (f : Variables) (s : Store) → StoreHas d s → AgreesBut cells empty_set f s → Agrees d cells f s
 agrees_all d cells f s h a =
@@ -82,9 +86,9 @@ module _ (d : Declared) (p : Program) (procs : List Numbered) where
 
   -- a task and what is left of its process, with its branches; and the cells on which the two need not agree now
   pub data Stands (k : ℕ) (body : Body) (t : Task) : Left → Processes → Numbers → Type 0 where
-    may_turn : {x : Doing} {j : List Context} → IsTrue (may_go t.wait) → IsGoing x → Alike k d body t (left x j) → Stands k body t (left x j) no_processes empty_set
+    may_turn : {x : Doing} {j : List Context} → IsTrue (may_go t.wait) → IsGoing x → ProceedsBy t.wait x → Alike k d body t (left x j) → Stands k body t (left x j) no_processes empty_set
     may_join : {bs : Branches} {j : List Context} {ps : Processes}
-        → IsTrue (may_go t.wait) → SameNumbers bs ps → AllEnded ps → Alike k d body t (left (Do Skip) j) → Stands k body t (left (Forking bs) j) ps empty_set
+        → t.wait ≡ W.Ready → SameNumbers bs ps → AllEnded ps → Alike k d body t (left (Do Skip) j) → Stands k body t (left (Forking bs) j) ps empty_set
     offers : {c : ℕ} {m : Message} {j : List Context} → t.wait ≡ W.Offers c m → Alike k d body (made_ready t) (left (Do Skip) j) → Stands k body t (left (Offering c m) j) no_processes empty_set
     awaits : {c : ℕ} {list : Reception} {j : List Context}
         → t.wait ≡ W.Awaits c → ((m : Message) → FitsProtocol (d.protocols c) m → Alike k d body (has_taken t m) (left (Taking [] (MessageTaken list m)) j))
@@ -124,7 +128,7 @@ module _ (d : Declared) (p : Program) (procs : List Numbered) where
     forked_is : {bs : Branches} {j : List Context} {ps : Processes} → own ≡ left (Forking bs) j → SameNumbers bs ps → Branched own ps
 
   pub branched : {k : ℕ} {body : Body} {t : Task} {own : Left} {ps : Processes} {but : Numbers} → Stands k body t own ps but → Branched own ps
-  branched (may_turn m g a) = alone_is
+  branched (may_turn m g w a) = alone_is
   branched (may_join m n e a) = forked_is refl n
   branched (offers w a) = alone_is
   branched (awaits w a) = alone_is
@@ -150,7 +154,7 @@ module _ (d : Declared) (p : Program) (procs : List Numbered) where
   same_number n t u e f = one_term (sym f ∙ e)
 
   pub stands_fewer : {k l : ℕ} → Fewer k l → (body : Body) (t : Task) (own : Left) (ps : Processes) (but : Numbers) → Stands k body t own ps but → Stands l body t own ps but
-  stands_fewer f body t own ps but (may_turn m g a) = may_turn m g (alike_fewer f d body _ _ a)
+  stands_fewer f body t own ps but (may_turn m g w a) = may_turn m g w (alike_fewer f d body _ _ a)
   stands_fewer f body t own ps but (may_join m n e a) = may_join m n e (alike_fewer f d body _ _ a)
   stands_fewer f body t own ps but (offers w a) = offers w (alike_fewer f d body _ _ a)
   stands_fewer f body t own ps but (awaits w a) = awaits w (λ m h. alike_fewer f d body _ _ (a m h))

@@ -129,8 +129,8 @@ module _ (d : Declared) (p : Program) (procs : List Numbered) (k : ℕ) (body : 
     pub goes : (g : Variables) → Joined (uses_of_branches branches).writes t.frame g → Alike k d body (joined_with t g) (left (Do Skip) rest)
 
   pub joins_as : (own : Left) (ps : Processes) (but : Numbers) (ns : List ℕ) → Stands d p procs k body t own ps but → t.wait ≡ W.Joins ns → JoinsAs own ps but ns
-  joins_as own ps but ns (may_turn g h a) e = absurd (going_is t.wait g (W.Joins ns) e refl)
-  joins_as own ps but ns (may_join g n z a) e = absurd (going_is t.wait g (W.Joins ns) e refl)
+  joins_as own ps but ns (may_turn g h y a) e = absurd (going_is t.wait g (W.Joins ns) e refl)
+  joins_as own ps but ns (may_join g n z a) e = absurd (going_is t.wait (ap may_go g) (W.Joins ns) e refl)
   joins_as own ps but ns (offers w a) e = let q = sym w ∙ e in absurd cc
   joins_as own ps but ns (awaits w a) e = let q = sym w ∙ e in absurd cc
   joins_as own ps but ns (chooses w a) e = let q = sym w ∙ e in absurd cc

@@ -167,26 +167,26 @@ module _ (u : UnfoldedProgram) (p : Program) (quantum : ℕ) (kb : List ℕ) (w 
   abbrev run_at : (cs : List Choice) (net : Net) → length cs < 2 ^ 64 → Replays p kb cs net → IsOneRun u p quantum kb cs net
   run_at cs net few r = one_run cs net (left_over cs) (room cs few) r
 
-  abbrev Further : {a b : Net} → Followed u kb quantum p.errors a → Followed u kb quantum p.errors b → Type 0
+  abbrev Further : {cs ds : List Choice} {a b : Net} → IsOneRun u p quantum kb cs a → IsOneRun u p quantum kb ds b → Type 0
   Further f g = OneFurther u p quantum kb f g
 
   next_run : (cs : List Choice) (c : Choice) (a b : Net) (k : ℕ) (s : suc k + length cs < 2 ^ 64) (t : k + length (cs ++ c ∷ []) < 2 ^ 64) (r : Replays p kb cs a) (g : ending_of p.errors a ≡ None) (o : OneTurn p c a b)
-      → Further (followed_by (suc k) a (all_followed cs a (suc k) s r)) (followed_by k b (all_followed (cs ++ c ∷ []) b k t (replays_on r g o)))
-  unfolding all_followed
+      → Further (one_run cs a (suc k) s r) (one_run (cs ++ c ∷ []) b k t (replays_on r g o))
+  unfolding all_followed accompanied
   next_run cs c a b k s t r g o =
       let bound : suc k + length cs < 2 ^ 64 = for_one_more k cs c t in
       let before = all_followed cs a (suc k) bound r in
       let x = one_turn d p procs (keyboard_protocol u w) quantum from.quanta belongs k c a b before.now before.follows g o in
-      subst (λ z. Further (followed_by (suc k) a (all_followed cs a (suc k) z r)) (followed_by k b (all_followed (cs ++ c ∷ []) b k t (replays_on r g o)))) (le_prop bound s)
-      (event o.number x.met, refl, goes x.turn x.meets_at no_turn)
+      subst (λ z. Further (one_run cs a (suc k) z r) (one_run (cs ++ c ∷ []) b k t (replays_on r g o))) (le_prop bound s)
+      (record { event = event o.number x.met; events = refl; systems = refl; turn = goes x.turn x.meets_at no_turn })
 
   one_less : (cs : List Choice) (c : Choice) → length (cs ++ c ∷ []) < 2 ^ 64 → left_over cs ≡ suc (left_over (cs ++ c ∷ []))
   one_less cs c more = omega (arith, more, length-append cs (c ∷ []))
 
   further : (cs : List Choice) (c : Choice) (a b : Net) (few : length cs < 2 ^ 64) (more : length (cs ++ c ∷ []) < 2 ^ 64) (r : Replays p kb cs a) (g : ending_of p.errors a ≡ None) (o : OneTurn p c a b)
-      → Further (run_at cs a few r).follows (run_at (cs ++ c ∷ []) b more (replays_on r g o)).follows
+      → Further (run_at cs a few r) (run_at (cs ++ c ∷ []) b more (replays_on r g o))
   further cs c a b few more r g o =
-      subst (λ j. (s : j + length cs < 2 ^ 64) → Further (followed_by j a (all_followed cs a j s r)) (run_at (cs ++ c ∷ []) b more (replays_on r g o)).follows) (sym (one_less cs c more))
+      subst (λ j. (s : j + length cs < 2 ^ 64) → Further (one_run cs a j s r) (run_at (cs ++ c ∷ []) b more (replays_on r g o))) (sym (one_less cs c more))
       (λ s. next_run cs c a b (left_over (cs ++ c ∷ [])) s (room (cs ++ c ∷ []) more) r g o) (room cs few)
 
   runs_of_all : RunsOfAll u p quantum kb

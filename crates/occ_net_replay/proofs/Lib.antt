@@ -22,6 +22,7 @@ pub mod Faults
 mod Runs
 mod EndedRuns
 pub mod Settling
+mod Happened
 mod Beginning
 mod Sharing
 mod Whole

@@ -24,9 +24,9 @@ use Rattle.occ_machine.specs.declared.task.Arm.{Arm}
 use Rattle.occ_machine.specs.declared.task.Task.{Task}
 use Rattle.occ_machine.specs.declared.task.Wait.TheVariants as W
 use Rattle.occ_net_replay.specs.Replay.{Tasks, HasTask, made_ready, has_taken, took_arm, offers_on, offers_among, arm_chosen}
-use Rattle.occ_net_replay.specs.Moments.{At, here, below, Among, first, later}
+use Rattle.occ_net_replay.specs.Moments.{At, here, below, Among, first, later, by_term, by_taking}
 use Rattle.occ_net_replay.proofs.Placed.{size, LeftPlaced, EnabledPlaced, AllEnabledPlaced}
-use Rattle.occ_net_replay.proofs.Holding.{put, Stands, may_turn, may_join, offers, awaits, chooses, waits, is_halted, has_failed, has_ended, Own}
+use Rattle.occ_net_replay.proofs.Holding.{takes_arm, put, Stands, may_turn, may_join, offers, awaits, chooses, waits, is_halted, has_failed, has_ended, Own}
 use Rattle.occ_net_replay.proofs.Putting.{change_put, mine}
 use Rattle.occ_net_replay.proofs.Quiet.{offers_is}
 use Rattle.occ_net_replay.proofs.States.{gives_as, gets_as, ChoosesAs, chooses_as, State, Live, live_at, moved}
@@ -201,7 +201,7 @@ bool_same false false f g = refl
 module _ (d : Declared) (p : Program) (procs : List Numbered) where
   -- a process that stands at an offer has a task that does
   stands_offers : (k : ℕ) (body : Body) (t : Task) (own : Left) (ps : Processes) (but : Numbers) (c : ℕ) → Stands d p procs k body t own ps but → IsTrue (offers_at (status own) c) → IsTrue (offers_on t.wait c)
-  stands_offers k body t own ps but c (may_turn {x = x} g h a) o = absurd (no_offer x h c o)
+  stands_offers k body t own ps but c (may_turn {x = x} g h y a) o = absurd (no_offer x h c o)
     where
       no_offer : (x : Doing) → IsGoing x → (c : ℕ) → IsTrue (offers_at (status_of x) c) → ⊥
       no_offer (Do t) h c o = true≢false (sym o)
@@ -297,7 +297,7 @@ module _ (d : Declared) (p : Program) (procs : List Numbered) where
         let l = live_at d p procs k tasks proc s i t st h (λ e. let q = sym w ∙ e in cc) in
         let g = gives_as d p procs k l.mine.belongs.body t l.own l.branches l.mine.but c m (subst (λ u. Stands d p procs k l.mine.belongs.body u l.own l.branches l.mine.but) l.same l.mine.stands) w in
         goes_on i t (made_ready t) h refl refl (GivesOn c m) l.own l.branches l.at l.mine l.same
-        (going_by i t (made_ready t) h refl refl (GivesOn c m) l.own l.branches l.mine (Offering c m) (Do Skip) g.rest g.own_is g.none g.all offer_ends (may_turn refl refl g.alike) (λ x. (tt, x.1)) (no_part (uses_of_left (left (Offering c m) g.rest))) (λ x. (tt, x.1)) refl)
+        (going_by i t (made_ready t) h refl refl (GivesOn c m) l.own l.branches l.mine (Offering c m) (Do Skip) g.rest g.own_is g.none g.all offer_ends (may_turn refl refl by_term g.alike) (λ x. (tt, x.1)) (no_part (uses_of_left (left (Offering c m) g.rest))) (λ x. (tt, x.1)) refl)
 
     -- the message offered is one of the channel's protocol
     pub offered_fits : (i c : ℕ) (t : Task) (m : Message) → HasTask tasks i t → t.wait ≡ W.Offers c m → FitsProtocol (d.protocols c) m
@@ -316,7 +316,7 @@ module _ (d : Declared) (p : Program) (procs : List Numbered) where
         let whole = uses_of_left (left (Awaiting c g.list) g.rest) in
         let listed : IsPartOf (uses_of_reception g.list) whole = right_part (inputting (only c)) (uses_of_reception g.list) whole (left_part (uses_of_doing (Awaiting c g.list)) (uses_of_contexts g.rest) whole (whole_part whole)) in
         goes_on i t (has_taken t m) h refl refl (GetsOn standing c m) l.own l.branches l.at l.mine l.same
-        (going_by i t (has_taken t m) h refl refl (GetsOn standing c m) l.own l.branches l.mine (Awaiting c g.list) (Taking [] (MessageTaken g.list m)) g.rest g.own_is g.none g.all input_gets (may_turn refl refl (g.alike m fits))
+        (going_by i t (has_taken t m) h refl refl (GetsOn standing c m) l.own l.branches l.mine (Awaiting c g.list) (Taking [] (MessageTaken g.list m)) g.rest g.own_is g.none g.all input_gets (may_turn refl refl by_taking (g.alike m fits))
         (λ x. ((tt, (x.0.0, x.0.2, subst (λ o. FitsProtocol o m) x.0.1 fits)), x.1))
         (both_parts no_use (uses_of_reception g.list) whole (no_part whole) listed) (λ x. x) refl)
 
@@ -361,7 +361,7 @@ module _ (d : Declared) (p : Program) (procs : List Numbered) where
               goes_on i t (took_arm t a (Some m)) h refl refl (GetsOn standing c m) l.own l.branches l.at l.mine l.same
               (going_by i t (took_arm t a (Some m)) h refl refl (GetsOn standing c m) l.own l.branches l.mine (Choosing pri g.enabled) (Taking xs (MessageTaken list m)) g.rest g.own_is g.none g.all
               (arm_gets_on pick (z ∙ ap (λ n. Some (InputArm xs n list)) there))
-              (may_turn refl refl (same.2 m (subst (λ n. FitsProtocol (d.protocols n) m) (sym there) fits)))
+              (may_turn refl refl (takes_arm a xs (MessageTaken list m) same.1) (same.2 m (subst (λ n. FitsProtocol (d.protocols n) m) (sym there) fits)))
               (λ x. let y = pk.typed x.0 in ((y.0, (y.1.0, y.1.2, subst (λ o. FitsProtocol o m) y.1.1 (subst (λ n. FitsProtocol (d.protocols n) m) (sym there) fits))), x.1))
               (both_parts (uses_of_settings xs) (uses_of_reception list) _ settings listed) (λ x. (pk.placed x.0, x.1)) refl)
 
@@ -379,4 +379,4 @@ module _ (d : Declared) (p : Program) (procs : List Numbered) where
               let bodied = right_part (uses_of_settings xs) (uses_of body) _ part in
               goes_on i t (took_arm t a None) h refl refl (PassesBy standing) l.own l.branches l.at l.mine l.same
               (going_by i t (took_arm t a None) h refl refl (PassesBy standing) l.own l.branches l.mine (Choosing pri g.enabled) (Taking xs (SkipTaken body)) g.rest g.own_is g.none g.all
-              (arm_skips pick z) (may_turn refl refl same.2) (λ x. (pk.typed x.0, x.1)) (both_parts (uses_of_settings xs) (uses_of body) _ settings bodied) (λ x. (pk.placed x.0, x.1)) refl)
+              (arm_skips pick z) (may_turn refl refl (takes_arm a xs (SkipTaken body) same.1) same.2) (λ x. (pk.typed x.0, x.1)) (both_parts (uses_of_settings xs) (uses_of body) _ settings bodied) (λ x. (pk.placed x.0, x.1)) refl)

@@ -16,7 +16,7 @@ use Rattle.occ_machine.specs.Compiled.{Program}
 use Rattle.occ_machine.specs.Machine.{Body}
 use Rattle.occ_machine.specs.declared.task.Task.{Task}
 use Rattle.occ_machine.specs.declared.task.Wait.TheVariants as W
-use Rattle.occ_net_replay.specs.Replay.{Tasks, HasTask, is_done, AreDone, taken_over, taken_from, merged}
+use Rattle.occ_net_replay.specs.Replay.{Tasks, HasTask, may_go, is_done, AreDone, taken_over, taken_from, merged}
 use Rattle.occ_net_replay.proofs.Holding.{SameNumbers, Stands, may_turn, may_join, offers, awaits, chooses, waits, is_halted, has_failed, has_ended, Own, AllHold, one_term}
 use Rattle.occ_net_replay.proofs.Placed.{BranchesPlaced, size}
 use Rattle.occ_net_replay.proofs.Quiet.{done_at, done_is}
@@ -90,8 +90,8 @@ over cells (x ∷ cs) from f h =
 
 module _ (d : Declared) (p : Program) (procs : List Numbered) (k : ℕ) (s : Store) (tasks : Tasks) where
   pub done_stands : (body : Body) (t : Task) (own : Left) (ps : Processes) (but : Numbers) → Stands d p procs k body t own ps but → t.wait ≡ W.Done → IsTrue (is_ended (status own)) × (ps ≡ no_processes) × ((c : ℕ) → IsFalse (but c))
-  done_stands body t own ps but (may_turn g h a) e = absurd (going_is t.wait g W.Done e refl)
-  done_stands body t own ps but (may_join g n z a) e = absurd (going_is t.wait g W.Done e refl)
+  done_stands body t own ps but (may_turn g h y a) e = absurd (going_is t.wait g W.Done e refl)
+  done_stands body t own ps but (may_join g n z a) e = absurd (going_is t.wait (ap may_go g) W.Done e refl)
   done_stands body t own ps but (offers w a) e = let q = sym w ∙ e in absurd cc
   done_stands body t own ps but (awaits w a) e = let q = sym w ∙ e in absurd cc
   done_stands body t own ps but (chooses w a) e = let q = sym w ∙ e in absurd cc

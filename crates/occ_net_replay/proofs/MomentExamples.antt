@@ -1,51 +1,66 @@
 -- Stops that are alike and stops that are not.
 use Rattle.std.specs.Prelude.{pos}
-use Rattle.std.proofs.Common.{◌≡◌, refl, sym, ap, Bool, true, false, ℕ, ◌⊎◌, inl, inr, List, [], ◌∷◌, arith}
+use Rattle.std.proofs.Common.{◌≡◌, refl, sym, ap, Bool, true, false, ℕ, ◌⊎◌, inl, inr, ℤ, List, [], ◌∷◌, Option, None, arith}
 use mathlib.Core.Bool.{true≢false}
 use Rattle.occ_term.specs.declared.fault.Fault.{Fault}
 use Rattle.occ_term.specs.declared.message.Message.{Message}
-use Rattle.occ_term.specs.Selecting.{Enabled}
-use Rattle.occ_term.specs.Steps.{Do, Offering, Awaiting, Choosing, Forking, Halted, Faulted, Done, Left, left}
+use Rattle.occ_term.specs.Selecting.{Enabled, Setting}
+use Rattle.occ_term.specs.Steps.{Do, Offering, Awaiting, Choosing, Forking, Halted, Faulted, Done, Left, left, Taken, SkipTaken, Taking}
 use Rattle.occ_term.specs.Runs.{meets_skip}
 use Rattle.occ_term.specs.System.{Processes, arm_skips, change_here, no_processes, passes_skip, process}
-use Rattle.occ_term.specs.Terms.{Branches, Reception, Skip}
-use Rattle.occ_machine.specs.SameStop.{numbers_of}
+use Rattle.occ_term.specs.Terms.{Branches, Reception, Skip, Stop, Term}
+use Rattle.occ_machine.specs.SameStop.{indices_in, numbers_of}
 use Rattle.occ_machine.specs.declared.task.Arm.{Arm}
+use Rattle.occ_machine.specs.declared.task.Wait.{Wait}
 use Rattle.occ_machine.specs.declared.task.Wait.TheVariants as W
+use Rattle.occ_net_replay.specs.Examples.{whole_number}
 use Rattle.occ_net_replay.specs.MomentExamples.{AtStop, EitherArmRows, OtherStoreRows, SameStopRows, OtherStopRows, MissingRows, UnquietRows}
-use Rattle.occ_net_replay.specs.Moments.{At, Among, here, below, OnSameChannels, both_go, both_join, both_offer, both_await, both_choose, both_fork, both_fail}
+use Rattle.occ_net_replay.specs.Moments.{At, Among, here, below, OnSameChannels, ProceedsBy, by_term, by_taking, message_taken, both_go, both_offer, both_await, both_choose, both_fork, both_fail}
 
 pub same_stop_rows : SameStopRows
-same_stop_rows = (both_go refl refl, both_offer, both_await, both_choose (refl, (refl, tt)), both_fork refl)
+same_stop_rows = (both_go by_term, both_offer, both_await, both_choose (refl, (refl, tt)), both_fork refl, both_go by_taking, both_go by_taking)
 
 -- ---- what stops alike has in common
 
 at_offer : {c d : ℕ} {m v : Message} → AtStop (W.Offers c m) (Offering d v) → (c ≡ d) × (m ≡ v)
-at_offer (both_go g h) = absurd (true≢false (sym g))
+at_offer (both_go x) = elim x [ ]
 at_offer both_offer = (refl, refl)
 
 at_await : {c d : ℕ} {list : Reception} → AtStop (W.Awaits c) (Awaiting d list) → c ≡ d
-at_await (both_go g h) = absurd (true≢false (sym g))
+at_await (both_go x) = elim x [ ]
 at_await both_await = refl
 
 at_choice : {pri b : Bool} {arms : List Arm} {es : List Enabled} → AtStop (W.Chooses pri arms) (Choosing b es) → (pri ≡ b) × OnSameChannels arms es
-at_choice (both_go g h) = absurd (true≢false (sym g))
+at_choice (both_go x) = elim x [ ]
 at_choice (both_choose h) = (refl, h)
 
 at_fork : {ns : List ℕ} {bs : Branches} → AtStop (W.Joins ns) (Forking bs) → numbers_of bs ≡ ns
-at_fork (both_go g h) = absurd (true≢false (sym g))
-at_fork (both_join g h) = absurd (true≢false (sym g))
+at_fork (both_go x) = elim x [ ]
 at_fork (both_fork e) = e
 
 at_fault : {e f : Fault} → AtStop (W.Faulted e) (Faulted f) → e ≡ f
-at_fault (both_go g h) = absurd (true≢false (sym g))
+at_fault (both_go x) = elim x [ ]
 at_fault both_fail = refl
 
 not_halted : AtStop W.Done Halted → ⊥
-not_halted (both_go g h) = true≢false (sym g)
+not_halted (both_go x) = elim x [ ]
 
 not_done : AtStop W.Ready Done → ⊥
-not_done (both_go g h) = true≢false (sym h)
+not_done (both_go x) = elim x [ ]
+
+not_taking : AtStop W.Ready (Taking [] (SkipTaken Stop)) → ⊥
+not_taking (both_go x) = elim x [ ]
+
+-- a term is begun by a task that is ready
+is_ready : {w : Wait} {t : Term} → ProceedsBy w (Do t) → w ≡ W.Ready
+is_ready by_term = refl
+
+not_taken : AtStop (W.Took 10 [] None) (Do Stop) → ⊥
+not_taken (both_go x) = let e = is_ready x in absurd cc
+
+-- what was taken, and with which indices
+at_taking : {arm : ℕ} {is : List ℤ} {m : Option Message} {again : List Setting} {what : Taken} → AtStop (W.Took arm is m) (Taking again what) → (is ≡ indices_in again) × (m ≡ message_taken what)
+at_taking (both_go by_taking) = (refl, refl)
 
 pub other_stop_rows : OtherStopRows
 other_stop_rows = (
@@ -61,6 +76,11 @@ other_stop_rows = (
   λ x. let z = ap (λ (f : Fault). f.line) (at_fault x) in omega (arith, z),
   not_halted,
   not_done,
+  not_taking,
+  not_taken,
+  λ x. let e = (at_taking x).1 in cc,
+  λ x. let e = (at_taking x).1 in let s : whole_number 6 ≡ whole_number 5 = cc in let z = ap (λ (m : Message). m.items) s in let y : ◌≡◌ {A = ℕ} 6 5 = cc in omega (arith, y),
+  λ x. let e = (at_taking x).0 in let z : ◌≡◌ {A = ℕ} 3 2 = cc in omega (arith, z),
 )
 
 -- ---- processes and tasks

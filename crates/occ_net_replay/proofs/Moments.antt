@@ -29,8 +29,8 @@ on_same d Go t k (a ∷ arms) (InputArm again c list ∷ es) h = (h.0.0, on_same
 
 module _ (d : Declared) (p : Program) (procs : List Numbered) where
   stops_alike : (k : ℕ) (body : Body) (t : Task) (own : Left) (ps : Processes) (but : Numbers) → Stands d p procs k body t own ps but → StopsAlike t.wait own ps
-  stops_alike k body t own ps but (may_turn g h a) = both_go g h
-  stops_alike k body t own ps but (may_join g n e a) = both_join g e
+  stops_alike k body t own ps but (may_turn g h y a) = both_go y
+  stops_alike k body t own ps but (may_join g n e a) = subst (λ v. StopsAlike v own ps) (sym g) (both_join e)
   stops_alike k body t own ps but (offers w a) = subst (λ v. StopsAlike v own ps) (sym w) both_offer
   stops_alike k body t own ps but (awaits w a) = subst (λ v. StopsAlike v own ps) (sym w) both_await
   stops_alike k body t own ps but (chooses {arms = arms} {es = es} {j = j} w a) = subst (λ v. StopsAlike v own ps) (sym w) (both_choose (on_same d (Alike k d body) t j arms es a))

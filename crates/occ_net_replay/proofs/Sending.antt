@@ -20,9 +20,9 @@ use Rattle.occ_machine.specs.Machine.{Body}
 use Rattle.occ_machine.specs.declared.task.Arm.{Arm}
 use Rattle.occ_machine.specs.declared.task.Task.{Task}
 use Rattle.occ_machine.specs.declared.task.Wait.TheVariants as W
-use Rattle.occ_net_replay.specs.Moments.{At}
+use Rattle.occ_net_replay.specs.Moments.{At, by_term, by_taking}
 use Rattle.occ_net_replay.specs.Replay.{Tasks, HasTask, made_ready, has_taken, took_arm, arm_chosen}
-use Rattle.occ_net_replay.proofs.Holding.{put, Stands, may_turn, offers, awaits, chooses}
+use Rattle.occ_net_replay.proofs.Holding.{takes_arm, put, Stands, may_turn, offers, awaits, chooses}
 use Rattle.occ_net_replay.proofs.Meeting.{chosen_back, picked}
 use Rattle.occ_net_replay.proofs.Placed.{size}
 use Rattle.occ_net_replay.proofs.Putting.{mine}
@@ -42,7 +42,7 @@ module _ (d : Declared) (p : Program) (procs : List Numbered) where
       pub alike : Alike k d body (made_ready t) (left (Do Skip) j)
 
     offers_as : (c : ℕ) (m : Message) (j : List Context) (ps : Processes) (but : Numbers) → Stands d p procs k body t (left (Offering c m) j) ps but → OffersAs c m j but
-    offers_as c m j ps but (may_turn g h a) = absurd (true≢false (sym h))
+    offers_as c m j ps but (may_turn g h y a) = absurd (true≢false (sym h))
     offers_as c m j ps but (offers w a) = record { waits = w; all = refl; alike = a }
 
     record AwaitsAs (c : ℕ) (list : Reception) (j : List Context) (but : Numbers) : Type 0 where
@@ -51,7 +51,7 @@ module _ (d : Declared) (p : Program) (procs : List Numbered) where
       pub alike : (m : Message) → FitsProtocol (d.protocols c) m → Alike k d body (has_taken t m) (left (Taking [] (MessageTaken list m)) j)
 
     awaits_as : (c : ℕ) (list : Reception) (j : List Context) (ps : Processes) (but : Numbers) → Stands d p procs k body t (left (Awaiting c list) j) ps but → AwaitsAs c list j but
-    awaits_as c list j ps but (may_turn g h a) = absurd (true≢false (sym h))
+    awaits_as c list j ps but (may_turn g h y a) = absurd (true≢false (sym h))
     awaits_as c list j ps but (awaits w a) = record { waits = w; all = refl; alike = a }
 
     record PicksAs (pri : Bool) (es : List Enabled) (j : List Context) (but : Numbers) : Type 0 where
@@ -61,7 +61,7 @@ module _ (d : Declared) (p : Program) (procs : List Numbered) where
       pub same : SameArms d (Alike k d body) t j arms es
 
     picks_as : (pri : Bool) (es : List Enabled) (j : List Context) (ps : Processes) (but : Numbers) → Stands d p procs k body t (left (Choosing pri es) j) ps but → PicksAs pri es j but
-    picks_as pri es j ps but (may_turn g h a) = absurd (true≢false (sym h))
+    picks_as pri es j ps but (may_turn g h y a) = absurd (true≢false (sym h))
     picks_as pri es j ps but (chooses {arms = arms} w a) = record { arms = arms; waits = w; all = refl; same = a }
 
   module _ (k : ℕ) (tasks : Tasks) (proc : Process) (s : Store) (st : State d p procs k tasks proc s) where
@@ -83,7 +83,7 @@ module _ (d : Declared) (p : Program) (procs : List Numbered) where
           there = o.has_task;
           waits = w.waits;
           state = moved d p procs k tasks proc s st i o.task (made_ready o.task) (left (Offering c m) j) (left (Do Skip) j) x o refl o.has_task w.all refl refl
-              (may_turn refl refl w.alike) (tt, o.typed.1) (part_left (Do Skip) (Offering c m) j (no_part (uses_of_left (left (Offering c m) j)))) (tt, o.placed.1) refl;
+              (may_turn refl refl by_term w.alike) (tt, o.typed.1) (part_left (Do Skip) (Offering c m) j (no_part (uses_of_left (left (Offering c m) j)))) (tt, o.placed.1) refl;
           fits = subst (λ z. FitsProtocol z m) (sym o.typed.0.1) o.typed.0.2;
         }
 
@@ -106,7 +106,7 @@ module _ (d : Declared) (p : Program) (procs : List Numbered) where
         let listed : IsPartOf (uses_of_reception list) whole = right_part (inputting (only c)) (uses_of_reception list) whole (left_part (uses_of_doing (Awaiting c list)) (uses_of_contexts j) whole (whole_part whole)) in
         got_input o.has_task w.waits
         (moved d p procs k tasks proc s st i o.task (has_taken o.task m) (left (Awaiting c list) j) (left (Taking [] (MessageTaken list m)) j) x o refl o.has_task w.all refl refl
-        (may_turn refl refl (w.alike m fits)) ((tt, (o.typed.0.0, o.typed.0.2, subst (λ z. FitsProtocol z m) o.typed.0.1 fits)), o.typed.1)
+        (may_turn refl refl by_taking (w.alike m fits)) ((tt, (o.typed.0.0, o.typed.0.2, subst (λ z. FitsProtocol z m) o.typed.0.1 fits)), o.typed.1)
         (part_left (Taking [] (MessageTaken list m)) (Awaiting c list) j (both_parts no_use (uses_of_reception list) whole (no_part whole) listed)) o.placed refl)
     gets i c m standing fits (arm_gets_on {k = j} {pri = pri} {arms = es} {again = again} {list = list} pick q) x =
         let o = (mine d p procs k s tasks x st.holds).0 in
@@ -120,7 +120,7 @@ module _ (d : Declared) (p : Program) (procs : List Numbered) where
         let typed = pk.typed o.typed.0 in
         got_arm pick o.has_task w.waits b.is b.same.0
         (moved d p procs k tasks proc s st i o.task (took_arm o.task b.arm (Some m)) (left (Choosing pri es) j) (left (Taking again (MessageTaken list m)) j) x o refl o.has_task w.all refl refl
-        (may_turn refl refl (b.same.2 m fits)) ((typed.0, (typed.1.0, typed.1.2, subst (λ z. FitsProtocol z m) typed.1.1 fits)), o.typed.1)
+        (may_turn refl refl (takes_arm b.arm again (MessageTaken list m) b.same.1) (b.same.2 m fits)) ((typed.0, (typed.1.0, typed.1.2, subst (λ z. FitsProtocol z m) typed.1.1 fits)), o.typed.1)
         (part_left (Taking again (MessageTaken list m)) (Choosing pri es) j (both_parts (uses_of_settings again) (uses_of_reception list) whole settings listed)) (pk.placed o.placed.0, o.placed.1) refl)
 
     pub got : (i c : ℕ) (m : Message) (standing : ℕ → Bool) (after : Process) → FitsProtocol (d.protocols c) m → ChangeIn (GetsOn standing c m) i proc after → Got i c m standing after
@@ -161,7 +161,7 @@ module _ (d : Declared) (p : Program) (procs : List Numbered) where
           chosen = b.is;
           none = b.same.0;
           state = moved d p procs k tasks proc s st i o.task (took_arm o.task b.arm None) (left (Choosing pri es) j) (left (Taking again (SkipTaken body)) j) x o refl o.has_task w.all refl refl
-              (may_turn refl refl b.same.2) (pk.typed o.typed.0, o.typed.1) (part_left (Taking again (SkipTaken body)) (Choosing pri es) j (both_parts (uses_of_settings again) (uses_of body) whole settings bodied)) (pk.placed o.placed.0, o.placed.1) refl;
+              (may_turn refl refl (takes_arm b.arm again (SkipTaken body) b.same.1) b.same.2) (pk.typed o.typed.0, o.typed.1) (part_left (Taking again (SkipTaken body)) (Choosing pri es) j (both_parts (uses_of_settings again) (uses_of body) whole settings bodied)) (pk.placed o.placed.0, o.placed.1) refl;
         }
 
     pub skipped : (i : ℕ) (standing : ℕ → Bool) (after : Process) → ChangeIn (PassesBy standing) i proc after → Skipped i standing after

@@ -51,7 +51,7 @@ module _ (d : Declared) (p : Program) (procs : List Numbered) (protocol : d.prot
 
   module _ (k : ℕ) (net : Net) (sys : System) (f : Follows d p procs protocol quantum k net sys) where
     free : (n hi : ℕ) (body : Body) (t : Task) (own : Left) (ps : Processes) (but : Numbers) (c : ℕ) → Stands d p procs k body t own ps but → LeftPlaced procs (n + 1) hi own → ((ns : List ℕ) → t.wait ≡ W.Joins ns → IsFalse (is_written p.bodies ns c)) → but c ≡ false
-    free n hi body t own ps but c (may_turn g h a) l w = refl
+    free n hi body t own ps but c (may_turn g h y a) l w = refl
     free n hi body t own ps but c (may_join g m e a) l w = refl
     free n hi body t own ps but c (offers e a) l w = refl
     free n hi body t own ps but c (awaits e a) l w = refl

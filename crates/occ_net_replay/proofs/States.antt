@@ -72,8 +72,8 @@ module _ (d : Declared) (p : Program) (procs : List Numbered) where
       pub alike : Alike k d body (made_ready t) (left (Do Skip) rest)
 
     pub gives_as : (own : Left) (ps : Processes) (but : Numbers) (c : ℕ) (m : Message) → Stands d p procs k body t own ps but → t.wait ≡ W.Offers c m → GivesAs own ps but c m
-    gives_as own ps but c m (may_turn g h a) e = absurd (going_is t.wait g (W.Offers c m) e refl)
-    gives_as own ps but c m (may_join g n z a) e = absurd (going_is t.wait g (W.Offers c m) e refl)
+    gives_as own ps but c m (may_turn g h y a) e = absurd (going_is t.wait g (W.Offers c m) e refl)
+    gives_as own ps but c m (may_join g n z a) e = absurd (going_is t.wait (ap may_go g) (W.Offers c m) e refl)
     gives_as own ps but c m (offers {c = i} {m = v} {j = j} w a) e =
         let both : W.Offers i v ≡ W.Offers c m = sym w ∙ e in
         let chan : i ≡ c = cc in
@@ -95,8 +95,8 @@ module _ (d : Declared) (p : Program) (procs : List Numbered) where
       pub alike : (m : Message) → FitsProtocol (d.protocols c) m → Alike k d body (has_taken t m) (left (Taking [] (MessageTaken list m)) rest)
 
     pub gets_as : (own : Left) (ps : Processes) (but : Numbers) (c : ℕ) → Stands d p procs k body t own ps but → t.wait ≡ W.Awaits c → GetsAs own ps but c
-    gets_as own ps but c (may_turn g h a) e = absurd (going_is t.wait g (W.Awaits c) e refl)
-    gets_as own ps but c (may_join g n z a) e = absurd (going_is t.wait g (W.Awaits c) e refl)
+    gets_as own ps but c (may_turn g h y a) e = absurd (going_is t.wait g (W.Awaits c) e refl)
+    gets_as own ps but c (may_join g n z a) e = absurd (going_is t.wait (ap may_go g) (W.Awaits c) e refl)
     gets_as own ps but c (offers w a) e = let q = sym w ∙ e in absurd cc
     gets_as own ps but c (awaits {c = i} {list = list} {j = j} w a) e =
         let chan : i ≡ c = (let q = sym w ∙ e in cc) in
@@ -116,8 +116,8 @@ module _ (d : Declared) (p : Program) (procs : List Numbered) where
       pub same : SameArms d (Alike k d body) t rest arms enabled
 
     pub chooses_as : (own : Left) (ps : Processes) (but : Numbers) (pri : Bool) (arms : List Arm) → Stands d p procs k body t own ps but → t.wait ≡ W.Chooses pri arms → ChoosesAs own ps but pri arms
-    chooses_as own ps but pri arms (may_turn g h a) e = absurd (going_is t.wait g (W.Chooses pri arms) e refl)
-    chooses_as own ps but pri arms (may_join g n z a) e = absurd (going_is t.wait g (W.Chooses pri arms) e refl)
+    chooses_as own ps but pri arms (may_turn g h y a) e = absurd (going_is t.wait g (W.Chooses pri arms) e refl)
+    chooses_as own ps but pri arms (may_join g n z a) e = absurd (going_is t.wait (ap may_go g) (W.Chooses pri arms) e refl)
     chooses_as own ps but pri arms (offers w a) e = let q = sym w ∙ e in absurd cc
     chooses_as own ps but pri arms (awaits w a) e = let q = sym w ∙ e in absurd cc
     chooses_as own ps but pri arms (chooses {pri = b} {arms = xs} {es = es} {j = j} w a) e =
@@ -132,7 +132,7 @@ module _ (d : Declared) (p : Program) (procs : List Numbered) where
 
   -- what has ended is done
   pub ended_done : (k : ℕ) (body : Body) (t : Task) (own : Left) (ps : Processes) (but : Numbers) → Stands d p procs k body t own ps but → IsTrue (is_ended (status own)) → IsTrue (is_done t.wait)
-  ended_done k body t own ps but (may_turn {x = x} g h a) e = absurd (unended x h e)
+  ended_done k body t own ps but (may_turn {x = x} g h y a) e = absurd (unended x h e)
     where
       unended : (x : Doing) → IsGoing x → IsTrue (is_ended (status_of x)) → ⊥
       unended (Do y) h e = true≢false (sym e)

@@ -89,11 +89,11 @@ module _ (d : Declared) (p : Program) (procs : List Numbered) where
   -- ---- what a task waits for, by what is left of its process
 
   offering_waits : (k : ℕ) (body : Body) (t : Task) (c : ℕ) (m : Message) (j : List Context) (ps : Processes) (but : Numbers) → Stands d p procs k body t (left (Offering c m) j) ps but → t.wait ≡ W.Offers c m
-  offering_waits k body t c m j ps but (may_turn g h a) = absurd (true≢false (sym h))
+  offering_waits k body t c m j ps but (may_turn g h y a) = absurd (true≢false (sym h))
   offering_waits k body t c m j ps but (offers w a) = w
 
   awaiting_waits : (k : ℕ) (body : Body) (t : Task) (c : ℕ) (list : Reception) (j : List Context) (ps : Processes) (but : Numbers) → Stands d p procs k body t (left (Awaiting c list) j) ps but → t.wait ≡ W.Awaits c
-  awaiting_waits k body t c list j ps but (may_turn g h a) = absurd (true≢false (sym h))
+  awaiting_waits k body t c list j ps but (may_turn g h y a) = absurd (true≢false (sym h))
   awaiting_waits k body t c list j ps but (awaits w a) = w
 
   record ChoosesBy (k : ℕ) (body : Body) (t : Task) (pri : Bool) (es : List Enabled) (j : List Context) : Type 0 where
@@ -102,7 +102,7 @@ module _ (d : Declared) (p : Program) (procs : List Numbered) where
     pub same : SameArms d (Alike k d body) t j arms es
 
   choosing_waits : (k : ℕ) (body : Body) (t : Task) (pri : Bool) (es : List Enabled) (j : List Context) (ps : Processes) (but : Numbers) → Stands d p procs k body t (left (Choosing pri es) j) ps but → ChoosesBy k body t pri es j
-  choosing_waits k body t pri es j ps but (may_turn g h a) = absurd (true≢false (sym h))
+  choosing_waits k body t pri es j ps but (may_turn g h y a) = absurd (true≢false (sym h))
   choosing_waits k body t pri es j ps but (chooses {arms = arms} w a) = record { arms = arms; waits = w; same = a }
 
   module _ (k : ℕ) (net : Net) (proc : Process) (s : Store) (noted : List Fault) (st : State d p procs k net.tasks proc s) (quiet : Quiet net) where
@@ -213,8 +213,8 @@ module _ (d : Declared) (p : Program) (procs : List Numbered) where
 
     module _ (none : (i : ℕ) (t : Task) → HasTask net.tasks i t → IsTrue (may_go t.wait) → ⊥) where
       no_step : (n : ℕ) (body : Body) (t : Task) (own : Left) (ps : Processes) (but : Numbers) → HasTask net.tasks n t → Stands d p procs k body t own ps but → {b : Left} {s' : Store} → Step own s b s' → ⊥
-      no_step n body t own ps but h (may_turn g x a) z = none n t h g
-      no_step n body t own ps but h (may_join g m e a) z = none n t h g
+      no_step n body t own ps but h (may_turn g x y a) z = none n t h g
+      no_step n body t own ps but h (may_join g m e a) z = none n t h (ap may_go g)
       no_step n body t own ps but h (offers w a) (faults f) = elim f [ ]
       no_step n body t own ps but h (awaits w a) (faults f) = elim f [ ]
       no_step n body t own ps but h (chooses w a) (faults f) = elim f [ ]
@@ -224,8 +224,8 @@ module _ (d : Declared) (p : Program) (procs : List Numbered) where
       no_step n body t own ps but h (has_ended w) (faults f) = elim f [ ]
 
       no_join : (n : ℕ) (body : Body) (t : Task) (bs : Branches) (j : List Context) (ps : Processes) (but : Numbers) → HasTask net.tasks n t → Stands d p procs k body t (left (Forking bs) j) ps but → AllHold d p procs k s net.tasks ps → AllEnded ps → ⊥
-      no_join n body t bs j ps but h (may_turn g x a) all e = none n t h g
-      no_join n body t bs j ps but h (may_join g m z a) all e = none n t h g
+      no_join n body t bs j ps but h (may_turn g x y a) all e = none n t h g
+      no_join n body t bs j ps but h (may_join g m z a) all e = none n t h (ap may_go g)
       no_join n body t bs j ps but h (waits {ns = ns} w m z a) all e = quiet.unjoined n t ns h w (subst (AreDone net.tasks) m (all_done bs ps z all e))
 
       mutual

@@ -23,7 +23,7 @@ use Rattle.occ_machine.specs.declared.task.Task.{Task}
 use Rattle.occ_machine.specs.declared.task.Wait.{Wait}
 use Rattle.occ_machine.specs.declared.task.Wait.TheVariants as W
 use Rattle.occ_net_replay.specs.Replay.{Tasks, HasTask, may_go, is_done}
-use Rattle.occ_net_replay.specs.Moments.{At}
+use Rattle.occ_net_replay.specs.Moments.{At, ProceedsBy, by_loop}
 use Rattle.occ_net_replay.proofs.Changing.{put_holds}
 use Rattle.occ_net_replay.proofs.Fewer.{one_less}
 use Rattle.occ_net_replay.proofs.Holding.{AgreesBut, agrees_all, agrees_but, put, Stands, may_turn, may_join, offers, awaits, chooses, waits, is_halted, has_failed, has_ended, Own, AllHold}
@@ -120,7 +120,7 @@ module _ (d : Declared) (p : Program) (procs : List Numbered) where
     begins_joined : {bs : Branches} {j : List Context} {ps : Processes} → AllEnded ps → Alike k d body t (left (Do Skip) j) → Begins k body t (left (Forking bs) j) ps empty_set
 
   pub begins_as : (k : ℕ) (body : Body) (t : Task) (own : Left) (ps : Processes) (but : Numbers) → Stands d p procs k body t own ps but → IsTrue (may_go t.wait) → Begins k body t own ps but
-  begins_as k body t own ps but (may_turn g h a) m = begins_alone h a
+  begins_as k body t own ps but (may_turn g h y a) m = begins_alone h a
   begins_as k body t own ps but (may_join g n e a) m = begins_joined e a
   begins_as k body t own ps but (offers w a) m = absurd (going_is t.wait m _ w refl)
   begins_as k body t own ps but (awaits w a) m = absurd (going_is t.wait m _ w refl)
@@ -149,7 +149,7 @@ module _ (d : Declared) (p : Program) (procs : List Numbered) where
         → ((g : Variables) → Joined (uses_of_branches bs).writes t.frame g → Alike k d body (joined_with t g) (left (Do Skip) j)) → Arrived k body t (left (Forking bs) j)
 
   pub arrives : (k : ℕ) (body : Body) (t : Task) (r : Left) (w : Wait) → t.wait ≡ w → SameStop d (Alike k d body) t r w → Arrived k body t r
-  arrives k body t r W.Ready e (j, l, q, g) = subst (Arrived k body t) (sym q) (arrived refl (may_turn (ap may_go e) refl (subst (Alike k d body t) q g)))
+  arrives k body t r W.Ready e (j, l, q, g) = subst (Arrived k body t) (sym q) (arrived refl (may_turn (ap may_go e) refl (subst (λ x. ProceedsBy x (Again l)) (sym e) by_loop) (subst (Alike k d body t) q g)))
   arrives k body t r (W.Took arm is m) e h = absurd h
   arrives k body t r (W.Offers c m) e (j, q, g) = subst (Arrived k body t) (sym q) (arrived refl (offers e g))
   arrives k body t r (W.Awaits c) e (j, list, q, g) = subst (Arrived k body t) (sym q) (arrived refl (awaits e g))

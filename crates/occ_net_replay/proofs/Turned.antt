@@ -94,8 +94,8 @@ from_once (joined e) alone x y = absurd (no_fork y.step)
 module _ (d : Declared) (p : Program) (procs : List Numbered) where
   -- a process that has a turn has a task that may take one
   pub may_take : (k : ℕ) (body : Body) (t : Task) (own : Left) (ps : Processes) (but : Numbers) → Stands d p procs k body t own ps but → {from b : Left} {s s' : Store} → GoesFrom own ps from → Step from s b s' → ((ns : List ℕ) (bs : Branches) → t.wait ≡ W.Joins ns → numbers_of bs ≡ ns → SameNumbers bs ps → AllEnded ps → ⊥) → IsTrue (may_go t.wait)
-  may_take k body t own ps but (may_turn g h a) y x f = g
-  may_take k body t own ps but (may_join g m e a) y x f = g
+  may_take k body t own ps but (may_turn g h w a) y x f = g
+  may_take k body t own ps but (may_join g m e a) y x f = ap may_go g
   may_take k body t own ps but (offers w a) alone (faults z) f = elim z [ ]
   may_take k body t own ps but (awaits w a) alone (faults z) f = elim z [ ]
   may_take k body t own ps but (chooses w a) alone (faults z) f = elim z [ ]

@@ -7,8 +7,8 @@ use Rattle.occ_term.specs.Messages.{fault}
 use Rattle.occ_term.specs.declared.fault.FaultKind.TheVariants.{Arith}
 use Rattle.occ_term.specs.Frames.{is_held}
 use Rattle.occ_term.specs.Runs.{MeetsAtMost}
-use Rattle.occ_term.specs.Selecting.{Enabled, SkipArm}
-use Rattle.occ_term.specs.Steps.{Doing, Do, Offering, Awaiting, Choosing, Forking, Halted, Faulted, Done, SkipTaken, Taking, left}
+use Rattle.occ_term.specs.Selecting.{Enabled, IndexTo, SkipArm}
+use Rattle.occ_term.specs.Steps.{Doing, Do, Offering, Awaiting, Choosing, Forking, Halted, Faulted, Done, MessageTaken, SkipTaken, Taking, left}
 use Rattle.occ_term.specs.System.{System, process, no_processes, system}
 use Rattle.occ_term.specs.Terms.{Skip, Stop, Plain, and_branch, no_branches}
 use Rattle.occ_machine.specs.Compiled.{Program}
@@ -30,8 +30,10 @@ SameStopRows =
     × AtStop (W.Awaits 3) (Awaiting 3 (Plain [] Skip))
     × AtStop (W.Chooses true (arm 10 (Some 3) ∷ arm 20 None ∷ [])) (Choosing true (taking_in 3 ∷ SkipArm [] Stop ∷ []))
     × AtStop (W.Joins (4 ∷ [])) (Forking (and_branch 4 Skip no_branches))
+    × AtStop (W.Took 10 [] None) (Taking [] (SkipTaken Stop))
+    × AtStop (W.Took 20 (pos 2 ∷ []) (Some (whole_number 5))) (Taking (IndexTo 7 (pos 2) ∷ []) (MessageTaken (Plain [] Skip) (whole_number 5)))
 
--- another channel, another message, other arms, other branches, another end
+-- another channel, another message, other arms, other branches, another end; something else that was taken
 abbrev pub OtherStopRows : Type 0
 OtherStopRows =
     (AtStop (W.Offers 3 (whole_number 5)) (Offering 4 (whole_number 5)) → ⊥)
@@ -46,6 +48,11 @@ OtherStopRows =
     × (AtStop (W.Faulted (fault Arith 4)) (Faulted (fault Arith 5)) → ⊥)
     × (AtStop W.Done Halted → ⊥)
     × (AtStop W.Ready Done → ⊥)
+    × (AtStop W.Ready (Taking [] (SkipTaken Stop)) → ⊥)
+    × (AtStop (W.Took 10 [] None) (Do Stop) → ⊥)
+    × (AtStop (W.Took 10 [] None) (Taking [] (MessageTaken (Plain [] Skip) (whole_number 5))) → ⊥)
+    × (AtStop (W.Took 20 [] (Some (whole_number 6))) (Taking [] (MessageTaken (Plain [] Skip) (whole_number 5))) → ⊥)
+    × (AtStop (W.Took 20 (pos 3 ∷ []) None) (Taking (IndexTo 7 (pos 2) ∷ []) (SkipTaken Stop)) → ⊥)
 
 -- a process without a task, and a task that is not done and has no process
 abbrev pub MissingRows : Type 0

@@ -1,16 +1,16 @@
 -- The run that a replay is followed by, at every moment: between two turns each process stands at the same stop in both.
 -- Manual: nothing; this is (own).
-use Rattle.std.specs.Prelude.{Bool, IsTrue, List, None, Option, [], false, length, nat_eq, ℕ, ⊤, ◌<◌, ◌^◌, ◌++◌, ◌||◌, ◌∷◌, ◌≡◌, ◌⊎◌}
+use Rattle.std.specs.Prelude.{Bool, IsTrue, List, None, Option, Some, [], false, length, nat_eq, ℕ, ⊤, ◌<◌, ◌^◌, ◌++◌, ◌||◌, ◌∷◌, ◌≡◌, ◌⊎◌}
 use Rattle.occ_term.specs.declared.fault.Fault.{Fault}
 use Rattle.occ_term.specs.declared.message.Message.{Message}
 use Rattle.occ_term.specs.Going.{IsGoing}
 use Rattle.occ_term.specs.Runs.{Event, Run}
-use Rattle.occ_term.specs.Selecting.{Enabled, is_ready_on, waits_for}
-use Rattle.occ_term.specs.Steps.{Doing, Offering, Awaiting, Choosing, Forking, Halted, Faulted, Done, Context, Left, left}
+use Rattle.occ_term.specs.Selecting.{Enabled, Setting, is_ready_on, waits_for}
+use Rattle.occ_term.specs.Steps.{Doing, Do, Again, Offering, Awaiting, Choosing, Taken, SkipTaken, MessageTaken, Taking, Forking, Halted, Faulted, Done, Loop, Context, Left, left}
 use Rattle.occ_term.specs.System.{Process, process, Processes, no_processes, and_process, System, system, start, AllEnded, noted_in}
-use Rattle.occ_term.specs.Terms.{Branches, Reception}
+use Rattle.occ_term.specs.Terms.{Branches, Reception, Term}
 use Rattle.occ_term.specs.UnfoldedProgram.{UnfoldedProgram, IsWellFormed, Lawful, meaning}
-use Rattle.occ_machine.specs.SameStop.{numbers_of}
+use Rattle.occ_machine.specs.SameStop.{indices_in, numbers_of}
 use Rattle.occ_machine.specs.Compiled.{Program, IsCompiledFrom}
 use Rattle.occ_machine.specs.declared.task.Arm.{Arm}
 use Rattle.occ_machine.specs.declared.task.Task.{Task}
@@ -49,11 +49,23 @@ OnSameChannels [] (e ∷ es) = ⊥
 OnSameChannels (a ∷ arms) [] = ⊥
 OnSameChannels (a ∷ arms) (e ∷ es) = (a.chan ≡ waits_for e) × OnSameChannels arms es
 
--- What a task waits for, and what is left of the process with its live branches: it may go on, or the two wait for the same on the
+-- the message of what was taken; an arm with SKIP has none
+abbrev pub message_taken : Taken → Option Message
+message_taken (SkipTaken body) = None
+message_taken (MessageTaken list m) = Some m
+
+-- What a task that may go on does next: a term from its start, a loop's test once more, or what it took, with the same indices of
+-- replicators and the same message. The number of an arm stands in the code alone.
+pub data ProceedsBy : Wait → Doing → Type 0 where
+  by_term : {t : Term} → ProceedsBy W.Ready (Do t)
+  by_loop : {l : Loop} → ProceedsBy W.Ready (Again l)
+  by_taking : {arm : ℕ} {again : List Setting} {what : Taken} → ProceedsBy (W.Took arm (indices_in again) (message_taken what)) (Taking again what)
+
+-- What a task waits for, and what is left of the process with its live branches: both go on by the same, or wait for the same on the
 -- same channel, with the same message, for the same branches, or have come to the same end.
 pub data StopsAlike : Wait → Left → Processes → Type 0 where
-  both_go : {w : Wait} {x : Doing} {k : List Context} → IsTrue (may_go w) → IsGoing x → StopsAlike w (left x k) no_processes
-  both_join : {w : Wait} {bs : Branches} {k : List Context} {ps : Processes} → IsTrue (may_go w) → AllEnded ps → StopsAlike w (left (Forking bs) k) ps
+  both_go : {w : Wait} {x : Doing} {k : List Context} → ProceedsBy w x → StopsAlike w (left x k) no_processes
+  both_join : {bs : Branches} {k : List Context} {ps : Processes} → AllEnded ps → StopsAlike W.Ready (left (Forking bs) k) ps
   both_offer : {c : ℕ} {m : Message} {k : List Context} → StopsAlike (W.Offers c m) (left (Offering c m) k) no_processes
   both_await : {c : ℕ} {list : Reception} {k : List Context} → StopsAlike (W.Awaits c) (left (Awaiting c list) k) no_processes
   both_choose : {pri : Bool} {arms : List Arm} {es : List Enabled} {k : List Context} → OnSameChannels arms es → StopsAlike (W.Chooses pri arms) (left (Choosing pri es) k) no_processes
@@ -118,16 +130,20 @@ ReplaysAreOneRun =
     → IsWellFormed u → Lawful u → IsCompiledFrom u quantum p → AreBytes keyboard → length cs < 2 ^ 64
     → Replays p keyboard cs net → IsOneRun u p quantum keyboard cs net
 
--- the second run is the first with one turn more
-abbrev pub OneFurther : (u : UnfoldedProgram) (p : Program) (quantum : ℕ) (keyboard : List ℕ) {a b : Net} → Followed u keyboard quantum p.errors a → Followed u keyboard quantum p.errors b → Type 0
-OneFurther u p quantum keyboard f g = (e : Event) × (g.events ≡ f.events ++ e ∷ []) × Run p.errors quantum f.system (e ∷ []) g.system
+-- the second run is the first with one turn more: it has gone through the same systems, and from the last of them to its own
+pub record OneFurther (u : UnfoldedProgram) (p : Program) (quantum : ℕ) (keyboard : List ℕ) {cs ds : List Choice} {a b : Net}
+    (f : IsOneRun u p quantum keyboard cs a) (g : IsOneRun u p quantum keyboard ds b) : Type 0 where
+  pub event : Event
+  pub events : g.follows.events ≡ f.follows.events ++ event ∷ []
+  pub systems : g.before ≡ f.before ++ f.follows.system ∷ []
+  pub turn : Run p.errors quantum f.follows.system (event ∷ []) g.follows.system
 
 -- A run for each replay, where that of one choice more is that of the others with one turn more. So where a run has come to fits
 -- each turn that the replay may take next, also where its last turn went into one of several arms with SKIP.
 pub record RunsOfAll (u : UnfoldedProgram) (p : Program) (quantum : ℕ) (keyboard : List ℕ) : Type 0 where
   pub run_of : (cs : List Choice) (net : Net) → length cs < 2 ^ 64 → Replays p keyboard cs net → IsOneRun u p quantum keyboard cs net
   pub further : (cs : List Choice) (c : Choice) (a b : Net) (few : length cs < 2 ^ 64) (more : length (cs ++ c ∷ []) < 2 ^ 64) (r : Replays p keyboard cs a) (g : ending_of p.errors a ≡ None) (o : OneTurn p c a b)
-      → OneFurther u p quantum keyboard (run_of cs a few r).follows (run_of (cs ++ c ∷ []) b more (replays_on r g o)).follows
+      → OneFurther u p quantum keyboard (run_of cs a few r) (run_of (cs ++ c ∷ []) b more (replays_on r g o))
 
 abbrev pub OneRunForAll : Type 0
 OneRunForAll =

@@ -1,0 +1,92 @@
+"""The commands of the pages: each is run as it stands there, and what comes of it is compared with what the page shows.
+
+A block that is indented by four spaces may hold commands, behind `$ `, and below each what it prints. A line `..` stands for any lines.
+All commands of a page are run in one folder, which has `examples/`, so a later one finds the files of those before it. A block
+below a sentence with the words "into `NAME`" is that file. A block below `<!-- not run -->` is left out: what it prints changes
+from day to day.
+"""
+import os
+import pathlib
+import re
+import shutil
+import subprocess
+import tempfile
+
+from .running import SECONDS, TOP, Job
+
+PAGES = ["README.md", *sorted(str(path.relative_to(TOP)) for path in (TOP / "docs").rglob("*.md"))]
+INTO = re.compile(r"\binto\s+`([\w./-]+)`")
+LEFT_OUT = "<!-- not run -->"
+
+
+def blocks(text):
+    """The blocks of a page: the paragraph above each, its first line's number, and its lines without their indentation."""
+    above, block, first = "", [], 0
+    for number, line in enumerate([*text.splitlines(), "end"], 1):
+        if line.startswith("    ") or not line.strip() and block:
+            first = first or number
+            block.append(line[4:])
+            continue
+        if block:
+            yield above, first, "\n".join(block).rstrip().split("\n")
+            above, block, first = "", [], 0
+        above = line if line.strip() else above
+
+
+def commands(page):
+    """The commands of a page and the files that it shows: (number of the line, command, lines that it prints) or (name, text)."""
+    for above, first, lines in blocks(page):
+        name = INTO.search(above)
+        if LEFT_OUT in above:
+            continue
+        if name and not lines[0].startswith("$ "):
+            yield name[1], "\n".join(lines) + "\n"
+            continue
+        command = None
+        for number, line in enumerate(lines, first):
+            if line.startswith("$ "):
+                if command:
+                    yield command
+                command = (number, line[2:], [])
+            elif command:
+                command[2].append(line)
+        if command:
+            yield command
+
+
+def agrees(printed, shown):
+    """Whether these lines are what the page shows."""
+    if not shown:
+        return not printed
+    if shown[0].strip() == "..":
+        return any(agrees(printed[at:], shown[1:]) for at in range(len(printed) + 1))
+    return bool(printed) and printed[0] == shown[0] and agrees(printed[1:], shown[1:])
+
+
+def check(program, page):
+    """What is wrong on a page."""
+    with tempfile.TemporaryDirectory(prefix="occam-page-") as name:
+        folder = pathlib.Path(name)
+        shutil.copytree(TOP / "examples", folder / "examples")
+        shutil.copytree(TOP / "docs", folder / "docs")
+        (folder / "bin").mkdir()
+        (folder / "bin/occam").symlink_to(program)
+        given = dict(os.environ, PATH=f"{folder}/bin:{os.environ['PATH']}")
+        for part in commands((TOP / page).read_text(encoding="utf-8")):
+            if len(part) == 2:
+                (folder / part[0]).write_text(part[1], encoding="utf-8")
+                continue
+            number, command, shown = part
+            done = subprocess.run(
+                ["bash", "-c", command], cwd=folder, env=given, stdout=subprocess.PIPE, stderr=subprocess.STDOUT, timeout=SECONDS, check=False
+            )
+            printed = done.stdout.decode(errors="replace").splitlines()
+            if not agrees(printed, shown):
+                yield f"line {number}: {command}: {' / '.join(printed[:6])}"
+
+
+def jobs():
+    """A test for each page that has commands."""
+    for page in PAGES:
+        if any(len(part) == 3 for part in commands((TOP / page).read_text(encoding="utf-8"))):
+            yield Job(page, lambda program, page=page: check(program, page))
