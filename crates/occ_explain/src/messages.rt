@@ -246,12 +246,14 @@ fn unequal(
     alloc: Global,
     text: &Text<'_>,
     message: &Message,
-    parts: usize,
+    parts: &Parts,
     items: usize,
 ) -> Result<Option<Finding>, AllocError> {
     let words = text.words_at(message.line);
     let name = channel_name(text, &message.channel);
-    let wanted = said_count(alloc, parts, "part")?;
+    let wanted = said_count(alloc, parts.count, "part")?;
+    let is_tagged = class_at(text.words_at(parts.line), 0) == Class::Name;
+    let behind = if is_tagged { " behind its tag" } else { "" };
     let given = said_count(alloc, items, "item")?;
     let wrong = joined(
         alloc,
@@ -260,6 +262,7 @@ fn unequal(
             name,
             b"` has ".as_slice(),
             wanted.as_slice(),
+            behind.as_bytes(),
             b", but this line has ".as_slice(),
             given.as_slice(),
         ],
@@ -366,7 +369,7 @@ fn compared(
 ) -> Result<Option<Finding>, AllocError> {
     let items = count_from(text.words_at(message.line), message.at);
     if items != parts.count {
-        return unequal(alloc, text, message, parts.count, items);
+        return unequal(alloc, text, message, parts, items);
     }
     for number in 0..items {
         let found = item_finding(alloc, text, message, parts, number)?;

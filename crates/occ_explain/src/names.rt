@@ -3,7 +3,7 @@ ghost use Rattle.std.specs.Prelude.{◌≤◌, IfOk, length};
 
 use crate::class::{Class, class_of};
 use crate::context::last_proc;
-use crate::finding::{Finding, index_of, spot_at, told_as};
+use crate::finding::{Finding, Spot, index_of, spot_at, told_as};
 use crate::hints::in_capitals;
 use crate::refusal::Refusal;
 use crate::saying::{between, joined};
@@ -290,15 +290,41 @@ fn use_hint(
     handing_calls(alloc, text, b"it is handed on in line ", name)
 }
 
-/// What is said before and behind the name of a variable or a channel that two branches use.
-fn said_shared(number: u32) -> (&'static str, &'static str) {
+/// What is said of a variable or a channel that two branches use.
+fn told_shared(
+    alloc: Global,
+    spot: Spot,
+    number: u32,
+    name: &[u8],
+    hint: &[u8],
+) -> Result<Finding, AllocError>
+    ensures { IfOk result (λ f. 1 ≤ length f.wrong.items) }
+{
     match number {
-        50 => (
+        50 => told_as(
+            alloc,
+            spot,
             "`",
+            name,
             "` is written in one branch of a PAR and used in another",
+            hint,
         ),
-        51 => ("two branches of a PAR input from `", "`"),
-        _ => ("two branches of a PAR output to `", "`"),
+        51 => told_as(
+            alloc,
+            spot,
+            "two branches of a PAR input from `",
+            name,
+            "`",
+            hint,
+        ),
+        _ => told_as(
+            alloc,
+            spot,
+            "two branches of a PAR output to `",
+            name,
+            "`",
+            hint,
+        ),
     }
 }
 
@@ -410,8 +436,7 @@ fn shared(
         hint.extend_from_slice(colon.as_bytes())?;
         hint.extend_from_slice(shared_advice(number, name).as_bytes())?;
     }
-    let (before, after) = said_shared(number);
-    told_as(alloc, spot, before, name, after, hint.as_slice())
+    told_shared(alloc, spot, number, name, hint.as_slice())
 }
 
 /// The keyboard, the screen or the error channel: the line of the main process, the place of its formal, and what it is.
