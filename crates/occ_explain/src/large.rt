@@ -318,6 +318,10 @@ fn levels_round(text: &Text<'_>, index: usize) -> u64 {
     let mut is_open = matches!(start_of(text, index), Part::Arm | Part::Choice);
     let mut count: u64 = 0;
     for i in (0..index).rev() {
+        // nothing stands round a line at the left margin
+        if level == 0 {
+            return count;
+        }
         let indent = text.indent_at(i);
         let words = text.words_at(i);
         if indent < level {
