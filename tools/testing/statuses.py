@@ -75,10 +75,10 @@ NOTICE = "the keyboard is read to its end first: Ctrl-D ends it, < /dev/null is 
 MISSING = "no such file or folder\n"
 STOPPED = '1 stopped "" by 1 choice\neach run ends after 1 turn\none answer: the program has no ALT\n'
 SHARED_TOLD = """refused 50 SharedVariable line 5 x
-x.occ:5:5: `x`: a variable that one branch of a PAR writes and another one uses
+x.occ:5:5: `x` is written in one branch of a PAR and used in another
 5 |     x := 2
   |     ^
-  another branch uses it in line 4
+  another branch uses it in line 4: give each branch a variable of its own, or send the value over a channel
 """
 OLD = "what stood here before\n"
 MEMORY = 32 << 20

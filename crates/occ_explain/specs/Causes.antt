@@ -1,7 +1,9 @@
 -- What is wrong where a text is refused.
 -- Manual: nothing; this is (own).
-use Rattle.std.specs.Prelude.{Bool, IsFalse, List, [], codes, if◌then◌else◌, map, ℕ, ◌==◌, ◌||◌, ◌∷◌, ◌≡◌}
+use Rattle.std.specs.Prelude.{Bool, IsFalse, List, [], codes, if◌then◌else◌, length, map, ℕ, ◌==◌, ◌||◌, ◌∷◌, ◌≡◌, ◌≤◌, ◌⊎◌}
 use Rattle.occ_explain.specs.declared.cause_table.TheConstants.{CAUSES}
+use Rattle.occ_explain.specs.declared.headings.TheConstants.{HEADINGS}
+use mathlib.Core.List.{IsPrefix}
 
 -- the cause beside a number
 abbrev pub cause_in : List (ℕ × List ℕ) → ℕ → List ℕ
@@ -12,13 +14,26 @@ cause_in (row ∷ rows) n = if row.0 == n then row.1 else cause_in rows n
 unfoldable pub cause_of : ℕ → List ℕ
 cause_of n = cause_in (map (λ row. (row.0, row.1.now)) CAUSES) n
 
--- Whether it is told more closely what is wrong than by the cause: of bytes and literals, of words, of levels, of texts that end too
--- early, and of names.
+-- the heading beside a number, and nothing where it has none
+abbrev pub heading_in : List (ℕ × List ℕ) → ℕ → List ℕ
+heading_in [] n = []
+heading_in (row ∷ rows) n = if row.0 == n then row.1 else heading_in rows n
+
+-- the heading of the refusals of a number
+unfoldable pub heading_of : ℕ → List ℕ
+heading_of n = heading_in (map (λ row. (row.0, row.1.now)) HEADINGS) n
+
+-- Whether something is told in place of the cause: of bytes and literals, of words, of levels, of texts that end too early, and of
+-- names.
 abbrev pub is_told_closer : ℕ → Bool
 is_told_closer n =
     n == 2 || n == 4 || n == 5 || n == 6 || n == 20 || n == 21 || n == 22
     || n == 30 || n == 31 || n == 50 || n == 51 || n == 52
 
--- what is told is the cause, unless that is told more closely
+-- what is told begins with the heading, of a refusal that has one
+abbrev pub IsUnderHeading : (number : ℕ) → List ℕ → Type 0
+IsUnderHeading number wrong = (1 ≤ length (heading_of number)) × IsPrefix (heading_of number) wrong
+
+-- what is told of any other refusal is the cause, or stands behind the heading
 abbrev pub TellsCause : (number : ℕ) → List ℕ → Type 0
-TellsCause number wrong = IsFalse (is_told_closer number) → wrong ≡ cause_of number
+TellsCause number wrong = IsFalse (is_told_closer number) → (wrong ≡ cause_of number) ⊎ IsUnderHeading number wrong

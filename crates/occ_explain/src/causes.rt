@@ -1,8 +1,9 @@
 //! The causes of refusals, as users read them.
 ghost use Rattle.std.specs.Prelude.{◌≡◌, ◌≤◌, length, map};
-ghost use Rattle.occ_explain.specs.Causes.{cause_in, cause_of};
+ghost use Rattle.occ_explain.specs.Causes.{cause_in, cause_of, heading_in, heading_of};
 
 use crate::cause_table::CAUSES;
+use crate::headings::HEADINGS;
 
 /// The cause beside a number.
 fn find(mut rows: &[(u32, &'static str)], number: u32) -> &'static str
@@ -31,4 +32,25 @@ pub(crate) fn cause_of(number: u32) -> &'static str
     ensures some { 1 ≤ length result.now }
 {
     listed(number)
+}
+
+/// The heading beside a number.
+fn find_heading(mut rows: &[(u32, &'static str)], number: u32) -> &'static str
+    ensures { result.now ≡ heading_in (map (λ row. (row.0, row.1.now)) rows.entry.now) number }
+{
+    while let [row, rest @ ..] = rows {
+        if row.0 == number {
+            return row.1;
+        }
+        rows = rest;
+    }
+    ""
+}
+
+/// The heading of a refusal by its number, and nothing where it has none.
+#[tactic(auto, unfolding(crate::specs::Causes::heading_of))]
+pub(crate) fn heading_of(number: u32) -> &'static str
+    ensures { result.now ≡ heading_of number }
+{
+    find_heading(&HEADINGS, number)
 }

@@ -8,7 +8,7 @@ use crate::scan::{Text, Word};
 use crate::walk::class_at;
 
 /// The last PROC at the left margin, and the first line where there is none.
-fn last_proc(text: &Text<'_>) -> usize {
+pub(crate) fn last_proc(text: &Text<'_>) -> usize {
     for i in (0..text.lines.len()).rev() {
         if text.indent_at(i) == 0 && class_at(text.words_at(i), 0) == Class::Proc {
             return i;
@@ -17,13 +17,13 @@ fn last_proc(text: &Text<'_>) -> usize {
     0
 }
 
-/// The line that a refusal names; the main process for one of the whole text. There is none in a text without words.
+/// The line that a refusal names; that of the main process for one of a whole program. There is none in a text without words.
 pub(crate) fn line_index(text: &Text<'_>, refusal: &Refusal<'_>) -> Option<usize> {
     if text.lines.is_empty() {
         return None;
     }
     if refusal.line == 0 {
-        return if refusal.number == 42 {
+        return if matches!(refusal.number, 42 | 43 | 60) {
             Some(last_proc(text))
         } else {
             None

@@ -1,20 +1,27 @@
 //! What is found out about a refusal: a place, what is wrong there, and how it is mended.
 
-ghost use Rattle.std.specs.Prelude.{◌≡◌, ◌≤◌, ◌+◌, IfOk, length};
-ghost use Rattle.occ_explain.specs.Causes.{TellsCause, cause_of};
+ghost use Rattle.std.specs.Prelude.{◌≡◌, ◌≤◌, ◌+◌, ◌⊎◌, IfOk, length};
+ghost use Rattle.occ_explain.specs.Causes.{IsUnderHeading, TellsCause, cause_of};
+ghost use mathlib.Core.List.{IsPrefix};
 
-use crate::causes::cause_of;
+use crate::breaks::break_finding;
+use crate::calls::call_finding;
+use crate::causes::{cause_of, heading_of};
 use crate::class::Class;
 use crate::context::{line_index, start_of};
 use crate::hints::Met;
+use crate::kinds::{constant_finding, kind_finding, main_finding, subscript_finding};
+use crate::large::large_finding;
 use crate::levels::{level_finding, missing_finding};
+use crate::messages::{message_finding, tag_finding};
+use crate::mismatch::mismatch;
 use crate::names::name_finding;
 use crate::odd::odd_finding;
 use crate::refusal::Refusal;
 use crate::saying::{between, leaving_text};
-use crate::scan::{Line, Text, Word};
+use crate::scan::{Text, Word};
 use crate::types::types_text;
-use crate::walk::first_leaving;
+use crate::walk::{bytes_at, class_at, first_leaving};
 use std::alloc::{AllocError, Global};
 
 /// A place behind so many bytes of a physical line.
@@ -85,7 +92,7 @@ pub(crate) fn finding_of(
         21 => level_finding(alloc, text, index),
         22 => missing_finding(alloc, text, index),
         30 | 31 | 50 | 51 | 52 => name_finding(alloc, text, index, refusal),
-        _ => typed(alloc, text, index, refusal.number),
+        _ => headed(alloc, text, index, refusal.number),
     }
 }
 
@@ -120,17 +127,29 @@ pub(crate) fn told_as(
     Ok(Finding { spot, wrong, hint })
 }
 
-/// A semicolon that ends its physical line, before the word in this place.
-fn semicolon_before(words: &[Word<'_>], at: usize) -> Option<usize> {
+/// A semicolon that ends its physical line before the word in this place, or a comma that does so right before it.
+fn break_before(words: &[Word<'_>], at: usize) -> Option<usize> {
     let mut last = words.get(at)?.line;
     for i in (0..at).rev() {
         let word = words.get(i)?;
-        if word.line < last && word.class == Class::Semicolon {
+        let is_right_before = i.saturating_add(1) == at;
+        let is_break = word.class == Class::Semicolon
+            || is_right_before && word.class == Class::Comma;
+        if word.line < last && is_break {
             return Some(i);
         }
         last = word.line;
     }
     None
+}
+
+/// What to write in place of a semicolon or a comma that ends a line.
+fn unbroken(class: Class) -> &'static str {
+    if class == Class::Semicolon {
+        "write the parts of a SEQ in lines of their own, with nothing between them"
+    } else {
+        "end a declaration with a colon, or go on with its next name"
+    }
 }
 
 /// A line that leaves the grammar.
@@ -145,14 +164,14 @@ fn unexpected(alloc: Global, text: &Text<'_>, index: usize) -> Result<Finding, A
     if leaving.at == 0 {
         leaving.wanted = Some(start);
     }
-    if let Some(at) = semicolon_before(words, leaving.at) {
+    if let Some(at) = break_before(words, leaving.at) {
         return told_as(
             alloc,
             spot_at(words, at),
             "`",
-            b";",
+            bytes_at(words, at),
             "` at the end of a line, which then goes on in the next one",
-            b"the parts of a SEQ stand in lines of their own, with nothing between them",
+            unbroken(class_at(words, at)).as_bytes(),
         );
     }
     let wrong = leaving_text(alloc, words, &leaving)?;
@@ -199,25 +218,68 @@ fn sent_at(words: &[Word<'_>]) -> usize {
     }
 }
 
-/// What is said first of a refusal of types, kinds, constants or actuals.
-fn typed_hint(words: &[Word<'_>], number: u32) -> &'static str {
-    let has_text = index_of(words, Class::Text) < words.len();
-    let has_sides = index_of(words, Class::Assign) < words.len();
+/// A hint beside the cause of a refusal.
+fn typed_hint(number: u32) -> &'static str {
     match number {
-        32 => "a value named by VAL, a VAL formal and an index are never set",
-        33 if has_text && has_sides => {
-            "a string of n letters is a [n]BYTE, and both sides have one size"
-        }
-        33 if has_text => "arrays are not compared: compare their components",
-        34 =>
-            "the count of a replicated PAR, a size and a constant of a CASE are known before the run",
-        37 if has_text =>
-            "a string is an array of bytes: to a CHAN OF BYTE it goes out byte by byte, and one letter is written 'a'",
-        41 => "a subscript may not read what the same list sets: assign one after the other",
-        42 =>
-            "the last PROC is the main one, and has one to three formals: (CHAN OF BYTE keyboard, screen, error)",
+        3 => "each level is two spaces",
+        35 => "a size is 1 at least; the count of a replicated PAR is 0 at least",
+        40 => "copy one of them first, and hand the copy over",
+        41 => "assign one after the other, in a SEQ",
+        60 =>
+            "each call, and each copy of a replicated PAR, has code of its own: make the copies fewer, or loop within one",
         _ => "",
     }
+}
+
+/// What is found out by the words of a line, or of the text.
+fn looked_up(
+    alloc: Global,
+    text: &Text<'_>,
+    index: usize,
+    number: u32,
+) -> Result<Option<Finding>, AllocError> {
+    match number {
+        7 => break_finding(alloc, text, index),
+        32 => kind_finding(alloc, text, index),
+        33 => mismatch(alloc, text, index),
+        34 => constant_finding(alloc, text, index),
+        36 => subscript_finding(alloc, text, index),
+        37 => message_finding(alloc, text, index),
+        38 => tag_finding(alloc, text, index),
+        39 => call_finding(alloc, text, index),
+        42 => main_finding(alloc, text, index),
+        43 => large_finding(alloc, text),
+        _ => Ok(None),
+    }
+}
+
+/// A refusal whose cause is told with what is found out of it, behind a heading, or else by itself.
+fn headed(alloc: Global, text: &Text<'_>, index: usize, number: u32) -> Result<Finding, AllocError>
+    ensures cause { IfOk result (λ f. (f.wrong.items ≡ cause_of number)
+        ⊎ IsUnderHeading number f.wrong.items) }
+    ensures some { IfOk result (λ f. 1 ≤ length f.wrong.items) }
+{
+    let heading = heading_of(number);
+    if !heading.is_empty()
+        && let Some(found) = looked_up(alloc, text, index, number)?
+    {
+        return with_heading(alloc, heading, found);
+    }
+    typed(alloc, text, index, number)
+}
+
+/// A finding behind a heading.
+fn with_heading(alloc: Global, heading: &str, found: Finding) -> Result<Finding, AllocError>
+    ensures { IfOk result (λ f. IsPrefix heading.now f.wrong.items
+        × (length heading.now ≤ length f.wrong.items)) }
+{
+    let mut wrong = Vec::from_slice(alloc, heading.as_bytes())?;
+    wrong.extend_from_slice(found.wrong.as_slice())?;
+    Ok(Finding {
+        spot: found.spot,
+        wrong,
+        hint: found.hint,
+    })
 }
 
 /// A refusal of types, kinds, constants or actuals.
@@ -227,9 +289,8 @@ fn typed(alloc: Global, text: &Text<'_>, index: usize, number: u32) -> Result<Fi
 {
     let words = text.words_at(index);
     let spot = spot_at(words, typed_at(words, number));
-    let hint = typed_hint(words, number);
-    if !matches!(number, 33 | 37 | 39) || !hint.is_empty() {
-        return plain(alloc, spot, number, hint.as_bytes());
+    if !matches!(number, 32 | 33 | 37 | 39) {
+        return plain(alloc, spot, number, typed_hint(number).as_bytes());
     }
     let types = types_text(alloc, text, index)?;
     plain(alloc, spot, number, types.as_slice())

@@ -44,90 +44,90 @@ pub(crate) struct Hint {
 static LEFT_OUT: [Hint; 12] = [
     Hint {
         when: &[When::Somewhere(b"TIMER")],
-        says: "this profile of occam 2 leaves timers out",
+        says: "this profile of occam 2 has no timers",
     },
     Hint {
         when: &[When::Somewhere(b"AFTER"), When::Somewhere(b"?")],
-        says: "this profile of occam 2 leaves timers out",
+        says: "this profile of occam 2 has no timers",
     },
     Hint {
         when: &[When::Somewhere(b"REAL32")],
-        says: "this profile of occam 2 leaves REAL32 out: numbers are INT and BYTE",
+        says: "this profile of occam 2 has no real numbers: use INT, for example in hundredths",
     },
     Hint {
         when: &[When::Somewhere(b"REAL64")],
-        says: "this profile of occam 2 leaves REAL64 out: numbers are INT and BYTE",
+        says: "this profile of occam 2 has no real numbers: use INT, for example in hundredths",
     },
     Hint {
         when: &[When::Somewhere(b"INT16")],
-        says: "this profile of occam 2 leaves INT16 out: an INT has 32 bits",
+        says: "this profile of occam 2 has no INT16: use INT, which has 32 bits",
     },
     Hint {
         when: &[When::Somewhere(b"INT32")],
-        says: "this profile of occam 2 leaves INT32 out: an INT has 32 bits",
+        says: "this profile of occam 2 has no INT32: use INT, which has 32 bits",
     },
     Hint {
         when: &[When::Somewhere(b"INT64")],
-        says: "this profile of occam 2 leaves INT64 out: an INT has 32 bits",
+        says: "this profile of occam 2 has no INT64: use INT, which has 32 bits",
     },
     Hint {
         when: &[When::Somewhere(b"FUNCTION")],
-        says: "this profile of occam 2 leaves FUNCTION out: write a PROC that sets a formal",
+        says: "this profile of occam 2 has no FUNCTION: write a PROC that sets a formal",
     },
     Hint {
         when: &[When::Somewhere(b"VALOF")],
-        says: "this profile of occam 2 leaves VALOF and RESULT out: write a PROC that sets a formal",
+        says: "this profile of occam 2 has no VALOF and RESULT: write a PROC that sets a formal",
     },
     Hint {
         when: &[When::Somewhere(b"RETYPES")],
-        says: "this profile of occam 2 leaves RETYPES out",
+        says: "this profile of occam 2 has no RETYPES: convert by INT x, BYTE x and shifts",
     },
     Hint {
         when: &[When::Somewhere(b"FROM")],
-        says: "this profile of occam 2 leaves segments of arrays out: copy the components by a replicated SEQ",
+        says: "this profile of occam 2 has no segments of arrays: copy the components in a replicated SEQ",
     },
     Hint {
         when: &[When::Somewhere(b"PORT")],
-        says: "this profile of occam 2 leaves ports out",
+        says: "this profile of occam 2 has no ports",
     },
 ];
 
 static LEFT_OUT_TOO: [Hint; 9] = [
     Hint {
         when: &[When::Somewhere(b"PLACED")],
-        says: "this profile of occam 2 leaves PLACED PAR out",
+        says: "this profile of occam 2 has no PLACED PAR: write PAR",
     },
     Hint {
         when: &[When::Somewhere(b"PLACE")],
-        says: "this profile of occam 2 leaves PLACE out",
+        says: "this profile of occam 2 has no PLACE: leave the line out",
     },
     Hint {
         when: &[When::Somewhere(b"ANY")],
-        says: "this profile of occam 2 leaves ANY out: name the protocol",
+        says: "this profile of occam 2 has no ANY: write a type, or declare a PROTOCOL",
     },
     Hint {
         when: &[When::Before(b"PRI"), When::Met(b"PAR")],
-        says: "this profile of occam 2 leaves PRI PAR out: write PAR",
+        says: "this profile of occam 2 has no PRI PAR: write PAR",
     },
     Hint {
         when: &[When::First(b"INITIAL")],
-        says: "there is no INITIAL: declare the variable, and assign to it in a SEQ",
+        says: "there is no INITIAL: declare the variable, and assign it in a SEQ",
     },
     Hint {
         when: &[When::First(b"VAR")],
-        says: "a variable is declared with its type: INT x:",
+        says: "declare a variable with its type: INT x:",
     },
     Hint {
         when: &[When::Met(b"["), When::BeforeIs(Class::Text)],
-        says: "a string has no subscript: name it first, by VAL s IS \"..\":",
+        says: "a string takes no subscript: name it first by VAL s IS \"abc\":",
     },
     Hint {
         when: &[When::Wanted(Part::Expression), When::Met(b"[")],
-        says: "this profile of occam 2 leaves lists of values in brackets out: assign to the components one by one, or name a string",
+        says: "this profile of occam 2 has no lists of values in brackets: assign the components one by one, or use a string for bytes",
     },
     Hint {
         when: &[When::Met(b"IS")],
-        says: "this profile of occam 2 leaves abbreviations of variables out: VAL x IS .. names a value",
+        says: "this profile of occam 2 has no abbreviations of variables: use the variable itself, or name a value by VAL x IS y:",
     },
 ];
 
@@ -135,133 +135,161 @@ static LEFT_OUT_TOO: [Hint; 9] = [
 static SIGNS: [Hint; 12] = [
     Hint {
         when: &[When::Met(b"/"), When::Next(b"/")],
-        says: "a comment begins with two hyphens: --",
+        says: "a comment begins with two hyphens: -- like this",
     },
     Hint {
         when: &[When::Before(b"="), When::Met(b"=")],
-        says: "equal is written =",
+        says: "write = for equal",
     },
     Hint {
         when: &[When::Before(b"="), When::Met(b">")],
-        says: "greater or equal is written >=",
+        says: "write >= for greater or equal",
     },
     Hint {
         when: &[When::Before(b"="), When::Met(b"<")],
-        says: "less or equal is written <=",
+        says: "write <= for less or equal",
     },
     Hint {
         when: &[When::Met(b"!"), When::Next(b"=")],
-        says: "unequal is written <>",
+        says: "write <> for unequal",
     },
     Hint {
         when: &[When::Met(b"&"), When::Over],
-        says: "both is written AND",
+        says: "write AND for both",
     },
     Hint {
         when: &[When::Before(b"+"), When::Met(b"+")],
-        says: "one more is written x := x + 1",
+        says: "write x := x + 1 to add one",
     },
     Hint {
         when: &[When::Met(b"+"), When::Next(b"=")],
-        says: "one more is written x := x + 1",
+        says: "write x := x + 1 to add one",
     },
     Hint {
         when: &[When::Met(b"MOD")],
-        says: "the remainder is written \\ or REM",
+        says: "write \\ or REM for the remainder",
     },
     Hint {
         when: &[When::Start(Part::Choice), When::Met(b":=")],
-        says: "a comparison is written =",
+        says: "write = to compare, and := to assign",
     },
     Hint {
         when: &[When::Wanted(Part::NamedProcess), When::Met(b"=")],
-        says: "an assignment is written :=",
+        says: "write := to assign, and = to compare",
     },
     Hint {
         when: &[When::Wanted(Part::Placed), When::Met(b"=")],
-        says: "an assignment is written :=",
+        says: "write := to assign, and = to compare",
     },
 ];
 
-static CONSTRUCTS: [Hint; 13] = [
+static CONSTRUCTS: [Hint; 19] = [
+    Hint {
+        when: &[When::First(b"FOR")],
+        says: "write a loop as SEQ i = 0 FOR 10, and its body below, two spaces deeper",
+    },
+    Hint {
+        when: &[When::First(b"WHILE"), When::Met(b"DO")],
+        says: "leave DO out: the body of a WHILE stands in the next line, two spaces deeper",
+    },
+    Hint {
+        when: &[When::Start(Part::Arm), When::First(b"SEQ")],
+        says: "an arm begins with a guard, such as c ? x: write that first, and the SEQ below it",
+    },
+    Hint {
+        when: &[When::Start(Part::Arm), When::First(b"PAR")],
+        says: "an arm begins with a guard, such as c ? x: write that first, and the PAR below it",
+    },
+    Hint {
+        when: &[When::First(b"PROC"), When::Ends, When::Met(b":")],
+        says: "leave this colon out: the one that ends a PROC stands below its body, in a line of its own",
+    },
+    Hint {
+        when: &[When::Ends, When::Met(b"("), When::BeforeIs(Class::Name)],
+        says: "a PROC has no value: let it set a formal, and call it in a line of its own: f (3, x)",
+    },
     Hint {
         when: &[When::Start(Part::Choice), When::Met(b"ELSE")],
-        says: "the last choice of an IF is TRUE: ELSE stands in a CASE alone",
+        says: "write TRUE for the last choice of an IF; ELSE is for CASE alone",
     },
     Hint {
         when: &[When::First(b"IF")],
-        says: "each condition of an IF stands in a line of its own below it, and its process below that",
+        says: "write IF alone, each condition in a line below it, and its process below that",
     },
     Hint {
         when: &[When::Start(Part::Arm), When::Met(b"SKIP")],
-        says: "a guard that is always ready is written TRUE & SKIP",
+        says: "write TRUE & SKIP for a guard that is always ready",
     },
     Hint {
         when: &[When::Wanted(Part::Guarded), When::Met(b"!")],
-        says: "an arm waits for an input: an output can't be a guard",
+        says: "a guard is an input: an output cannot be one",
     },
     Hint {
         when: &[When::Wanted(Part::Guarded)],
-        says: "a guard is an input, or a condition, & and an input or SKIP",
+        says: "a guard is an input, or a condition with & and an input or SKIP: x > 0 & c ? y",
     },
     Hint {
         when: &[When::Wanted(Part::ForWord)],
-        says: "a replicator has a base and a count: i = 0 FOR 10",
+        says: "a replicator has a base and a count, not a last value: i = 0 FOR 10",
     },
     Hint {
         when: &[When::Wanted(Part::Top), When::Met(b":")],
-        says: "there is nothing left that a colon would end: a PROC, and a PROTOCOL with tags, has one",
+        says: "leave this colon out: each PROC, and each PROTOCOL with tags, ends with one",
     },
     Hint {
         when: &[When::Wanted(Part::Top)],
-        says: "processes stand within a PROC, two spaces deeper than it",
+        says: "write processes within a PROC, two spaces deeper than its first line",
     },
     Hint {
         when: &[When::Wanted(Part::NamedProcess), When::MetIs(Class::End)],
-        says: "a call has brackets, also where it has no actuals: f ()",
+        says: "write brackets behind the name in a call, also if they are empty: f ()",
     },
     Hint {
         when: &[When::Wanted(Part::NamedProcess)],
-        says: "an assignment is x := y, an input c ? x, an output c ! x, a call f (x)",
+        says: "an assignment is x := y, an input is c ? x, an output is c ! x, a call is f (x)",
     },
     Hint {
         when: &[When::Wanted(Part::CloseRound), When::MetIs(Class::End)],
-        says: "a bracket is not closed",
+        says: "close the bracket: write `)`",
     },
     Hint {
         when: &[When::Ends, When::Met(b")")],
-        says: "no bracket is open here",
+        says: "leave this bracket out: none is open here",
     },
     Hint {
         when: &[When::Over, When::Met(b":")],
-        says: "no colon stands behind an expression here",
+        says: "leave the colon out: only declarations end with one",
     },
 ];
 
-static DECLARATIONS: [Hint; 9] = [
+static DECLARATIONS: [Hint; 10] = [
+    Hint {
+        when: &[When::Wanted(Part::MoreNames), When::Met(b"[")],
+        says: "write the size of an array before its type: [10]INT a:",
+    },
     Hint {
         when: &[When::Wanted(Part::MoreNames), When::MetIs(Class::End)],
-        says: "a declaration ends with a colon",
+        says: "end the declaration with a colon",
     },
     Hint {
         when: &[When::Wanted(Part::MoreNames), When::Met(b":=")],
-        says: "a declaration gives no value: assign in a SEQ below it",
+        says: "a declaration gives no value: assign it in a SEQ below",
     },
     Hint {
         when: &[When::Wanted(Part::ColonWord), When::MetIs(Class::End)],
-        says: "a declaration ends with a colon",
+        says: "end the declaration with a colon",
     },
     Hint {
         when: &[When::Wanted(Part::MoreItems), When::MetIs(Class::End)],
-        says: "a PROTOCOL ends with a colon",
+        says: "end the PROTOCOL with a colon",
     },
     Hint {
         when: &[When::Wanted(Part::IsWord), When::Met(b"=")],
-        says: "a value is named by IS: VAL INT n IS 3:",
+        says: "write IS to name a value: VAL INT n IS 3:",
     },
     Hint {
         when: &[When::Wanted(Part::OfWord)],
-        says: "a channel is declared as CHAN OF BYTE, or of another type or protocol",
+        says: "write OF behind CHAN: CHAN OF BYTE c:",
     },
     Hint {
         when: &[When::Wanted(Part::MoreFormals), When::Met(b"?")],
@@ -273,36 +301,47 @@ static DECLARATIONS: [Hint; 9] = [
     },
     Hint {
         when: &[When::Wanted(Part::Expression), When::Met(b"]")],
-        says: "a declared array has its size: [10]BYTE s:",
+        says: "give the array its size: [10]BYTE s:",
     },
 ];
 
-static OPERATORS: [Hint; 6] = [
+static OPERATORS: [Hint; 8] = [
     Hint {
         when: &[When::Wanted(Part::Operand), When::MetIs(Class::Minus)],
-        says: "behind an operator a sign stands in brackets: 3 * (-1)",
+        says: SIGNED,
+    },
+    Hint {
+        when: &[When::Wanted(Part::Operand), When::MetIs(Class::Most)],
+        says: "put brackets round it behind an operator: p <> (MOSTPOS INT)",
+    },
+    Hint {
+        when: &[When::Wanted(Part::Operand), When::MetIs(Class::Primitive)],
+        says: "put brackets round a conversion behind an operator: x + (INT b)",
     },
     Hint {
         when: &[When::Wanted(Part::Operand), When::MetIs(Class::Monadic)],
-        says: "behind an operator one with a single operand stands in brackets: a AND (NOT b)",
+        says: "put brackets round an operator with one operand: a AND (NOT b)",
     },
     Hint {
         when: &[When::Over, When::EarlierIs(Class::Monadic)],
-        says: "an operator with a single operand stands in brackets before another: (SIZE b) + 1",
+        says: "put brackets round an operator with one operand: (SIZE b) + 1",
     },
     Hint {
         when: &[When::Over, When::EarlierIs(Class::Primitive)],
-        says: "a conversion stands in brackets before an operator: (INT b) + 1",
+        says: "put brackets round a conversion: (INT b) + 1",
     },
     Hint {
         when: &[When::Over, When::MetIs(Class::And)],
-        says: "operators have no precedence: put each side of AND into brackets",
+        says: "operators have no precedence: put brackets round each side of AND",
     },
     Hint {
         when: &[When::Over, When::MetIs(Class::Or)],
-        says: "operators have no precedence: put each side of OR into brackets",
+        says: "operators have no precedence: put brackets round each side of OR",
     },
 ];
+
+/// The hint where a sign stands behind an operator, which is told with the words of the line where they are few.
+const SIGNED: &str = "put brackets round a sign behind an operator: 3 * (-1)";
 
 /// The last hint that is tried where an operator follows an expression.
 const NO_PRECEDENCE: &str = "operators have no precedence: write (a + b) * c or a + (b * c)";
@@ -466,6 +505,22 @@ impl Met<'_> {
         )
     }
 
+    /// How a sign is written that stands behind an operator.
+    fn signed(&self, alloc: Global) -> Result<Vec<u8>, AllocError> {
+        let at = self.leaving.at;
+        let operand = self.bytes_at(at.saturating_add(1));
+        joined(
+            alloc,
+            &[
+                b"put brackets round a sign behind an operator: `".as_slice(),
+                self.bytes_at(at.saturating_sub(1)),
+                b" (-".as_slice(),
+                operand,
+                b")`".as_slice(),
+            ],
+        )
+    }
+
     /// The reserved word that a name of the line is in small letters: the name that is met, the one before it, or the first.
     fn small_letters(&self, alloc: Global) -> Result<Option<Vec<u8>>, AllocError> {
         for at in [self.leaving.at, self.leaving.at.saturating_sub(1), 0] {
@@ -491,7 +546,7 @@ impl Met<'_> {
         if let Some(capitals) = self.small_letters(alloc)? {
             return between(
                 alloc,
-                "reserved words are written in capitals: ",
+                "write reserved words in capitals: ",
                 capitals.as_slice(),
                 "",
             );
@@ -499,10 +554,13 @@ impl Met<'_> {
         let listed = self.listed_hint();
         if listed.is_empty() && self.names_reserved() {
             let word = self.bytes_at(self.leaving.at);
-            return between(alloc, "`", word, "` is a reserved word, and no name");
+            return between(alloc, "`", word, "` is a reserved word: use another name");
         }
         if self.joins_single_operands() && listed.starts_with("operators have") {
             return self.bracketed(alloc);
+        }
+        if listed == SIGNED && self.leaving.at > 0 {
+            return self.signed(alloc);
         }
         between(alloc, listed, b"", "")
     }

@@ -71,10 +71,10 @@ pub(crate) fn level_finding(
         return told_as(
             alloc,
             spot,
-            "the first line of a text is not indented",
+            "the first line is indented",
             b"",
             "",
-            b"",
+            b"begin it in the first column",
         );
     }
     let last = index - 1;
@@ -86,10 +86,10 @@ pub(crate) fn level_finding(
         return told_as(
             alloc,
             spot,
-            "a line more than one level deeper than the one before",
+            "a line more than one level deeper than the line before",
             b"",
             "",
-            b"a level is two spaces",
+            b"write two spaces for each level",
         );
     }
     if lines_under(text, last) == Under::One {
@@ -109,16 +109,16 @@ fn too_deep(
     ensures { IfOk result (λ f. 1 ≤ length f.wrong.items) }
 {
     let hint = if class_at(text.words_at(index), 0) == Class::Colon {
-        "the colon stands under the first letter of its PROC"
+        "write the colon under the first letter of its PROC"
     } else {
-        "the parts of a SEQ or a PAR all begin in one column"
+        "begin all parts of a SEQ or a PAR in one column"
     };
     told_as(
         alloc,
         spot,
-        "a line deeper than one that begins with `",
+        "a line below `",
         first_word(text, last),
-        "`, under which nothing stands",
+        "`, which takes nothing below it",
         hint.as_bytes(),
     )
 }
@@ -140,7 +140,7 @@ fn wants_process(
         "line ",
         line.as_bytes(),
         " needs a process below it",
-        b"it stands in the next line, two spaces deeper; SKIP is one that does nothing",
+        b"write it in the next line, two spaces deeper; SKIP is a process that does nothing",
     )
 }
 
@@ -156,20 +156,20 @@ fn beside(
 {
     let is_colon = class_at(text.words_at(index), 0) == Class::Colon;
     let hint = match class_at(text.words_at(last), 0) {
-        _ if is_colon => "the colon stands under the first letter of its PROC",
+        _ if is_colon => "write the colon under the first letter of its PROC",
         Class::Seq | Class::Par if text.indent_at(last) == text.indent_at(index) => {
-            "the parts of a SEQ or a PAR stand two spaces deeper than it"
+            "write the parts of a SEQ or a PAR two spaces deeper than it"
         }
-        _ => "write SEQ or PAR above them, and both two spaces deeper",
+        _ => "write SEQ or PAR above the processes, and both two spaces deeper",
     };
     let is_second = match parent_of(text, index) {
         Some(parent) => lines_under(text, parent) == Under::One,
         None => false,
     };
     let wrong = if is_colon {
-        "`:` under no first letter of a PROC or a PROTOCOL"
+        "`:` does not stand under the first letter of a PROC or a PROTOCOL"
     } else if is_second {
-        "a second process where one must stand"
+        "a second process, where only one may stand"
     } else {
         "a line at a level where none may stand"
     };
@@ -188,12 +188,12 @@ pub(crate) fn missing_finding(
     let spot = spot_at(words, words.len());
     let (wrong, hint) = match lines_under(text, index) {
         Under::One => (
-            "the text ends where a process must follow",
-            "it stands in the next line, two spaces deeper",
+            "the program ends where a process must follow",
+            "write it in the next line, two spaces deeper",
         ),
         Under::Nothing | Under::Many => (
-            "the text ends where `:` must follow",
-            "a PROC, and a PROTOCOL with tags, ends with a colon in a line of its own, under its first letter",
+            "the program ends where `:` must follow",
+            "end a PROC, and a PROTOCOL with tags, with a colon in a line of its own, under its first letter",
         ),
     };
     told_as(alloc, spot, wrong, b"", "", hint.as_bytes())

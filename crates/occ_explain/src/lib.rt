@@ -2,6 +2,8 @@
 //! mended, and [`explained`] writes that.
 #![tactic(auto)]
 
+mod breaks;
+mod calls;
 mod cause_table;
 mod causes;
 mod class;
@@ -10,15 +12,21 @@ pub mod explaining;
 mod finding;
 mod fronts;
 mod grammar;
+mod headings;
 mod hints;
+mod kinds;
+mod large;
 mod levels;
 mod logical;
+mod messages;
+mod mismatch;
 mod names;
 mod odd;
 mod place;
 pub mod refusal;
 mod saying;
 mod scan;
+mod scope;
 pub mod text;
 mod types;
 mod walk;

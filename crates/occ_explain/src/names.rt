@@ -1,16 +1,16 @@
 //! Names that stand for nothing, stand twice, or are used by two branches.
 ghost use Rattle.std.specs.Prelude.{◌≤◌, IfOk, length};
 
-use crate::causes::cause_of;
 use crate::class::{Class, class_of};
-use crate::context::parent_of;
-use crate::finding::{Finding, spot_at, told_as};
+use crate::context::last_proc;
+use crate::finding::{Finding, Spot, index_of, spot_at, told_as};
 use crate::hints::in_capitals;
 use crate::refusal::Refusal;
-use crate::saying::between;
+use crate::saying::{between, joined};
 use crate::scan::{Text, Word};
-use crate::types::declares;
-use crate::walk::class_at;
+use crate::scope::{Kind, declaration_of, declares, formal_count, formal_numbered};
+use crate::types::{operand_begin, operand_end, words_text};
+use crate::walk::{bytes_at, class_at};
 use std::alloc::{AllocError, Global};
 
 /// A name without subscripts.
@@ -86,9 +86,9 @@ fn twice(alloc: Global, words: &[Word<'_>], name: &[u8]) -> Result<Finding, Allo
         0
     };
     let hint = if is_constant(name) {
-        "each constant stands once in a CASE, however it is written"
+        "write each constant of a CASE once; it may be spelled in several ways"
     } else {
-        "each name of a list stands once in it"
+        "give one of them another name"
     };
     told_as(
         alloc,
@@ -152,20 +152,17 @@ fn unknown(
     ensures { IfOk result (λ f. 1 ≤ length f.wrong.items) }
 {
     let words = text.words_at(index);
-    let hint = unknown_hint(
-        alloc,
-        text,
-        index,
-        class_at(words, at.saturating_add(1)),
-        name,
-    )?;
+    let behind = class_at(words, operand_end(words, at));
+    let is_carried = at > 0 && class_at(words, at.saturating_sub(1)) == Class::Of;
+    let behind = if is_carried { Class::Of } else { behind };
+    let hint = unknown_hint(alloc, text, index, behind, name)?;
     let spot = spot_at(words, at);
     told_as(
         alloc,
         spot,
         "`",
         name,
-        "` stands for nothing here",
+        "` is not declared here",
         hint.as_slice(),
     )
 }
@@ -182,7 +179,7 @@ fn unknown_hint(
     if class_of(capitals.as_slice()) != Class::Name {
         return between(
             alloc,
-            "reserved words are written in capitals: ",
+            "write reserved words in capitals: ",
             capitals.as_slice(),
             "",
         );
@@ -190,7 +187,7 @@ fn unknown_hint(
     if is_within(text, index, name) {
         return between(
             alloc,
-            "a PROC is not in scope in its own body: there is no recursion",
+            "a PROC cannot call itself: there is no recursion",
             b"",
             "",
         );
@@ -198,9 +195,9 @@ fn unknown_hint(
     if let Some(other) = like_name(text, name) {
         return between(
             alloc,
-            "capitals and small letters differ: there is `",
+            "capitals and small letters differ: `",
             other,
-            "`",
+            "` is declared",
         );
     }
     declared_hint(alloc, text, index, behind, name)
@@ -215,25 +212,31 @@ fn declared_hint(
     name: &[u8],
 ) -> Result<Vec<u8>, AllocError> {
     let Some(line) = declaring_line(text, index, name) else {
-        return between(alloc, absent_hint(behind), b"", "");
+        return absent_hint(alloc, behind, name);
     };
     let number = text.number_at(line);
     let number = format!(in alloc; "{number}")?;
     let rest = if line < index {
-        " is in scope up to the end of the process behind it: put a SEQ or a PAR there"
+        " holds for the process behind it alone: put a SEQ there, round all that uses the name"
     } else {
-        " stands behind its use: a name is declared above it"
+        " comes too late: write it above"
     };
     between(alloc, "the declaration in line ", number.as_bytes(), rest)
 }
 
 /// A hint for a name that no line declares, by the word behind it.
-fn absent_hint(behind: Class) -> &'static str {
-    if behind == Class::OpenParen {
-        "there is no library: a PROC stands in the text, above its calls"
-    } else {
-        "each name is declared above its use: INT x:"
-    }
+fn absent_hint(alloc: Global, behind: Class, name: &[u8]) -> Result<Vec<u8>, AllocError> {
+    let (before, after) = match behind {
+        Class::OpenParen => {
+            let says =
+                b"write this PROC above: no library is read, so copy it from there".as_slice();
+            return joined(alloc, &[says]);
+        }
+        Class::Exclamation | Class::Question => ("declare the channel above: `CHAN OF INT ", ":`"),
+        Class::Of => ("declare the protocol above: `PROTOCOL ", " IS INT:`"),
+        _ => ("declare it above, with its type: `INT ", ":`"),
+    };
+    between(alloc, before, name, after)
 }
 
 /// The PAR round a line, and the branch of it that the line stands in; the innermost first.
@@ -277,7 +280,7 @@ fn use_hint(
     name: &[u8],
 ) -> Result<Vec<u8>, AllocError> {
     if !is_there {
-        let head = b"it has another name there, and is handed on in line ";
+        let head = b"it has another name here, and is handed on in line ";
         return handing_calls(alloc, text, head, name);
     }
     let hint = other_use(alloc, text, index, name)?;
@@ -285,6 +288,124 @@ fn use_hint(
         return Ok(hint);
     }
     handing_calls(alloc, text, b"it is handed on in line ", name)
+}
+
+/// What is said of a variable or a channel that two branches use.
+fn told_shared(
+    alloc: Global,
+    spot: Spot,
+    number: u32,
+    name: &[u8],
+    hint: &[u8],
+) -> Result<Finding, AllocError>
+    ensures { IfOk result (λ f. 1 ≤ length f.wrong.items) }
+{
+    match number {
+        50 => told_as(
+            alloc,
+            spot,
+            "`",
+            name,
+            "` is written in one branch of a PAR and used in another",
+            hint,
+        ),
+        51 => told_as(
+            alloc,
+            spot,
+            "two branches of a PAR input from `",
+            name,
+            "`",
+            hint,
+        ),
+        _ => told_as(
+            alloc,
+            spot,
+            "two branches of a PAR output to `",
+            name,
+            "`",
+            hint,
+        ),
+    }
+}
+
+/// How that is mended.
+fn shared_advice(number: u32, name: &[u8]) -> &'static str {
+    match number {
+        50 => "give each branch a variable of its own, or send the value over a channel",
+        52 if name == b"screen".as_slice() => {
+            "let one process output to the screen, and send it what the others have to say"
+        }
+        _ => "give each pair of processes a channel of its own",
+    }
+}
+
+/// A name under a subscript in a line that is no constant, as a variable or the index of a replicator that is no PAR.
+fn varying(text: &Text<'_>, index: usize) -> Option<usize> {
+    let words = text.words_at(index);
+    let mut depth: usize = 0;
+    for i in 0..words.len() {
+        match words[i].class {
+            Class::OpenBracket => depth = depth.saturating_add(1),
+            Class::CloseBracket => depth = depth.saturating_sub(1),
+            Class::Name if depth > 0 && is_varying(text, index, words[i].bytes) => return Some(i),
+            _ => {}
+        }
+    }
+    None
+}
+
+fn is_varying(text: &Text<'_>, index: usize, name: &[u8]) -> bool {
+    match declaration_of(text, index, name) {
+        Some(found) => match found.spec.kind {
+            Kind::Variable => true,
+            Kind::Index => class_at(text.words_at(found.line), 0) != Class::Par,
+            _ => false,
+        },
+        None => false,
+    }
+}
+
+/// The line of the other use of a name, where a branch of the same PAR has it, or the line itself.
+fn other_line(text: &Text<'_>, index: usize, name: &[u8]) -> usize {
+    match branch_of(text, index) {
+        Some((par, branch)) => elsewhere(text, par, branch, name).unwrap_or(index),
+        None => index,
+    }
+}
+
+/// Why a component counts that another subscript names: one of both is no constant.
+fn whole_array(
+    alloc: Global,
+    text: &Text<'_>,
+    index: usize,
+    name: &[u8],
+) -> Result<Vec<u8>, AllocError> {
+    let other = other_line(text, index, base(name));
+    for line in [index, other] {
+        if let Some(at) = varying(text, line) {
+            let number = text.number_at(line);
+            let place = format!(in alloc;
+                "` (line {number}), which is no constant, the whole array counts"
+            )?;
+            let said = words_text(alloc, text.words_at(line), at, at.saturating_add(1))?;
+            return joined(
+                alloc,
+                &[b"; under `".as_slice(), said.as_slice(), place.as_bytes()],
+            );
+        }
+    }
+    Ok(Vec::new(alloc))
+}
+
+/// Whether a name has two subscripts or more.
+fn is_in_row(name: &[u8]) -> bool {
+    let mut count: usize = 0;
+    for byte in name {
+        if *byte == b'[' {
+            count = count.saturating_add(1);
+        }
+    }
+    count > 1
 }
 
 /// A variable or a channel's end that two branches use.
@@ -298,17 +419,155 @@ fn shared(
 ) -> Result<Finding, AllocError>
     ensures { IfOk result (λ f. 1 ≤ length f.wrong.items) }
 {
+    if let Some(place) = stream_of(text, number, name) {
+        return stream_finding(alloc, text, index, number, &place);
+    }
     let words = text.words_at(index);
     let spot = spot_at(words, at);
     let mut hint = use_hint(alloc, text, index, at < words.len(), base(name))?;
     if base(name).len() < name.len() {
-        hint.extend_from_slice(b"; under a subscript that is no constant the whole array counts")?;
+        let mut whole = whole_array(alloc, text, index, name)?;
+        hint.append(&mut whole)?;
     }
-    let mut finding = told_as(alloc, spot, "`", name, "`: ", hint.as_slice())?;
-    finding
-        .wrong
-        .extend_from_slice(cause_of(number).as_bytes())?;
-    Ok(finding)
+    if is_in_row(name) {
+        hint.extend_from_slice(b": declare an array of one dimension for each branch")?;
+    } else {
+        let colon = if hint.is_empty() { "" } else { ": " };
+        hint.extend_from_slice(colon.as_bytes())?;
+        hint.extend_from_slice(shared_advice(number, name).as_bytes())?;
+    }
+    told_shared(alloc, spot, number, name, hint.as_slice())
+}
+
+/// The keyboard, the screen or the error channel: the line of the main process, the place of its formal, and what it is.
+#[derive(Clone, Copy)]
+struct Stream {
+    head: usize,
+    at: usize,
+    says: &'static str,
+    is_input: bool,
+}
+
+/// Which stream a refused name is, where a program uses it in the direction that the stream has itself, and declares no channel
+/// of that name.
+fn stream_of(text: &Text<'_>, number: u32, name: &[u8]) -> Option<Stream> {
+    let (formal, is_input, says) = match (number, name) {
+        (52, b"keyboard") => (
+            0,
+            true,
+            "the first formal of the last PROC, so it is the keyboard",
+        ),
+        (51, b"screen") => (
+            1,
+            false,
+            "the second formal of the last PROC, so it is the screen",
+        ),
+        (51, b"error") => (
+            2,
+            false,
+            "the third formal of the last PROC, so it is the error channel",
+        ),
+        _ => return None,
+    };
+    let head = last_proc(text);
+    for i in 0..text.lines.len() {
+        let words = text.words_at(i);
+        if class_at(words, 0) != Class::Proc && declares(words, name) {
+            return None;
+        }
+    }
+    let (at, _) = formal_numbered(text.words_at(head), formal)?;
+    Some(Stream {
+        head,
+        at,
+        says,
+        is_input,
+    })
+}
+
+/// The PROC called `main`, where that is not the last one at the left margin.
+pub(crate) fn other_main(text: &Text<'_>, head: usize) -> Option<usize> {
+    for i in 0..head {
+        let words = text.words_at(i);
+        if class_at(words, 0) == Class::Proc
+            && text.indent_at(i) == 0
+            && bytes_at(words, 1) == b"main".as_slice()
+        {
+            return Some(i);
+        }
+    }
+    None
+}
+
+/// What to do where a program outputs to the keyboard, or inputs from the screen.
+fn stream_hint(alloc: Global, text: &Text<'_>, place: &Stream) -> Result<Vec<u8>, AllocError> {
+    let words = text.words_at(place.head);
+    let name = words_text(alloc, words, 1, 2)?;
+    if other_main(text, place.head).is_some() {
+        return joined(
+            alloc,
+            &[
+                b"the last PROC is the main process: move `".as_slice(),
+                name.as_slice(),
+                b"` above `main`".as_slice(),
+            ],
+        );
+    }
+    if formal_count(words) == 1 {
+        return joined(
+            alloc,
+            &[
+                b"the keyboard comes first, and the screen second: `PROC ".as_slice(),
+                name.as_slice(),
+                b" (CHAN OF BYTE keyboard, screen)`".as_slice(),
+            ],
+        );
+    }
+    let hint = "the main process inputs from its first formal, and outputs to the others";
+    joined(alloc, &[hint.as_bytes()])
+}
+
+/// A program that outputs to the keyboard, or inputs from the screen or the error channel.
+fn stream_finding(
+    alloc: Global,
+    text: &Text<'_>,
+    index: usize,
+    number: u32,
+    place: &Stream,
+) -> Result<Finding, AllocError>
+    ensures { IfOk result (λ f. 1 ≤ length f.wrong.items) }
+{
+    let words = text.words_at(index);
+    let head = text.words_at(place.head);
+    let name = words_text(alloc, head, place.at, place.at.saturating_add(1))?;
+    let class = if number == 52 {
+        Class::Exclamation
+    } else {
+        Class::Question
+    };
+    let sign = index_of(words, class);
+    let at = if sign < words.len() {
+        operand_begin(words, sign)
+    } else {
+        0
+    };
+    let says = if place.is_input {
+        ", which only gives input"
+    } else {
+        ", which only takes output"
+    };
+    let hint = stream_hint(alloc, text, place)?;
+    let mut found = told_as(
+        alloc,
+        spot_at(words, at),
+        "`",
+        name.as_slice(),
+        "` is ",
+        hint.as_slice(),
+    )?;
+    found.wrong.extend_from_slice(place.says.as_bytes())?;
+    found.wrong.extend_from_slice(says.as_bytes())?;
+    Ok(found)
 }
 
 /// How many calls are told of.

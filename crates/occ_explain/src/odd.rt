@@ -4,21 +4,23 @@ ghost use Rattle.std.specs.Prelude.{◌≤◌, IfOk, length};
 use crate::class::Class;
 use crate::finding::{Finding, plain, spot_at, told_as};
 use crate::scan::Word;
+use crate::types::words_text;
+use crate::walk::{bytes_at, class_at};
 use std::alloc::{AllocError, Global};
 
 /// What a byte or a character that begins no word is called, and what is written in its place.
-static BYTES: [(&[u8], &str, &str); 18] = [
-    (b"\t", "a tab", "each level is two spaces"),
+static BYTES: [(&[u8], &str, &str); 17] = [
+    (b"\t", "a tab", "write two spaces for each level"),
     (
         b"\r",
         "a carriage return within a line",
-        "a line ends with LF, or with CR and LF",
+        "end a line with LF, or with CR and LF",
     ),
-    (b"\x00", "a byte 0", "a text is plain ASCII"),
+    (b"\x00", "a byte 0", "save the program as plain text"),
     (
         b"\xEF\xBB\xBF",
         "a byte order mark",
-        "save the text as UTF-8 without a mark",
+        "save the program as UTF-8 without a mark",
     ),
     (b"\xE2\x80\x9C", "a curly quote", "write a straight one: \""),
     (b"\xE2\x80\x9D", "a curly quote", "write a straight one: \""),
@@ -27,41 +29,32 @@ static BYTES: [(&[u8], &str, &str); 18] = [
     (
         b"\xE2\x80\x93",
         "a dash",
-        "a minus is -, and a comment begins with --",
+        "write - for minus, and -- to begin a comment",
     ),
     (
         b"\xE2\x80\x94",
         "a dash",
-        "a minus is -, and a comment begins with --",
+        "write - for minus, and -- to begin a comment",
     ),
+    (b"\xC2\xA0", "a no-break space", "write a plain space"),
     (
-        b"\xC2\xA0",
-        "a space that does not break",
-        "write a plain one",
+        b"_",
+        "`_`",
+        "a name has letters, digits and dots: write my.var",
     ),
-    (b"_", "`_`", "a name has letters, digits and dots: my.var"),
     (
         b"{",
         "`{`",
-        "what belongs together is indented, by two spaces for each level",
+        "indent what belongs together, by two spaces for each level",
     ),
     (
         b"}",
         "`}`",
-        "what belongs together is indented, by two spaces for each level",
+        "indent what belongs together, by two spaces for each level",
     ),
-    (b"|", "`|`", "OR joins conditions, and \\/ bits"),
-    (b"%", "`%`", "the remainder is written \\ or REM"),
-    (
-        b"^",
-        "`^`",
-        "there is no power, and exclusive or is written ><",
-    ),
-    (
-        b"@",
-        "`@`",
-        "what stands for no word may stand in comments and strings alone",
-    ),
+    (b"|", "`|`", "write OR for conditions, and \\/ for bits"),
+    (b"%", "`%`", "write \\ or REM for the remainder"),
+    (b"^", "`^`", "write >< for exclusive or; there is no power"),
 ];
 
 fn is_odd(class: Class) -> bool {
@@ -94,19 +87,82 @@ pub(crate) fn odd_finding(
     let Some(word) = words.get(at) else {
         return plain(alloc, spot, number, b"");
     };
-    if word.class == Class::BadByte {
-        let (called, hint) = byte_text(word.bytes);
-        return told_as(
+    if word.class != Class::BadByte {
+        let (wrong, hint) = literal_text(word.class, word.bytes);
+        return told_as(alloc, spot, "`", word.bytes, wrong, hint.as_bytes());
+    }
+    if is_real(words, at) {
+        return real(alloc, words, at);
+    }
+    match word.bytes {
+        [byte, ..] if byte.is_ascii_graphic() && !is_listed(word.bytes) => told_as(
             alloc,
             spot,
-            "",
-            called.as_bytes(),
-            ", which begins no word",
-            hint.as_bytes(),
-        );
+            "`",
+            &[*byte],
+            "`, which begins no word",
+            b"occam has no such sign: it may stand in comments and strings alone",
+        ),
+        [byte, ..] if !is_listed(word.bytes) => {
+            let code = format!(in alloc; "{byte}")?;
+            told_as(
+                alloc,
+                spot,
+                "a byte that is no ASCII character: ",
+                code.as_bytes(),
+                "",
+                b"write ASCII alone, but for comments",
+            )
+        }
+        bytes => {
+            let (called, hint) = byte_text(bytes);
+            told_as(
+                alloc,
+                spot,
+                "",
+                called.as_bytes(),
+                ", which begins no word",
+                hint.as_bytes(),
+            )
+        }
     }
-    let (wrong, hint) = literal_text(word.class, word.bytes);
-    told_as(alloc, spot, "`", word.bytes, wrong, hint.as_bytes())
+}
+
+/// Whether the byte is the point of a real number.
+fn is_real(words: &[Word<'_>], at: usize) -> bool {
+    at > 0
+        && bytes_at(words, at) == b".".as_slice()
+        && class_at(words, at.saturating_sub(1)) == Class::Number
+}
+
+/// A real number.
+fn real(alloc: Global, words: &[Word<'_>], at: usize) -> Result<Finding, AllocError>
+    ensures { IfOk result (λ f. 1 ≤ length f.wrong.items) }
+{
+    let from = at.saturating_sub(1);
+    let is_digits = class_at(words, at.saturating_add(1)) == Class::Number;
+    let to = if is_digits {
+        at.saturating_add(2)
+    } else {
+        at.saturating_add(1)
+    };
+    let said = words_text(alloc, words, from, to)?;
+    told_as(
+        alloc,
+        spot_at(words, from),
+        "`",
+        said.as_slice(),
+        "` is a real number, and this profile of occam 2 has none",
+        b"use INT, for example in hundredths",
+    )
+}
+
+/// Whether a byte or a character has a name of its own.
+fn is_listed(bytes: &[u8]) -> bool {
+    BYTES
+        .as_slice()
+        .iter()
+        .any(|(begin, _, _)| bytes.starts_with(begin))
 }
 
 fn byte_text(bytes: &[u8]) -> (&'static str, &'static str) {
@@ -115,7 +171,12 @@ fn byte_text(bytes: &[u8]) -> (&'static str, &'static str) {
             return (*called, *hint);
         }
     }
-    ("a byte", "a text is plain ASCII outside comments")
+    ("a byte", "write ASCII alone, but for comments")
+}
+
+/// Whether a literal between single quotes has its second one.
+fn is_closed(bytes: &[u8]) -> bool {
+    bytes.len() > 1 && bytes.ends_with(b"'") && (!bytes.ends_with(b"*'") || bytes.ends_with(b"**'"))
 }
 
 /// What is wrong with a literal, and what is written in its place.
@@ -127,20 +188,32 @@ fn literal_text(class: Class, bytes: &[u8]) -> (&'static str, &'static str) {
         ),
         (Class::OpenText, _) => (
             "` is a string that does not end on its line",
-            "it ends with a double quote; one within it is written *\"",
+            "end it with a double quote; write *\" for one within it",
         ),
         (_, [b'\'', b'\\', ..]) => (
             "` is not one character",
             "an escape begins with a star: '*n' ends a line",
         ),
+        (_, b"''") => (
+            "` holds no character",
+            "write one character between the quotes: ' ' is a space",
+        ),
+        (_, [b'\'', ..]) if !is_closed(bytes) => (
+            "` has no closing quote",
+            "write a single quote on both sides of the character: 'a'",
+        ),
         (_, [b'\'', ..]) => (
-            "` is not one character",
-            "a string stands between double quotes",
+            "` is more than one character",
+            "write a string between double quotes: \"abc\"",
+        ),
+        (_, [b'#', digit, ..]) if digit.is_ascii_hexdigit() && bytes.len() > 9 => (
+            "` has more than eight digits",
+            "a hexadecimal number has 1 to 8 digits: #FF",
         ),
         (_, [b'#', ..]) => (
             "` is no hexadecimal number",
-            "there are no directives here: a program is one text, with all its PROCs",
+            "there are no directives: copy the PROCs of a library into the program",
         ),
-        _ => ("` is too large", "a number is 2147483647 at most"),
+        _ => ("` is too large for an INT", "the largest INT is 2147483647"),
     }
 }

@@ -1,93 +1,378 @@
-//! The types with which names are declared, as far as the words of a text tell.
+//! Types: those with which names are declared, and those of expressions, as far as the words of a text tell.
 
 use crate::class::Class;
-use crate::saying::between;
+use crate::saying::{between, told};
 use crate::scan::{Text, Word};
-use crate::walk::class_at;
+use crate::scope::{Declared, Kind, behind_bracket, behind_sizes, declaration_of};
+use crate::walk::{bytes_at, class_at};
 use std::alloc::{AllocError, Global};
 
-/// Whether a line that begins so may declare names.
-fn is_declaring(class: Class) -> bool {
+#[derive(Clone, Copy, PartialEq)]
+pub(crate) enum Primitive {
+    Bool,
+    Byte,
+    Int,
+}
+
+/// A primitive type, or an array of so many dimensions.
+#[derive(Clone, Copy, PartialEq)]
+pub(crate) struct Type {
+    pub(crate) primitive: Primitive,
+    pub(crate) sizes: usize,
+}
+
+/// What a type is asked of: an expression at this place of a line under so many subscripts, or its first operand alone.
+#[derive(Clone, Copy)]
+struct Asked {
+    line: usize,
+    at: usize,
+    subscripts: usize,
+    is_alone: bool,
+}
+
+/// What is found out in one step: a type, which may stay unknown, or what has the same type.
+#[derive(Clone, Copy)]
+enum Step {
+    Is(Option<Type>),
+    As(Asked),
+}
+
+/// The most steps from an expression to one that shows its type.
+const MOST_STEPS: u32 = 64;
+
+fn single(primitive: Primitive) -> Step {
+    Step::Is(Some(Type {
+        primitive,
+        sizes: 0,
+    }))
+}
+
+/// The primitive type that a word spells.
+fn primitive_of(words: &[Word<'_>], at: usize) -> Option<Primitive> {
+    match bytes_at(words, at) {
+        b"BOOL" => Some(Primitive::Bool),
+        b"BYTE" => Some(Primitive::Byte),
+        b"INT" => Some(Primitive::Int),
+        _ => None,
+    }
+}
+
+/// A type with so many sizes, under so many subscripts.
+fn under(primitive: Option<Primitive>, sizes: usize, subscripts: usize) -> Step {
+    match (primitive, sizes.checked_sub(subscripts)) {
+        (Some(primitive), Some(sizes)) => Step::Is(Some(Type { primitive, sizes })),
+        _ => Step::Is(None),
+    }
+}
+
+/// The place behind the operand at this place.
+pub(crate) fn operand_end(words: &[Word<'_>], at: usize) -> usize {
+    let next = at.saturating_add(1);
+    match class_at(words, at) {
+        Class::Name => behind_sizes(words, next).0,
+        Class::OpenParen => behind_bracket(words, at),
+        Class::Number | Class::ByteLiteral | Class::Text if has_type(words, at) => {
+            at.saturating_add(4)
+        }
+        _ => next,
+    }
+}
+
+/// Whether a type in brackets stands behind a literal.
+fn has_type(words: &[Word<'_>], at: usize) -> bool {
+    class_at(words, at.saturating_add(1)) == Class::OpenParen
+        && class_at(words, at.saturating_add(2)) == Class::Primitive
+}
+
+/// The place where an operand begins that ends before this place.
+pub(crate) fn operand_begin(words: &[Word<'_>], end: usize) -> usize {
+    let mut found = end.saturating_sub(1);
+    for i in (0..end.min(words.len())).rev() {
+        if operand_end(words, i) == end && is_operand(words[i].class) {
+            found = i;
+        }
+    }
+    found
+}
+
+fn is_operand(class: Class) -> bool {
     matches!(
         class,
-        Class::Chan
-            | Class::OpenBracket
-            | Class::Primitive
-            | Class::Proc
-            | Class::Protocol
-            | Class::Val
+        Class::ByteLiteral
+            | Class::Name
+            | Class::Number
+            | Class::OpenParen
+            | Class::Text
+            | Class::Truth
     )
 }
 
-/// Whether a declaration or a list of formals ends here.
-fn has_end(words: &[Word<'_>]) -> bool {
-    let last = words.len().saturating_sub(1);
-    matches!(class_at(words, last), Class::Colon | Class::CloseParen)
-}
-
-/// Whether a line declares a name.
-pub(crate) fn declares(words: &[Word<'_>], name: &[u8]) -> bool {
-    is_declaring(class_at(words, 0)) && has_end(words) && place_of(words, name).is_some()
-}
-
-/// The place of a name that a declaration gives, before any IS.
-fn place_of(words: &[Word<'_>], name: &[u8]) -> Option<usize> {
-    for (i, word) in words.iter().enumerate() {
-        if word.class == Class::Is {
-            return None;
+/// Whether an operator with two operands gives a BOOL.
+pub(crate) fn gives_truth(words: &[Word<'_>], at: usize) -> bool {
+    match class_at(words, at) {
+        Class::And | Class::Equal | Class::Or => true,
+        Class::Dyadic => {
+            let bytes = bytes_at(words, at);
+            matches!(bytes, b"<>" | b"<" | b">" | b"<=" | b">=" | b"AFTER")
         }
-        if word.class == Class::Name && word.bytes == name {
-            return Some(i);
+        _ => false,
+    }
+}
+
+/// The type of a literal.
+fn literal(words: &[Word<'_>], asked: Asked, primitive: Primitive) -> Step {
+    if has_type(words, asked.at) {
+        under(
+            primitive_of(words, asked.at.saturating_add(2)),
+            0,
+            asked.subscripts,
+        )
+    } else {
+        under(Some(primitive), 0, asked.subscripts)
+    }
+}
+
+/// The type of a declared name.
+fn named(text: &Text<'_>, asked: Asked, name: &[u8], subscripts: usize) -> Step {
+    let Some(found) = declaration_of(text, asked.line, name) else {
+        return Step::Is(None);
+    };
+    let words = text.words_at(found.line);
+    match found.spec.kind {
+        Kind::Index => under(Some(Primitive::Int), 0, subscripts),
+        Kind::Value if found.spec.of >= words.len() => Step::As(Asked {
+            line: found.line,
+            at: found.at.saturating_add(2),
+            subscripts,
+            is_alone: false,
+        }),
+        Kind::Value | Kind::Variable => {
+            under(
+                primitive_of(words, found.spec.of),
+                found.spec.sizes,
+                subscripts,
+            )
+        }
+        _ => Step::Is(None),
+    }
+}
+
+/// The type of what an operator stands before.
+fn behind(asked: Asked, is_alone: bool) -> Step {
+    Step::As(Asked {
+        at: asked.at.saturating_add(1),
+        is_alone,
+        line: asked.line,
+        subscripts: asked.subscripts,
+    })
+}
+
+fn one_step(text: &Text<'_>, asked: Asked) -> Step {
+    let words = text.words_at(asked.line);
+    let Some(word) = words.get(asked.at) else {
+        return Step::Is(None);
+    };
+    let end = operand_end(words, asked.at);
+    match word.class {
+        Class::Most => single(Primitive::Int),
+        Class::Primitive => Step::Is(primitive_of(words, asked.at).map(|primitive| Type {
+            primitive,
+            sizes: 0,
+        })),
+        Class::Monadic => match word.bytes {
+            b"NOT" => single(Primitive::Bool),
+            b"SIZE" => single(Primitive::Int),
+            _ => behind(asked, true),
+        },
+        Class::Minus => behind(asked, true),
+        _ if !asked.is_alone && gives_truth(words, end) => single(Primitive::Bool),
+        Class::OpenParen => behind(asked, false),
+        Class::ByteLiteral => literal(words, asked, Primitive::Byte),
+        Class::Number => literal(words, asked, Primitive::Int),
+        Class::Text => under(Some(Primitive::Byte), 1, asked.subscripts),
+        Class::Truth => under(Some(Primitive::Bool), 0, asked.subscripts),
+        Class::Name => {
+            let (_, count) = behind_sizes(words, asked.at.saturating_add(1));
+            named(
+                text,
+                asked,
+                word.bytes,
+                asked.subscripts.saturating_add(count),
+            )
+        }
+        _ => Step::Is(None),
+    }
+}
+
+fn found_type(text: &Text<'_>, asked: Asked) -> Option<Type> {
+    let mut asked = asked;
+    for _ in 0..MOST_STEPS {
+        match one_step(text, asked) {
+            Step::Is(found) => return found,
+            Step::As(other) => asked = other,
         }
     }
     None
 }
 
-/// The type before a place of a declaration, in two pieces of which one may be empty.
-fn type_before<'a>(words: &[Word<'a>], at: usize) -> Option<(&'static str, &'a [u8])> {
-    for i in (0..at.min(words.len())).rev() {
+/// The type of the expression at this place of a line, where the words tell it.
+pub(crate) fn type_at(text: &Text<'_>, line: usize, at: usize) -> Option<Type> {
+    found_type(
+        text,
+        Asked {
+            line,
+            at,
+            subscripts: 0,
+            is_alone: false,
+        },
+    )
+}
+
+/// The type of the operand at this place of a line, where the words tell it.
+pub(crate) fn operand_type(text: &Text<'_>, line: usize, at: usize) -> Option<Type> {
+    found_type(
+        text,
+        Asked {
+            line,
+            at,
+            subscripts: 0,
+            is_alone: true,
+        },
+    )
+}
+
+/// The type that is spelled at this place: sizes, and a primitive type.
+pub(crate) fn spelled_type(words: &[Word<'_>], at: usize) -> Option<Type> {
+    let (of, sizes) = behind_sizes(words, at);
+    let primitive = primitive_of(words, of)?;
+    Some(Type { primitive, sizes })
+}
+
+/// The place where an expression that begins here ends.
+pub(crate) fn expression_end(words: &[Word<'_>], at: usize) -> usize {
+    let mut depth: usize = 0;
+    for i in at..words.len() {
         match words[i].class {
-            Class::Of => return Some(("CHAN OF ", words.get(i + 1)?.bytes)),
-            Class::Proc => return Some(("the PROC", b"")),
-            Class::Primitive => {
-                let before = if i > 0 {
-                    words[i - 1].class
-                } else {
-                    Class::End
-                };
-                return Some((before_type(before), words[i].bytes));
-            }
+            Class::OpenBracket | Class::OpenParen => depth = depth.saturating_add(1),
+            Class::CloseBracket | Class::CloseParen if depth == 0 => return i,
+            Class::CloseBracket | Class::CloseParen => depth = depth.saturating_sub(1),
+            Class::Ampersand
+            | Class::Assign
+            | Class::Colon
+            | Class::Comma
+            | Class::DoubleColon
+            | Class::Exclamation
+            | Class::For
+            | Class::Is
+            | Class::Question
+            | Class::Semicolon
+                if depth == 0 => return i,
             _ => {}
         }
     }
-    None
+    words.len()
 }
 
-/// What is told before a primitive type, by the word before it.
-fn before_type(class: Class) -> &'static str {
-    match class {
-        Class::Of => "CHAN OF ",
-        Class::CloseBracket => "an array of ",
-        _ => "",
+/// How a type is called.
+pub(crate) fn called(found: Type) -> &'static str {
+    match (found.primitive, found.sizes) {
+        (Primitive::Bool, 0) => "a BOOL",
+        (Primitive::Byte, 0) => "a BYTE",
+        (Primitive::Int, 0) => "an INT",
+        (Primitive::Bool, _) => "an array of BOOL",
+        (Primitive::Byte, _) => "an array of BYTE",
+        (Primitive::Int, _) => "an array of INT",
     }
 }
 
-/// The type of a name at a line, by the last line before it that declares the name: that line's place, what stands before
-/// the primitive type, and that type.
-fn declared_type<'a>(
-    text: &Text<'a>,
-    index: usize,
-    name: &[u8],
-) -> Option<(usize, &'static str, &'a [u8])> {
-    for i in (0..index).rev() {
-        let words = text.words_at(i);
-        if declares(words, name) {
-            let at = place_of(words, name)?;
-            let (called, primitive) = type_before(words, at)?;
-            return Some((i, called, primitive));
+/// The words from one place up to another, as they stand in the text: with a space between two where it has one.
+pub(crate) fn words_text(
+    alloc: Global,
+    words: &[Word<'_>],
+    from: usize,
+    to: usize,
+) -> Result<Vec<u8>, AllocError> {
+    let mut out = Vec::new(alloc);
+    let mut end: Option<(u32, usize)> = None;
+    for i in from..to.min(words.len()) {
+        let word = words[i];
+        let is_beside = match end {
+            Some((line, place)) => line == word.line && place == word.before,
+            None => true,
+        };
+        if !is_beside {
+            out.extend_from_slice(b" ")?;
+        }
+        out.extend_from_slice(told(word.bytes))?;
+        end = Some((word.line, word.before.saturating_add(word.bytes.len())));
+    }
+    Ok(out)
+}
+
+/// How many characters a string has.
+fn characters(literal: &[u8]) -> usize {
+    let mut count: usize = 0;
+    let mut code: usize = 0;
+    for (i, byte) in literal.iter().enumerate() {
+        if i == 0 {
+            continue;
+        }
+        match code {
+            // behind a star, and in its two digits
+            3 if *byte == b'#' => code = 2,
+            3 => code = 0,
+            0 if *byte == b'"' => return count,
+            0 => {
+                count = count.saturating_add(1);
+                code = if *byte == b'*' { 3 } else { 0 };
+            }
+            _ => code = code.saturating_sub(1),
         }
     }
-    None
+    count
+}
+
+/// A type with its sizes as they are written, where the expression is a name or a string alone, or how it is called.
+pub(crate) fn type_text(
+    alloc: Global,
+    text: &Text<'_>,
+    line: usize,
+    at: usize,
+    found: Type,
+) -> Result<Vec<u8>, AllocError> {
+    let words = text.words_at(line);
+    let is_alone = expression_end(words, at) == at.saturating_add(1);
+    if let Some(word) = words.get(at)
+        && found.sizes > 0
+        && is_alone
+    {
+        if word.class == Class::Text {
+            let size = characters(word.bytes);
+            let size = format!(in alloc; "{size}")?;
+            return between(alloc, "a [", size.as_bytes(), "]BYTE");
+        }
+        if let Some(found) = declaration_of(text, line, word.bytes)
+            && found.spec.of < text.words_at(found.line).len()
+        {
+            let spelled = spelled_text(alloc, text, &found)?;
+            return between(alloc, "a ", spelled.as_slice(), "");
+        }
+    }
+    between(alloc, called(found), b"", "")
+}
+
+/// What stands before a name where it is declared.
+pub(crate) fn spelled_text(
+    alloc: Global,
+    text: &Text<'_>,
+    found: &Declared,
+) -> Result<Vec<u8>, AllocError> {
+    words_text(
+        alloc,
+        text.words_at(found.line),
+        found.spec.from,
+        found.spec.to,
+    )
 }
 
 /// Whether the word stands among those before it.
@@ -98,7 +383,7 @@ fn is_again(words: &[Word<'_>], at: usize) -> bool {
     words.iter().take(at).any(|other| other.bytes == word.bytes)
 }
 
-/// What the names of a line are declared as: ``b` is BYTE (line 2)`, with a comma between two.
+/// What the names of a line are declared as: ``b` is a BYTE (line 2)`, with a comma between two.
 pub(crate) fn types_text(
     alloc: Global,
     text: &Text<'_>,
@@ -107,8 +392,11 @@ pub(crate) fn types_text(
     let mut out = Vec::new(alloc);
     let words = text.words_at(index);
     for (i, word) in words.iter().enumerate() {
-        if word.class == Class::Name && !is_again(words, i) {
-            write_type(alloc, &mut out, text, index, word.bytes)?;
+        if word.class == Class::Name
+            && !is_again(words, i)
+            && let Some(found) = declaration_of(text, index, word.bytes)
+        {
+            write_type(alloc, &mut out, text, word.bytes, &found)?;
         }
     }
     Ok(out)
@@ -118,20 +406,37 @@ fn write_type(
     alloc: Global,
     out: &mut Vec<u8>,
     text: &Text<'_>,
-    index: usize,
     name: &[u8],
+    found: &Declared,
 ) -> Result<(), AllocError> {
-    let Some((line, called, primitive)) = declared_type(text, index, name) else {
-        return Ok(());
-    };
-    let number = text.number_at(line);
     if !out.is_empty() {
         out.extend_from_slice(b", ")?;
     }
-    let mut type_text = between(alloc, called, primitive, "")?;
     let named = between(alloc, "`", name, "` is ")?;
-    let place = format!(in alloc; " (line {number})")?;
     out.extend_from_slice(named.as_slice())?;
-    out.append(&mut type_text)?;
-    out.extend_from_slice(place.as_bytes())
+    let mut told = declared_text(alloc, text, found)?;
+    out.append(&mut told)
+}
+
+/// What a name is declared as, and in which line.
+pub(crate) fn declared_text(
+    alloc: Global,
+    text: &Text<'_>,
+    found: &Declared,
+) -> Result<Vec<u8>, AllocError> {
+    let number = text.number_at(found.line);
+    let place = format!(in alloc; " (line {number})")?;
+    let spelled = spelled_text(alloc, text, found)?;
+    let kind = match found.spec.kind {
+        Kind::Procedure => "a PROC",
+        Kind::Protocol => "a protocol",
+        Kind::Index => "the index of a replicator",
+        Kind::Value if found.spec.of == usize::MAX => "a value named by VAL",
+        Kind::Value => "a VAL ",
+        Kind::Variable if spelled.starts_with(b"INT") => "an ",
+        Kind::Variable | Kind::Channel => "a ",
+    };
+    let mut told = between(alloc, kind, spelled.as_slice(), "")?;
+    told.extend_from_slice(place.as_bytes())?;
+    Ok(told)
 }

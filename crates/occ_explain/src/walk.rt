@@ -22,6 +22,14 @@ pub(crate) fn class_at(words: &[Word<'_>], at: usize) -> Class {
     }
 }
 
+/// The bytes of a word; none behind the last one.
+pub(crate) fn bytes_at<'a>(words: &[Word<'a>], at: usize) -> &'a [u8] {
+    match words.get(at) {
+        Some(word) => word.bytes,
+        None => b"",
+    }
+}
+
 /// How many steps a line of so many words takes at most: each word has a part of its own, and is tried at few others.
 fn most_steps(words: usize) -> usize {
     words.saturating_mul(16).saturating_add(64)
