@@ -199,7 +199,7 @@ module _ (u : UnfoldedProgram) (p : Program) (quantum : ℕ) (kb : List ℕ) (w 
   all_room : (cs : List Choice) → length cs < 2 ^ 64 → left_over cs + length cs + 1 ≡ 2 ^ 64
   all_room cs few = omega (arith, few)
 
-  abbrev pub run_at : (cs : List Choice) (net : Net) → length cs < 2 ^ 64 → Replays p kb cs net → IsOneRun u p quantum kb cs net
+  abbrev run_at : (cs : List Choice) (net : Net) → length cs < 2 ^ 64 → Replays p kb cs net → IsOneRun u p quantum kb cs net
   run_at cs net few r = one_run cs net (left_over cs) (room cs few) (all_room cs few) r
 
   abbrev Further : {cs ds : List Choice} {a b : Net} → IsOneRun u p quantum kb cs a → IsOneRun u p quantum kb ds b → Type 0
