@@ -106,13 +106,13 @@ gets_by pick c offers m net n t w a h e (by_choice x q) = arm_gets h e x q
 
 -- ---- the keyboard's channel
 
-past : (kb : List ℕ) (n : ℕ) → length kb ≤ n → drop n kb ≡ []
+pub past : (kb : List ℕ) (n : ℕ) → length kb ≤ n → drop n kb ≡ []
 past [] zero h = refl
 past [] (suc n) h = refl
 past (x ∷ kb) zero h = absurd (omega (arith, h))
 past (x ∷ kb) (suc n) h = past kb n (omega (arith, h))
 
-there : (kb : List ℕ) (n : ℕ) → n < length kb → (b : ℕ) × (rest : List ℕ) × (drop n kb ≡ b ∷ rest)
+pub there : (kb : List ℕ) (n : ℕ) → n < length kb → (b : ℕ) × (rest : List ℕ) × (drop n kb ≡ b ∷ rest)
 there [] n h = absurd (omega (arith, h))
 there (x ∷ kb) zero h = (x, kb, refl)
 there (x ∷ kb) (suc n) h = there kb n (omega (arith, h))

@@ -49,7 +49,7 @@ are_bytes (b ∷ bs) h = (h 0, are_bytes bs (λ k. h (suc k)))
 
 -- ---- a task that may go on says nothing
 
-going_offers : (w : Wait) (c : ℕ) → IsTrue (may_go w) → offers_on w c ≡ false
+pub going_offers : (w : Wait) (c : ℕ) → IsTrue (may_go w) → offers_on w c ≡ false
 going_offers W.Ready c g = refl
 going_offers (W.Took arm is m) c g = refl
 going_offers (W.Offers d m) c g = absurd (true≢false (sym g))

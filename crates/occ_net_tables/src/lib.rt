@@ -3,6 +3,7 @@
 //! communications.
 #![tactic(auto)]
 
+mod asking;
 mod choosing;
 mod copying;
 mod counting;

@@ -2,6 +2,7 @@
 ghost use Rattle.std.specs.Prelude.{◌+◌, ◌<◌, ◌≤◌, ◌^◌, IfOk, IsTrue, OnOk, length};
 ghost use Rattle.occ_choices.specs.Plans.{choices_of};
 ghost use Rattle.occ_proc.specs.Turns.{left_message};
+ghost use Rattle.occ_net_tables.specs.Begun.{BeginsTurn, CanBegin};
 ghost use Rattle.occ_net_tables.specs.Endings.{GoesOn};
 ghost use Rattle.occ_net_tables.specs.Rows.{HasTakenTurn, StandsAlone};
 ghost use Rattle.occ_net_tables.specs.Settling.{HasSomeMid, HasStopped, SettlesBy, SettlesOn, SettlesWait, Standing, TakesTurn, offer_left};
@@ -32,14 +33,9 @@ impl Tables {
         ensures turn { OnOk result (TakesTurn code.now keyboard.now choice self.old self.new) }
         ensures going { IfOk result (λ going. IsTrue going → GoesOn code.now self.new) }
     {
-        code.compiled();
         let place = place_among(choice.which, self.ready.len());
-        let number = self.ready[place];
-        let Some(body) = code.body(number as usize) else {
-            unreachable!()
-        };
-        let end = advance_task(alloc, body, scratch, &mut self.tasks, number)?;
-        self.settle_end(
+        let (number, end) = self.begin_turn(alloc, code, scratch, place)?;
+        self.end_turn(
             alloc,
             code,
             scratch,
@@ -49,6 +45,28 @@ impl Tables {
             end,
             choice.pick,
         )
+    }
+
+    /// The process at this place among the ready ones goes on to its next stop. It answers the process's number and how its
+    /// turn ended; what that makes possible hasn't happened yet. After a refused growth the network is not to be used.
+    #[inline(always)]
+    pub fn begin_turn(
+        &mut self,
+        alloc: Global,
+        code: &Code,
+        scratch: &mut Scratch,
+        place: usize,
+    ) -> Result<(u32, TurnEnd), AllocError>
+        requires { CanBegin code.now self.old place }
+        ensures { IfOk result (λ turn. BeginsTurn code.now self.old place turn scratch.new self.new) }
+    {
+        code.compiled();
+        let number = self.ready[place];
+        let Some(body) = code.body(number as usize) else {
+            unreachable!()
+        };
+        let end = advance_task(alloc, body, scratch, &mut self.tasks, number)?;
+        Ok((number, end))
     }
 
     /// The only process that is ready takes turns in a row, no more than this many, by the choices of the plan from the one with
@@ -83,13 +101,14 @@ impl Tables {
         let Some(last) = plan.at(from + (count as usize - 1)) else {
             unreachable!()
         };
-        let going = self.settle_end(alloc, code, scratch, keyboard, 0, number, end, last.pick)?;
+        let going = self.end_turn(alloc, code, scratch, keyboard, 0, number, end, last.pick)?;
         Ok((count, going))
     }
 
-    /// What happens at once where the turn of a process ended so. It is TRUE only where the run hasn't ended by it.
+    /// What happens at once where the turn of a process ended so. It is TRUE only where the run hasn't ended by it. After a
+    /// refused growth the network is not to be used.
     #[inline(always)]
-    fn settle_end(
+    pub fn end_turn(
         &mut self,
         alloc: Global,
         code: &Code,

@@ -55,8 +55,8 @@ unreachable-requires-in_default-at c =
     let never : Some x.0 ≡ None = sym x.1 ∙ sym c.at.ensures ∙ c.in_default-at.is in
     absurd cc
 
-pub settle_end-requires : goal.settle_end-requires
-settle_end-requires c =
+pub end_turn-requires : goal.end_turn-requires
+end_turn-requires c =
     let p = c.args.code.now in
     let kb = c.args.keyboard.now in
     let n = c.args.self.now in

@@ -11,7 +11,7 @@ use Rattle.occ_net_tables.proofs.Between.{goes_on}
 use Rattle.occ_net_tables.proofs.Going.{goes_where_some}
 use Rattle.occ_net_tables.proofs.Rowed.{mid_behind, own_place, stays_open, tasks_left, turns_behind}
 use Rattle.occ_net_tables.proofs.Turned.{are_bytes}
-use Rattle.occ_net_tables.proofs.tables.Tables.settle_end.Goals as goal
+use Rattle.occ_net_tables.proofs.tables.Tables.end_turn.Goals as goal
 
 pub returns-in-Ready-clause-turn : goal.returns-in-Ready-clause-turn
 returns-in-Ready-clause-turn c =

@@ -1,0 +1,132 @@
+-- A turn that has come to its stop, and whether it looks past the keyboard's bytes.
+use Rattle.std.proofs.Common.{◌≡◌, ◌∙◌, refl, sym, ap, subst, Bool, true, false, IsFalse, IsTrue, ℕ, zero, suc, ◌<◌, ◌≤◌, ◌%◌, List, [], ◌∷◌, Option, Some, None, length, drop, arith}
+use Rattle.std.specs.Prelude.{nat_eq, slice_get, slice_set, ◌||◌}
+use mathlib.Core.Bool.{true≢false}
+use Rattle.occ_machine.specs.Compiled.{Program}
+use Rattle.occ_machine.specs.SameStop.{ready_with}
+use Rattle.occ_machine.specs.declared.task.Arm.{Arm}
+use Rattle.occ_machine.specs.declared.task.Task.{Task}
+use Rattle.occ_machine.specs.declared.task.Wait.{Wait}
+use Rattle.occ_machine.specs.declared.task.Wait.TheVariants as W
+use Rattle.occ_term.specs.declared.message.Part.{Part}
+use Rattle.occ_proc.specs.Turns.{IsLeftReady, standing_at}
+use Rattle.occ_proc.specs.declared.turn_end.TurnEnd.{TurnEnd}
+use Rattle.occ_proc.specs.declared.turn_end.TurnEnd.TheVariants as T
+use Rattle.occ_live_laws.specs.Live.{IsDeaf, StaysWithin, or_keyboard}
+use Rattle.occ_net_replay.specs.declared.choice.Choice.{Choice}
+use Rattle.occ_net_replay.specs.Replay.{HasTask, Net, Tasks, arm_chosen, may_go, offers_among, offers_on}
+use Rattle.occ_net_replay.proofs.Tables.{offers_found, offers_there, set_same, task_once}
+use Rattle.occ_net_tables.specs.declared.tables.Tables.{Tables}
+use Rattle.occ_net_tables.specs.Begun.{AllTaken, BeganTurn, StaysWithinBytes}
+use Rattle.occ_net_tables.specs.Choosing.{arm_at, is_entry, offered_arm, offered_by}
+use Rattle.occ_net_tables.specs.Holding.{Holds, IsTable}
+use Rattle.occ_net_tables.specs.Keys.{entry_in}
+use Rattle.occ_net_tables.specs.Rows.{HasTakenTurn, SettlesEnd}
+use Rattle.occ_net_tables.specs.Settling.{IsTurnAt, Standing, TurnsTo, tables_with}
+use Rattle.occ_net_tables.proofs.Arms.{chosen_same, past, there as there_left}
+use Rattle.occ_net_tables.proofs.Between.{no_entry}
+use Rattle.occ_net_tables.proofs.OneChange.{get_some, table_kept}
+use Rattle.occ_net_tables.proofs.Roomy.{holds_as, same_with}
+use Rattle.occ_net_tables.proofs.Rowed.{has_ended, standing_as, turn_as, turns_last}
+use Rattle.occ_net_tables.proofs.Turned.{going_offers}
+
+-- ---- what follows of a turn that has begun
+
+module _ (p : Program) (kb : List ℕ) (old : Tables) (place number : ℕ) (end : TurnEnd) (items : List Part) (new : Tables) (b : BeganTurn p old place number end items new) (s : Standing p kb old) where
+  abbrev after : Task
+  after = ready_with b.left (standing_at end items b.left.wait)
+
+  abbrev start : Tables
+  start = tables_with old number b.first
+
+  stands : Standing p kb start
+  stands = standing_as p kb old start (same_with old number b.first b.there) s
+
+  turn : IsTurnAt p start place number after
+  turn = turn_as p old start place number after (same_with old number b.first b.there) b.turn
+
+  pub has_taken : HasTakenTurn p kb new place number end items
+  has_taken =
+      has_ended p kb old place number b.first b.there new b.left b.tasks (ap (λ n. n.ready) b.others) (ap (λ n. n.offering) b.others) (ap (λ n. n.awaiting) b.others) (ap (λ n. n.parents) b.others) (ap (λ n. n.unfinished) b.others)
+      (ap (λ n. n.fault) b.others) (ap (λ n. n.used) b.others) (ap (λ n. n.trace) b.others) end items b.first stands turn b.ready
+
+  pub has_turned : (pick : ℕ) (last : Tables) → SettlesEnd p kb place number end items pick new last → (net : Net) → Holds p kb old net → (choice : Choice) → place ≡ choice.which % length old.ready.items → pick ≡ choice.pick → TurnsTo p kb choice net last
+  has_turned pick last settles net h choice own same =
+      turns_last p kb old place number b.first b.there new b.left b.tasks (ap (λ n. n.ready) b.others) (ap (λ n. n.offering) b.others) (ap (λ n. n.awaiting) b.others) (ap (λ n. n.parents) b.others) (ap (λ n. n.unfinished) b.others)
+      (ap (λ n. n.fault) b.others) (ap (λ n. n.used) b.others) (ap (λ n. n.trace) b.others) end items b.first stands turn pick last settles net (holds_as old start (same_with old number b.first b.there) p kb net h) choice own same
+
+-- ---- who is deaf
+
+pub deaf_as : (pick : ℕ) (f g : ℕ → Bool) → ((c : ℕ) → f c ≡ g c) → (w : Wait) → IsDeaf pick f w → IsDeaf pick g w
+deaf_as pick f g h W.Ready d = tt
+deaf_as pick f g h (W.Took arm is m) d = tt
+deaf_as pick f g h (W.Offers c m) d = tt
+deaf_as pick f g h (W.Awaits c) d = d
+deaf_as pick f g h (W.Chooses pri arms) d =
+    sym (chosen_same (or_keyboard f) (or_keyboard g) (λ c. ap (λ b. nat_eq c 0 || b) (h c)) pri pick arms) ∙ d ∙ chosen_same f g h pri pick arms
+deaf_as pick f g h (W.Joins ns) d = tt
+deaf_as pick f g h W.Halted d = tt
+deaf_as pick f g h W.Done d = tt
+deaf_as pick f g h (W.Faulted e) d = tt
+
+-- two places at which the same arm stands
+pub deaf_choice : (pri : Bool) (pick : ℕ) (table : List (Option ℕ)) (arms : List Arm) (x y : Option ℕ) → arm_at arms x ≡ offered_arm pri pick (Some 0) table arms → arm_at arms y ≡ offered_arm pri pick None table arms → x ≡ y
+    → arm_chosen pri pick (or_keyboard (offered_by None table)) arms ≡ arm_chosen pri pick (offered_by None table) arms
+deaf_choice pri pick table arms x y e f same =
+    chosen_same (or_keyboard (offered_by None table)) (offered_by (Some 0) table) (λ c. refl) pri pick arms ∙ sym e ∙ ap (arm_at arms) same ∙ f
+
+-- the table says who offers
+module _ (tasks : Tasks) (table : List (Option ℕ)) (h : IsTable offers_on tasks table) where
+  pub offers_told : (c : ℕ) → offers_among tasks c ≡ offered_by None table c
+  offers_told c = by (entry_in table c) refl
+    where
+      unless : (b : Bool) → (IsTrue b → ⊥) → b ≡ false
+      unless true g = absurd (g refl)
+      unless false g = refl
+
+      by : (x : Option ℕ) → entry_in table c ≡ x → offers_among tasks c ≡ is_entry x
+      by (Some giver) e = let s = h.sound c giver (entry_there table c giver e) in offers_there tasks c giver s.task s.there s.is
+      by None e = unless (offers_among tasks c) (λ o. let f = offers_found tasks c o in no_entry table c f.number e (h.whole c f.number f.task f.there f.offers))
+
+-- ---- a turn that ended so stays within the bytes
+
+module _ (kb : List ℕ) (n : Tables) (number pick : ℕ) where
+  pub stays_where_some : (end : TurnEnd) → n.used < length kb → StaysWithinBytes kb n number end pick
+  stays_where_some end less = λ p first left items net h may there e. let some = there_left kb n.used less in let none : some.0 ∷ some.1 ≡ [] = sym some.2 ∙ sym h.bytes ∙ e in absurd cc
+
+  pub all_taken : length kb ≤ n.used → AllTaken kb n
+  all_taken most = λ p i first net h. h.bytes ∙ past kb n.used most
+
+  pub stays_ready : StaysWithinBytes kb n number T.Ready pick
+  stays_ready = λ p first left items net h may there e. tt
+
+  pub stays_offering : (tag : Option ℕ) (chan : ℕ) → StaysWithinBytes kb n number (T.Offers tag chan) pick
+  stays_offering tag chan = λ p first left items net h may there e. tt
+
+  pub stays_awaiting : (chan : ℕ) → nat_eq chan 0 ≡ false → StaysWithinBytes kb n number (T.Awaits chan) pick
+  stays_awaiting chan other = λ p first left items net h may there e. other
+
+  pub stays_elsewhere : (t : Task) → HasTask n.tasks.items number t → IsDeaf pick (offered_by None n.offering.items) t.wait → StaysWithinBytes kb n number T.Other pick
+  stays_elsewhere t here deaf = λ p first left items net h may there e. at p first left net h may there (subst (λ (z : Task). IsDeaf pick (offered_by None n.offering.items) z.wait) (task_once n.tasks.items number here there) deaf)
+    where
+      at : (p : Program) (first left : Task) (net : Net) → Holds p kb (tables_with n number first) net → IsTrue (may_go first.wait) → HasTask n.tasks.items number left → IsDeaf pick (offered_by None n.offering.items) left.wait → IsDeaf pick (offers_among (slice_set net.tasks number (Some left))) left.wait
+      at p first left net h may there deaf = by left.wait refl deaf
+        where
+          beside : ((c : ℕ) → offers_on left.wait c ≡ false) → (c : ℕ) → offered_by None n.offering.items c ≡ offers_among (slice_set net.tasks number (Some left)) c
+          beside silent c =
+              let tasks = (tables_with n number first).tasks.items in
+              let was : HasTask tasks number first = set_same n.tasks.items number (Some left) (Some first) there in
+              let table = table_kept tasks number first left was first.wait left.wait refl refl offers_on (λ d. going_offers first.wait d may) silent n.offering.items h.sound.offers in
+              sym (offers_told (slice_set tasks number (Some left)) n.offering.items table c) ∙ ap (λ (l : Tasks). offers_among (slice_set l number (Some left)) c) (sym h.tasks)
+
+          by : (w : Wait) → left.wait ≡ w → IsDeaf pick (offered_by None n.offering.items) w → IsDeaf pick (offers_among (slice_set net.tasks number (Some left))) w
+          by W.Ready e d = tt
+          by (W.Took arm is m) e d = tt
+          by (W.Offers c m) e d = tt
+          by (W.Awaits c) e d = d
+          by (W.Chooses pri arms) e d =
+              deaf_as pick (offered_by None n.offering.items) (offers_among (slice_set net.tasks number (Some left))) (beside (λ c. ap (λ z. offers_on z c) e)) (W.Chooses pri arms) d
+          by (W.Joins ns) e d = tt
+          by W.Halted e d = tt
+          by W.Done e d = tt
+          by (W.Faulted f) e d = tt
