@@ -17,6 +17,7 @@ use Rattle.occ_net_replay.specs.declared.choice.Choice.{Choice}
 use Rattle.occ_net_replay.specs.Replay.{HasTask, Net, Tasks, arm_chosen, may_go, offers_among, offers_on}
 use Rattle.occ_net_replay.proofs.Tables.{offers_found, offers_there, set_same, task_once}
 use Rattle.occ_net_tables.specs.declared.tables.Tables.{Tables}
+use Rattle.occ_net_tables.specs.declared.turning.Begun.{Begun}
 use Rattle.occ_net_tables.specs.Begun.{AllTaken, BeganTurn, StaysWithinBytes}
 use Rattle.occ_net_tables.specs.Choosing.{arm_at, is_entry, offered_arm, offered_by}
 use Rattle.occ_net_tables.specs.Holding.{Holds, IsTable}
@@ -32,28 +33,29 @@ use Rattle.occ_net_tables.proofs.Turned.{going_offers}
 
 -- ---- what follows of a turn that has begun
 
-module _ (p : Program) (kb : List ℕ) (old : Tables) (place number : ℕ) (end : TurnEnd) (items : List Part) (new : Tables) (b : BeganTurn p old place number end items new) (s : Standing p kb old) where
+module _ (p : Program) (kb : List ℕ) (choice : Choice) (old : Tables) (begun : Begun) (items : List Part) (new : Tables) (b : BeganTurn p choice old begun items new) (s : Standing p kb old) where
   abbrev after : Task
-  after = ready_with b.left (standing_at end items b.left.wait)
+  after = ready_with b.left (standing_at begun.end items b.left.wait)
 
   abbrev start : Tables
-  start = tables_with old number b.first
+  start = tables_with old begun.number b.first
 
   stands : Standing p kb start
-  stands = standing_as p kb old start (same_with old number b.first b.there) s
+  stands = standing_as p kb old start (same_with old begun.number b.first b.there) s
 
-  turn : IsTurnAt p start place number after
-  turn = turn_as p old start place number after (same_with old number b.first b.there) b.turn
+  turn : IsTurnAt p start begun.place begun.number after
+  turn = turn_as p old start begun.place begun.number after (same_with old begun.number b.first b.there) b.turn
 
-  pub has_taken : HasTakenTurn p kb new place number end items
+  pub has_taken : HasTakenTurn p kb new begun.place begun.number begun.end items
   has_taken =
-      has_ended p kb old place number b.first b.there new b.left b.tasks (ap (λ n. n.ready) b.others) (ap (λ n. n.offering) b.others) (ap (λ n. n.awaiting) b.others) (ap (λ n. n.parents) b.others) (ap (λ n. n.unfinished) b.others)
-      (ap (λ n. n.fault) b.others) (ap (λ n. n.used) b.others) (ap (λ n. n.trace) b.others) end items b.first stands turn b.ready
+      has_ended p kb old begun.place begun.number b.first b.there new b.left b.tasks (ap (λ n. n.ready) b.others) (ap (λ n. n.offering) b.others) (ap (λ n. n.awaiting) b.others) (ap (λ n. n.parents) b.others) (ap (λ n. n.unfinished) b.others)
+      (ap (λ n. n.fault) b.others) (ap (λ n. n.used) b.others) (ap (λ n. n.trace) b.others) begun.end items b.first stands turn b.ready
 
-  pub has_turned : (pick : ℕ) (last : Tables) → SettlesEnd p kb place number end items pick new last → (net : Net) → Holds p kb old net → (choice : Choice) → place ≡ choice.which % length old.ready.items → pick ≡ choice.pick → TurnsTo p kb choice net last
-  has_turned pick last settles net h choice own same =
-      turns_last p kb old place number b.first b.there new b.left b.tasks (ap (λ n. n.ready) b.others) (ap (λ n. n.offering) b.others) (ap (λ n. n.awaiting) b.others) (ap (λ n. n.parents) b.others) (ap (λ n. n.unfinished) b.others)
-      (ap (λ n. n.fault) b.others) (ap (λ n. n.used) b.others) (ap (λ n. n.trace) b.others) end items b.first stands turn pick last settles net (holds_as old start (same_with old number b.first b.there) p kb net h) choice own same
+  pub has_turned : (last : Tables) → SettlesEnd p kb begun.place begun.number begun.end items choice.pick new last → (net : Net) → Holds p kb old net → TurnsTo p kb choice net last
+  has_turned last settles net h =
+      turns_last p kb old begun.place begun.number b.first b.there new b.left b.tasks (ap (λ n. n.ready) b.others) (ap (λ n. n.offering) b.others) (ap (λ n. n.awaiting) b.others) (ap (λ n. n.parents) b.others) (ap (λ n. n.unfinished) b.others)
+      (ap (λ n. n.fault) b.others) (ap (λ n. n.used) b.others) (ap (λ n. n.trace) b.others) begun.end items b.first stands turn choice.pick last settles net
+      (holds_as old start (same_with old begun.number b.first b.there) p kb net h) choice b.selects refl
 
 -- ---- who is deaf
 
@@ -90,24 +92,29 @@ module _ (tasks : Tasks) (table : List (Option ℕ)) (h : IsTable offers_on task
 
 -- ---- a turn that ended so stays within the bytes
 
-module _ (kb : List ℕ) (n : Tables) (number pick : ℕ) where
-  pub stays_where_some : (end : TurnEnd) → n.used < length kb → StaysWithinBytes kb n number end pick
-  stays_where_some end less = λ p first left items net h may there e. let some = there_left kb n.used less in let none : some.0 ∷ some.1 ≡ [] = sym some.2 ∙ sym h.bytes ∙ e in absurd cc
+module _ (kb : List ℕ) (n : Tables) (begun : Begun) (pick : ℕ) where
+  abbrev number : ℕ
+  number = begun.number
+
+  pub stays_where_some : n.used < length kb → StaysWithinBytes kb n begun pick
+  stays_where_some less = λ p first left items net h may there e. let some = there_left kb n.used less in let none : some.0 ∷ some.1 ≡ [] = sym some.2 ∙ sym h.bytes ∙ e in absurd cc
 
   pub all_taken : length kb ≤ n.used → AllTaken kb n
   all_taken most = λ p i first net h. h.bytes ∙ past kb n.used most
 
-  pub stays_ready : StaysWithinBytes kb n number T.Ready pick
-  stays_ready = λ p first left items net h may there e. tt
+  pub stays_ready : begun.end ≡ T.Ready → StaysWithinBytes kb n begun pick
+  stays_ready is = λ p first left items net h may there e. subst (λ (z : TurnEnd). IsDeaf pick (offers_among (slice_set net.tasks number (Some (ready_with left (standing_at z items left.wait))))) (standing_at z items left.wait)) (sym is) tt
 
-  pub stays_offering : (tag : Option ℕ) (chan : ℕ) → StaysWithinBytes kb n number (T.Offers tag chan) pick
-  stays_offering tag chan = λ p first left items net h may there e. tt
+  pub stays_offering : (tag : Option ℕ) (chan : ℕ) → begun.end ≡ T.Offers tag chan → StaysWithinBytes kb n begun pick
+  stays_offering tag chan is = λ p first left items net h may there e. subst (λ (z : TurnEnd). IsDeaf pick (offers_among (slice_set net.tasks number (Some (ready_with left (standing_at z items left.wait))))) (standing_at z items left.wait)) (sym is) tt
 
-  pub stays_awaiting : (chan : ℕ) → nat_eq chan 0 ≡ false → StaysWithinBytes kb n number (T.Awaits chan) pick
-  stays_awaiting chan other = λ p first left items net h may there e. other
+  pub stays_awaiting : (chan : ℕ) → begun.end ≡ T.Awaits chan → nat_eq chan 0 ≡ false → StaysWithinBytes kb n begun pick
+  stays_awaiting chan is other = λ p first left items net h may there e. subst (λ (z : TurnEnd). IsDeaf pick (offers_among (slice_set net.tasks number (Some (ready_with left (standing_at z items left.wait))))) (standing_at z items left.wait)) (sym is) other
 
-  pub stays_elsewhere : (t : Task) → HasTask n.tasks.items number t → IsDeaf pick (offered_by None n.offering.items) t.wait → StaysWithinBytes kb n number T.Other pick
-  stays_elsewhere t here deaf = λ p first left items net h may there e. at p first left net h may there (subst (λ (z : Task). IsDeaf pick (offered_by None n.offering.items) z.wait) (task_once n.tasks.items number here there) deaf)
+  pub stays_elsewhere : begun.end ≡ T.Other → (t : Task) → HasTask n.tasks.items number t → IsDeaf pick (offered_by None n.offering.items) t.wait → StaysWithinBytes kb n begun pick
+  stays_elsewhere is t here deaf = λ p first left items net h may there e.
+      subst (λ (z : TurnEnd). IsDeaf pick (offers_among (slice_set net.tasks number (Some (ready_with left (standing_at z items left.wait))))) (standing_at z items left.wait)) (sym is)
+      (at p first left net h may there (subst (λ (z : Task). IsDeaf pick (offered_by None n.offering.items) z.wait) (task_once n.tasks.items number here there) deaf))
     where
       at : (p : Program) (first left : Task) (net : Net) → Holds p kb (tables_with n number first) net → IsTrue (may_go first.wait) → HasTask n.tasks.items number left → IsDeaf pick (offered_by None n.offering.items) left.wait → IsDeaf pick (offers_among (slice_set net.tasks number (Some left))) left.wait
       at p first left net h may there deaf = by left.wait refl deaf

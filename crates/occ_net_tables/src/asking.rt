@@ -6,25 +6,26 @@ ghost use Rattle.occ_net_tables.specs.Choosing.{offered_by};
 
 use crate::choosing::choose_arm;
 use crate::tables::Tables;
+use crate::turning::Begun;
 use occ_machine::Wait;
 use occ_proc::TurnEnd;
 use occ_term::KEYBOARD;
 
 impl Tables {
-    /// Whether a turn of this process that ended so looks past the keyboard's bytes: none of them is left, and what the process
+    /// Whether this turn looks past the keyboard's bytes: none of them is left, and what the process
     /// does next depends on whether there is another one.
     #[inline(always)]
-    pub fn asks(&self, keyboard: &[u8], number: u32, end: TurnEnd, pick: u32) -> bool
-        requires { StandsAt self.now number }
-        ensures within { IsFalse result → StaysWithinBytes keyboard.now self.now number end pick }
+    pub fn asks(&self, keyboard: &[u8], begun: Begun, pick: u32) -> bool
+        requires { StandsAt self.now begun.number }
+        ensures within { IsFalse result → StaysWithinBytes keyboard.now self.now begun pick }
         ensures taken { IsTrue result → AllTaken keyboard.now self.now }
     {
         if self.used < keyboard.len() {
             return false;
         }
-        match end {
+        match begun.end {
             TurnEnd::Awaits(chan) => chan == KEYBOARD,
-            TurnEnd::Other => match &self.tasks[number as usize] {
+            TurnEnd::Other => match &self.tasks[begun.number as usize] {
                 Some(task) => self.hears(&task.wait, pick),
                 None => unreachable!(),
             },

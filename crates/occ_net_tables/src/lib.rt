@@ -17,7 +17,8 @@ pub mod running;
 mod settling;
 pub mod tables;
 mod tasks;
-mod turning;
+pub mod turning;
 
 pub use running::{Keep, Outcome, Ran, run, run_tables};
 pub use tables::Tables;
+pub use turning::Begun;

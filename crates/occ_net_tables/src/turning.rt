@@ -1,10 +1,9 @@
 //! A turn of the network: the chosen process goes on, and what that makes possible happens.
 ghost use Rattle.std.specs.Prelude.{◌+◌, ◌<◌, ◌≤◌, ◌^◌, IfOk, IsTrue, OnOk, length};
 ghost use Rattle.occ_choices.specs.Plans.{choices_of};
-ghost use Rattle.occ_proc.specs.Turns.{left_message};
-ghost use Rattle.occ_net_tables.specs.Begun.{BeginsTurn, CanBegin};
+ghost use Rattle.occ_net_tables.specs.Begun.{BeginsTurn, CanBegin, IsBegun};
 ghost use Rattle.occ_net_tables.specs.Endings.{GoesOn};
-ghost use Rattle.occ_net_tables.specs.Rows.{HasTakenTurn, StandsAlone};
+ghost use Rattle.occ_net_tables.specs.Rows.{StandsAlone};
 ghost use Rattle.occ_net_tables.specs.Settling.{HasSomeMid, HasStopped, SettlesBy, SettlesOn, SettlesWait, Standing, TakesTurn, offer_left};
 ghost use Rattle.occ_net_tables.specs.Turning.{SettlesTurn, TakesRowOf};
 
@@ -16,6 +15,17 @@ use occ_machine::{Code, Wait};
 use occ_net_replay::Choice;
 use occ_proc::{Scratch, TurnEnd};
 use std::alloc::{AllocError, Global};
+
+/// A turn that has come to its stop, before anything happens behind it.
+#[derive(Clone, Copy, Debug)]
+pub struct Begun {
+    /// The place of its process among the ready ones.
+    pub place: usize,
+    /// The number of its process.
+    pub number: u32,
+    /// How it ended.
+    pub end: TurnEnd,
+}
 
 impl Tables {
     /// The process that the choice selects takes a turn, and what that makes possible happens. It is TRUE only where the
@@ -33,40 +43,31 @@ impl Tables {
         ensures turn { OnOk result (TakesTurn code.now keyboard.now choice self.old self.new) }
         ensures going { IfOk result (λ going. IsTrue going → GoesOn code.now self.new) }
     {
-        let place = place_among(choice.which, self.ready.len());
-        let (number, end) = self.begin_turn(alloc, code, scratch, place)?;
-        self.end_turn(
-            alloc,
-            code,
-            scratch,
-            keyboard,
-            place,
-            number,
-            end,
-            choice.pick,
-        )
+        let begun = self.begin_turn(alloc, code, scratch, choice)?;
+        self.end_turn(alloc, code, scratch, keyboard, begun, choice.pick)
     }
 
-    /// The process at this place among the ready ones goes on to its next stop. It answers the process's number and how its
-    /// turn ended; what that makes possible hasn't happened yet. After a refused growth the network is not to be used.
+    /// The process that the choice selects goes on to its next stop. What that makes possible hasn't happened yet. After a
+    /// refused growth the network is not to be used.
     #[inline(always)]
     pub fn begin_turn(
         &mut self,
         alloc: Global,
         code: &Code,
         scratch: &mut Scratch,
-        place: usize,
-    ) -> Result<(u32, TurnEnd), AllocError>
-        requires { CanBegin code.now self.old place }
-        ensures { IfOk result (λ turn. BeginsTurn code.now self.old place turn scratch.new self.new) }
+        choice: Choice,
+    ) -> Result<Begun, AllocError>
+        requires { CanBegin code.now self.old }
+        ensures { IfOk result (λ begun. BeginsTurn code.now choice self.old begun scratch.new self.new) }
     {
         code.compiled();
+        let place = place_among(choice.which, self.ready.len());
         let number = self.ready[place];
         let Some(body) = code.body(number as usize) else {
             unreachable!()
         };
         let end = advance_task(alloc, body, scratch, &mut self.tasks, number)?;
-        Ok((number, end))
+        Ok(Begun { place, number, end })
     }
 
     /// The only process that is ready takes turns in a row, no more than this many, by the choices of the plan from the one with
@@ -101,7 +102,12 @@ impl Tables {
         let Some(last) = plan.at(from + (count as usize - 1)) else {
             unreachable!()
         };
-        let going = self.end_turn(alloc, code, scratch, keyboard, 0, number, end, last.pick)?;
+        let begun = Begun {
+            place: 0,
+            number,
+            end,
+        };
+        let going = self.end_turn(alloc, code, scratch, keyboard, begun, last.pick)?;
         Ok((count, going))
     }
 
@@ -114,19 +120,17 @@ impl Tables {
         code: &Code,
         scratch: &mut Scratch,
         keyboard: &[u8],
-        place: usize,
-        number: u32,
-        end: TurnEnd,
+        begun: Begun,
         pick: u32,
     ) -> Result<bool, AllocError>
-        requires { HasTakenTurn code.now keyboard.now self.old place number end
-            (left_message scratch.old) }
+        requires { IsBegun code.now keyboard.now self.old begun scratch.old }
         ensures turn { OnOk result
-            (SettlesTurn code.now keyboard.now place number end scratch.old pick self.old
-            self.new) }
+            (SettlesTurn code.now keyboard.now begun.place begun.number begun.end scratch.old pick
+            self.old self.new) }
         ensures going { IfOk result (λ going. IsTrue going → GoesOn code.now self.new) }
     {
         code.compiled();
+        let Begun { place, number, end } = begun;
         match end {
             TurnEnd::Ready => Ok(true),
             TurnEnd::Offers(tag, chan) => {

@@ -1,18 +1,29 @@
-use Rattle.std.proofs.Common.{◌≡◌, ◌∙◌, ℕ, refl, sym, ap, Some}
+use Rattle.std.proofs.Common.{◌≡◌, ◌∙◌, ◌%◌, ℕ, refl, sym, ap, length, Some, arith}
+use Rattle.std.specs.Prelude.{slice_get}
 use Rattle.occ_proc.specs.Turns.{left_message}
 use Rattle.occ_net_tables.specs.Tasks.{EndedBy}
 use Rattle.occ_net_tables.proofs.Branches.{has_body}
-use Rattle.occ_net_tables.proofs.Turned.{body_small, chosen, has_turn, number_small, read_at}
+use Rattle.occ_net_tables.proofs.Turned.{body_small, chosen, has_turn, number_small, place_within, read_at, some_ready}
 use Rattle.occ_net_tables.proofs.tables.Tables.begin_turn.Goals as goal
+
+pub place_among-place-requires : goal.place_among-place-requires
+place_among-place-requires c =
+    let n = c.args.self.now in
+    let some = some_ready c.args.code.now c.requires.keyboard n c.requires.standing in
+    omega (arith, some, c.len.ensures, n.ready.ok.0)
 
 pub unreachable-requires : goal.unreachable-requires
 unreachable-requires c =
     let p = c.args.code.now in
     let n = c.args.self.now in
     let r = c.requires in
+    let len : c.len.result ≡ length n.ready.items = omega (arith, c.len.ensures, n.ready.ok.0) in
+    let place : ℕ = c.place_among-place.result in
+    let own : place ≡ c.args.choice.which % length n.ready.items = c.place_among-place.ensures ∙ ap (λ (k : ℕ). c.args.choice.which % k) len in
+    let within = place_within c.args.choice.which place (length n.ready.items) own (some_ready p r.keyboard n r.standing) in
     let number : ℕ = c.index-number.result.now in
-    let at = read_at n.ready.items c.args.place number r.within c.index-number.ensures in
-    has_body p number (number_small p r.keyboard n r.standing c.args.place number at) c.in_default.ensures.none
+    let at = read_at n.ready.items place number within c.index-number.ensures in
+    has_body p number (number_small p r.keyboard n r.standing place number at) c.in_default.ensures.none
 
 pub advance_task-requires-clause-small : goal.advance_task-requires-clause-small
 advance_task-requires-clause-small c = body_small c.args.code.now c.index-number.result.now c.deref.result.now c.compiled.ensures (c.in-Some.ensures.some ∙ ap Some (sym c.deref.ensures))
@@ -22,22 +33,31 @@ advance_task-requires-clause-turn c =
     let p = c.args.code.now in
     let n = c.args.self.now in
     let r = c.requires in
+    let len : c.len.result ≡ length n.ready.items = omega (arith, c.len.ensures, n.ready.ok.0) in
+    let place : ℕ = c.place_among-place.result in
+    let own : place ≡ c.args.choice.which % length n.ready.items = c.place_among-place.ensures ∙ ap (λ (k : ℕ). c.args.choice.which % k) len in
+    let within = place_within c.args.choice.which place (length n.ready.items) own (some_ready p r.keyboard n r.standing) in
     let number : ℕ = c.index-number.result.now in
-    let at = read_at n.ready.items c.args.place number r.within c.index-number.ensures in
-    has_turn p r.keyboard n r.standing c.compiled.ensures r.bytes c.args.place number c.deref.result.now at (c.in-Some.ensures.some ∙ ap Some (sym c.deref.ensures))
+    let at = read_at n.ready.items place number within c.index-number.ensures in
+    has_turn p r.keyboard n r.standing c.compiled.ensures r.bytes place number c.deref.result.now at (c.in-Some.ensures.some ∙ ap Some (sym c.deref.ensures))
 
 pub returns-in_ok-end : goal.returns-in_ok-end
 returns-in_ok-end c =
     let p = c.args.code.now in
     let n = c.args.self.now in
     let r = c.requires in
+    let len : c.len.result ≡ length n.ready.items = omega (arith, c.len.ensures, n.ready.ok.0) in
+    let place : ℕ = c.place_among-place.result in
+    let own : place ≡ c.args.choice.which % length n.ready.items = c.place_among-place.ensures ∙ ap (λ (k : ℕ). c.args.choice.which % k) len in
+    let within = place_within c.args.choice.which place (length n.ready.items) own (some_ready p r.keyboard n r.standing) in
     let number : ℕ = c.index-number.result.now in
-    let at = read_at n.ready.items c.args.place number r.within c.index-number.ensures in
+    let at = read_at n.ready.items place number within c.index-number.ensures in
     let body = c.deref.result.now in
-    let x = chosen p r.keyboard n r.standing c.args.place number at in
+    let x = chosen p r.keyboard n r.standing place number at in
     let items = left_message c.advance_task.new.scratch in
     let e : EndedBy body n.tasks.items number x.task c.in_ok-end.end items c.advance_task.new.tasks.items = c.in_ok-end.ensures x.task x.there in
     record {
+      selects = own;
       first = x.task;
       there = x.there;
       may = x.may;
