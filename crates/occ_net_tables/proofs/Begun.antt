@@ -3,6 +3,7 @@ use Rattle.std.proofs.Common.{◌≡◌, ◌∙◌, refl, sym, ap, subst, Bool, 
 use Rattle.std.specs.Prelude.{nat_eq, slice_get, slice_set, ◌||◌}
 use mathlib.Core.Bool.{true≢false}
 use Rattle.occ_machine.specs.Compiled.{Program}
+use Rattle.occ_machine.specs.Machine.{Body, Stopping}
 use Rattle.occ_machine.specs.SameStop.{ready_with}
 use Rattle.occ_machine.specs.declared.task.Arm.{Arm}
 use Rattle.occ_machine.specs.declared.task.Task.{Task}
@@ -14,20 +15,22 @@ use Rattle.occ_proc.specs.declared.turn_end.TurnEnd.{TurnEnd}
 use Rattle.occ_proc.specs.declared.turn_end.TurnEnd.TheVariants as T
 use Rattle.occ_live_laws.specs.Live.{IsDeaf, StaysWithin, or_keyboard}
 use Rattle.occ_net_replay.specs.declared.choice.Choice.{Choice}
-use Rattle.occ_net_replay.specs.Replay.{HasTask, Net, Tasks, arm_chosen, may_go, offers_among, offers_on}
+use Rattle.occ_net_replay.specs.Replay.{HasTask, Net, OneTurn, Tasks, arm_chosen, may_go, offers_among, offers_on, ready_from}
+use Rattle.occ_net_replay.proofs.OneStop.{stopping_once}
 use Rattle.occ_net_replay.proofs.Tables.{offers_found, offers_there, set_same, task_once}
 use Rattle.occ_net_tables.specs.declared.tables.Tables.{Tables}
 use Rattle.occ_net_tables.specs.declared.turning.Begun.{Begun}
-use Rattle.occ_net_tables.specs.Begun.{AllTaken, BeganTurn, StaysWithinBytes}
+use Rattle.occ_net_tables.specs.Begun.{AllTaken, BeganTurn, StandsAt, StaysWithinBytes, with_used}
 use Rattle.occ_net_tables.specs.Choosing.{arm_at, is_entry, offered_arm, offered_by}
 use Rattle.occ_net_tables.specs.Holding.{Holds, IsTable}
 use Rattle.occ_net_tables.specs.Keys.{entry_in}
+use Rattle.occ_net_tables.specs.Room.{AreSame}
 use Rattle.occ_net_tables.specs.Rows.{HasTakenTurn, SettlesEnd}
 use Rattle.occ_net_tables.specs.Settling.{IsTurnAt, Standing, TurnsTo, tables_with}
 use Rattle.occ_net_tables.proofs.Arms.{chosen_same, past, there as there_left}
-use Rattle.occ_net_tables.proofs.Between.{no_entry}
-use Rattle.occ_net_tables.proofs.OneChange.{get_some, table_kept}
-use Rattle.occ_net_tables.proofs.Roomy.{holds_as, same_with}
+use Rattle.occ_net_tables.proofs.Between.{entry_there, no_entry}
+use Rattle.occ_net_tables.proofs.OneChange.{set_twice, table_kept}
+use Rattle.occ_net_tables.proofs.Roomy.{holds_as, same_with, set_own}
 use Rattle.occ_net_tables.proofs.Rowed.{has_ended, standing_as, turn_as, turns_last}
 use Rattle.occ_net_tables.proofs.Turned.{going_offers}
 
@@ -56,6 +59,74 @@ module _ (p : Program) (kb : List ℕ) (choice : Choice) (old : Tables) (begun :
       turns_last p kb old begun.place begun.number b.first b.there new b.left b.tasks (ap (λ n. n.ready) b.others) (ap (λ n. n.offering) b.others) (ap (λ n. n.awaiting) b.others) (ap (λ n. n.parents) b.others) (ap (λ n. n.unfinished) b.others)
       (ap (λ n. n.fault) b.others) (ap (λ n. n.used) b.others) (ap (λ n. n.trace) b.others) begun.end items b.first stands turn choice.pick last settles net
       (holds_as old start (same_with old begun.number b.first b.there) p kb net h) choice b.selects refl
+
+-- ---- the network before a turn that has begun
+
+module _ (p : Program) (kb : List ℕ) (choice : Choice) (old : Tables) (begun : Begun) (items : List Part) (new : Tables) (b : BeganTurn p choice old begun items new) where
+  same_before : AreSame old (tables_with new begun.number b.first)
+  same_before =
+      record {
+        tasks = ap (λ (l : Tasks). slice_set l begun.number (Some b.first)) b.tasks ∙ set_twice old.tasks.items begun.number (Some b.left) (Some b.first) ∙ set_own old.tasks.items begun.number (Some b.first) b.there;
+        ready = ap (λ n. n.ready.items) b.others;
+        offering = ap (λ n. n.offering.items) b.others;
+        awaiting = ap (λ n. n.awaiting.items) b.others;
+        parents = ap (λ n. n.parents.items) b.others;
+        unfinished = ap (λ n. n.unfinished.items) b.others;
+        fault = ap (λ n. n.fault) b.others;
+        used = ap (λ n. n.used) b.others;
+        trace = ap (λ n. n.trace) b.others;
+      }
+
+  pub held_before : (net : Net) → Holds p kb old net → Holds p kb (tables_with new begun.number b.first) net
+  held_before net h = holds_as old (tables_with new begun.number b.first) same_before p kb net h
+
+  pub left_here : HasTask new.tasks.items begun.number b.left
+  left_here = ap (λ (l : Tasks). slice_get l begun.number) b.tasks ∙ set_same old.tasks.items begun.number (Some b.first) (Some b.left) b.there
+
+  pub stands_at : StandsAt new begun.number
+  stands_at = record { task = b.left; there = left_here }
+
+  -- other bytes are taken
+  pub began_with : (known : ℕ) → BeganTurn p choice (with_used old known) begun items (with_used new known)
+  began_with known =
+      record {
+        selects = b.selects;
+        first = b.first;
+        there = b.there;
+        may = b.may;
+        left = b.left;
+        tasks = b.tasks;
+        others = ap (λ n. with_used n known) b.others;
+        ready = b.ready;
+        turn = record { body = b.turn.body; before = b.turn.before; at = b.turn.at; has_body = b.turn.has_body; there = b.turn.there; stops = b.turn.stops };
+      }
+
+  -- it is the one turn that the choice selects
+  module _ (net : Net) (h : Holds p kb old net) (next : Net) (o : OneTurn p choice net next) where
+    one_number : {x y : ℕ} → Some x ≡ Some y → x ≡ y
+    one_number e = cc
+
+    one_body : {x y : Body} → Some x ≡ Some y → x ≡ y
+    one_body e = cc
+
+    same_number : o.number ≡ begun.number
+    same_number =
+        let ready : old.ready.items ≡ ready_from 0 net.tasks = h.sound.ready_is ∙ ap (ready_from 0) (sym h.tasks) in
+        one_number (sym o.selects ∙ sym (ap (λ (l : List ℕ). slice_get l (choice.which % length l)) ready) ∙ ap (slice_get old.ready.items) (sym b.selects) ∙ b.turn.at)
+
+    same_task : o.before ≡ b.turn.before
+    same_task = task_once old.tasks.items begun.number (subst (λ i. HasTask old.tasks.items i o.before) same_number (ap (λ l. slice_get l o.number) (sym h.tasks) ∙ o.has_task)) b.turn.there
+
+    same_body : o.body ≡ b.turn.body
+    same_body = one_body (sym o.has_body ∙ ap (slice_get p.bodies) same_number ∙ b.turn.has_body)
+
+    same_after : o.after ≡ ready_with b.left (standing_at begun.end items b.left.wait)
+    same_after = stopping_once b.turn.body b.turn.before o.after _ (subst (λ z. Stopping z b.turn.before o.after) same_body (subst (λ z. Stopping o.body z o.after) same_task o.stops)) b.turn.stops
+
+    pub stays_as_turn : StaysWithinBytes kb new begun choice.pick → StaysWithin choice.pick net o.number o.after
+    stays_as_turn stays =
+        let there : StaysWithin choice.pick net begun.number (ready_with b.left (standing_at begun.end items b.left.wait)) = stays p b.first b.left items net (held_before net h) b.may left_here in
+        subst (λ i. StaysWithin choice.pick net i o.after) (sym same_number) (subst (λ t. StaysWithin choice.pick net begun.number t) (sym same_after) there)
 
 -- ---- who is deaf
 

@@ -2,6 +2,7 @@
 -- Manual: nothing; this is (own).
 use Rattle.std.specs.Prelude.{Bool, IsTrue, List, Option, Some, [], drop, false, if◌then◌else◌, length, slice_get, ℕ, ⊤, ◌+◌, ◌∷◌, ◌≡◌}
 use Rattle.std.specs.Option.{option_map_or}
+use Rattle.occ_term.specs.declared.communication.Communication.{Communication}
 use Rattle.occ_term.specs.declared.fault.Fault.{Fault}
 use Rattle.occ_term.specs.Frames.{is_held}
 use Rattle.occ_machine.specs.SameStop.{IsRising}
@@ -105,3 +106,7 @@ HoldsFirst p n = (keyboard : List ℕ) → Holds p keyboard n (first_net p keybo
 -- of the network of this code that they hold
 abbrev pub HeldFor : Program → List ℕ → Tables → (Net → Type 0) → Type 0
 HeldFor p keyboard tables Says = (net : Net) → Holds p keyboard tables net → Says net
+
+-- the communications so far, also between a turn's stop and what happens behind it
+abbrev pub trace_in : Tables → List Communication
+trace_in n = n.trace

@@ -2,7 +2,7 @@
 ghost use Rattle.std.specs.Prelude.{◌≡◌, IfOk, None, map, replicate};
 ghost use Rattle.occ_net_replay.specs.Replay.{ending_of, is_done, main_done, stopped_by};
 ghost use Rattle.occ_net_tables.specs.Endings.{ends_by};
-ghost use Rattle.occ_net_tables.specs.Holding.{HeldBy, HoldsFirst};
+ghost use Rattle.occ_net_tables.specs.Holding.{HeldBy, HoldsFirst, trace_in};
 
 use crate::entries::{empty, no_counts};
 use crate::tasks::put_task;
@@ -159,6 +159,13 @@ impl Tables {
     /// The communications that there were, in order.
     pub fn trace(&self) -> &Trace
         ensures { HeldBy self.now (λ net. net.trace ≡ result.now) }
+    {
+        &self.trace
+    }
+
+    /// The same, also between a turn's stop and what happens behind it.
+    pub fn trace_so_far(&self) -> &Trace
+        ensures { result.now ≡ trace_in self.now }
     {
         &self.trace
     }

@@ -1,4 +1,4 @@
 pub mod Texts
-mod Growth
+pub mod Growth
 pub mod ByteMessages
 mod Passing

@@ -11,6 +11,6 @@ mod watching;
 
 pub use counted::{Counted, write_answer};
 pub use messages::write_message;
-pub use showing::{answer, channel_bytes};
+pub use showing::{answer, channel_bytes, write_bytes};
 pub use values::{tag_name, write_array, write_name, write_numbers, write_value};
 pub use watching::{is_shown, shown_as, watch_lines};

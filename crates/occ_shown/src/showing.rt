@@ -6,7 +6,7 @@ ghost use Rattle.occ_shown.specs.Answers.{AreByteMessages, IsByteMessage, answer
 ghost use Rattle.occ_net_trace.specs.Views.{part_viewed};
 
 use crate::values::{tag_name, write_array, write_name, write_number, write_value};
-use occ_net_trace::{Entry, MessageView, PartView, PartViews, Trace};
+use occ_net_trace::{Entries, Entry, MessageView, PartView, PartViews, Trace};
 use occ_term::{Channel, ERROR, End, Ending, Primitive, Protocol, SCREEN};
 use std::alloc::{AllocError, Global};
 
@@ -197,12 +197,20 @@ fn byte_of(message: &MessageView<'_>) -> u8
     }
 }
 
-/// The bytes of the messages of one channel.
-fn write_bytes(out: &mut Vec<u8>, trace: &Trace, chan: u32) -> Result<(), AllocError>
-    requires { AreByteMessages chan trace.now }
-    ensures { OnOk result (AddsText out.old out.new (channel_bytes chan trace.now)) }
+/// Puts the bytes of these communications' messages on one channel behind the others, each of one byte.
+///
+/// # Errors
+///
+/// A refused growth.
+pub fn write_bytes(
+    out: &mut Vec<u8>,
+    communications: Entries<'_>,
+    chan: u32,
+) -> Result<(), AllocError>
+    requires { AreByteMessages chan communications.entry }
+    ensures { OnOk result (AddsText out.old out.new (channel_bytes chan communications.entry)) }
 {
-    let mut entries = trace.entries();
+    let mut entries = communications;
     while let Some(communication) = entries.next_on(chan) {
         out.push(byte_of(&communication.message()))?;
     }
@@ -219,7 +227,7 @@ pub fn channel_bytes(alloc: Global, trace: &Trace, chan: u32) -> Result<Vec<u8>,
     ensures { IfOk result (HasBytes (channel_bytes chan trace.now)) }
 {
     let mut bytes = Vec::new(alloc);
-    write_bytes(&mut bytes, trace, chan)?;
+    write_bytes(&mut bytes, trace.entries(), chan)?;
     Ok(bytes)
 }
 
@@ -274,8 +282,8 @@ pub fn answer(
     let lines = if with_trace { Some(trace) } else { None };
     let report = report(alloc, lines, channels, ending)?;
     let mut bytes = Vec::new(alloc);
-    write_bytes(&mut bytes, trace, SCREEN)?;
-    write_bytes(&mut bytes, trace, ERROR)?;
+    write_bytes(&mut bytes, trace.entries(), SCREEN)?;
+    write_bytes(&mut bytes, trace.entries(), ERROR)?;
     joined(&mut bytes, report.as_slice())?;
     Ok(bytes)
 }

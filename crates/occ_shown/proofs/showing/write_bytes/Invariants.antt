@@ -5,7 +5,7 @@ use Rattle.occ_shown.proofs.showing.write_bytes.Given as goal
 
 abbrev pub invariant-loop-communication : goal.invariant-loop-communication
 invariant-loop-communication l = record {
-  written : l.out.items ++ bytes_of (messages_on l.chan l.entries) ≡ l.fn.out.items ++ bytes_of (messages_on l.chan l.trace);
+  written : l.out.items ++ bytes_of (messages_on l.chan l.entries) ≡ l.fn.out.items ++ bytes_of (messages_on l.chan l.fn.communications);
   bytes : AreByteMessages l.chan l.entries;
 }
 

@@ -1,0 +1,85 @@
+-- What of the screen was written while the trace grows.
+use Rattle.std.proofs.Common.{◌≡◌, ◌∙◌, refl, sym, ap, subst, ℕ, List, [], ◌++◌, Option, append-nil}
+use Rattle.std.proofs.lemmas.List.{append_assoc}
+use Rattle.std.specs.Io.KnownBytes.{Appends}
+use Rattle.occ_term.specs.declared.communication.Communication.{Communication}
+use Rattle.occ_term.specs.Runs.{bytes_of, messages_on}
+use Rattle.occ_live_laws.proofs.Shown.{bytes_more, said_more}
+use Rattle.occ_net_trace.specs.Places.{Place, place_behind}
+use Rattle.occ_shown.specs.Answers.{AreByteMessages, channel_bytes}
+use Rattle.occ_shown.specs.Counting.{writer_of}
+use Rattle.occ_shown.specs.declared.counted.Counted.{Counted}
+use Rattle.occ_shown.proofs.Growth.{Appends-join}
+use Rattle.occ_live.specs.declared.fault.LiveFault.{LiveFault}
+use Rattle.occ_live.specs.declared.fault.LiveFault.TheVariants as fails
+use Rattle.occ_live.specs.Living.{FailsBehind, HasShown, Shows, ShowsOn, ShowsPart, WroteSome}
+
+pub bytes_behind : (c : ℕ) (xs ys : List Communication) → channel_bytes c (xs ++ ys) ≡ channel_bytes c xs ++ channel_bytes c ys
+bytes_behind c xs ys = ap bytes_of (said_more c xs ys) ∙ bytes_more (messages_on c xs) (messages_on c ys)
+
+pub last_bytes : (c : ℕ) (xs ys : List Communication) → AreByteMessages c (xs ++ ys) → AreByteMessages c ys
+last_bytes c [] ys h = h
+last_bytes c (x ∷ xs) ys h = last_bytes c xs ys h.1
+
+module _ {W : Type 0} (contents : W → Option (List ℕ)) where
+  -- all was shown
+  pub shown_now : (old new : Counted W) (mark next : Place) (trace : List Communication) → Shows contents old mark trace new next → (first : Counted W) → HasShown contents first old mark trace → HasShown contents first new next trace
+  shown_now old new mark next trace s first h =
+      let x = s h.before h.behind h.are h.place in
+      let all : channel_bytes 1 h.before ++ channel_bytes 1 h.behind ≡ channel_bytes 1 trace = sym (bytes_behind 1 h.before h.behind) ∙ ap (channel_bytes 1) (sym h.are) in
+      record {
+        before = trace;
+        behind = [];
+        are = sym (append-nil trace);
+        place = x.1;
+        written = subst (Appends (contents (writer_of first)) (contents (writer_of new))) all (Appends-join _ _ _ _ _ h.written x.0);
+      }
+
+  pub all_shown : (old new : Counted W) (mark next : Place) (trace : List Communication) → Shows contents old mark trace new next → (first : Counted W) → HasShown contents first old mark trace → Appends (contents (writer_of first)) (contents (writer_of new)) (channel_bytes 1 trace)
+  all_shown old new mark next trace s first h =
+      let x = s h.before h.behind h.are h.place in
+      let all : channel_bytes 1 h.before ++ channel_bytes 1 h.behind ≡ channel_bytes 1 trace = sym (bytes_behind 1 h.before h.behind) ∙ ap (channel_bytes 1) (sym h.are) in
+      subst (Appends (contents (writer_of first)) (contents (writer_of new))) all (Appends-join _ _ _ _ _ h.written x.0)
+
+  -- the trace has more
+  pub shown_longer : (first now : Counted W) (mark : Place) (trace more longer : List Communication) → longer ≡ trace ++ more → HasShown contents first now mark trace → HasShown contents first now mark longer
+  shown_longer first now mark trace more longer e h =
+      record {
+        before = h.before;
+        behind = h.behind ++ more;
+        are = e ∙ ap (λ l. l ++ more) h.are ∙ append_assoc h.before h.behind more;
+        place = h.place;
+        written = h.written;
+      }
+
+  -- a beginning was written
+  pub begun_at : (first now : Counted W) (mark : Place) (trace : List Communication) → HasShown contents first now mark trace → (shown : List ℕ) × (rest : List ℕ) × (channel_bytes 1 trace ≡ shown ++ rest) × Appends (contents (writer_of first)) (contents (writer_of now)) shown
+  begun_at first now mark trace h = (channel_bytes 1 h.before, channel_bytes 1 h.behind, ap (channel_bytes 1) h.are ∙ bytes_behind 1 h.before h.behind, h.written)
+
+  pub memory_behind : (now : Counted W) (mark : Place) (trace : List Communication) → FailsBehind contents now mark trace now fails.Memory
+  memory_behind now mark trace = λ first h. begun_at first now mark trace h
+
+  part_behind : (old new : Counted W) (mark : Place) (trace : List Communication) → ((before behind : List Communication) → trace ≡ before ++ behind → mark ≡ place_behind before → (shown : List ℕ) × (rest : List ℕ) × (channel_bytes 1 behind ≡ shown ++ rest) × Appends (contents (writer_of old)) (contents (writer_of new)) shown)
+      → (first : Counted W) → HasShown contents first old mark trace → (shown : List ℕ) × (rest : List ℕ) × (channel_bytes 1 trace ≡ shown ++ rest) × Appends (contents (writer_of first)) (contents (writer_of new)) shown
+  part_behind old new mark trace s first h =
+      let x = s h.before h.behind h.are h.place in
+      let front = channel_bytes 1 h.before in (
+        front ++ x.0,
+        x.1,
+        ap (channel_bytes 1) h.are ∙ bytes_behind 1 h.before h.behind ∙ ap (λ l. front ++ l) x.2 ∙ sym (append_assoc front x.0 x.1),
+        Appends-join _ _ _ _ _ h.written x.3,
+      )
+
+  pub part_fails : (old new : Counted W) (mark : Place) (trace : List Communication) (fault : LiveFault) → ShowsPart contents old mark trace new fault → FailsBehind contents old mark trace new fault
+  part_fails old new mark trace (fails.Read reason) s = λ first h.
+      let x = s h.before h.behind h.are h.place in
+      let all : channel_bytes 1 h.before ++ channel_bytes 1 h.behind ≡ channel_bytes 1 trace = sym (bytes_behind 1 h.before h.behind) ∙ ap (channel_bytes 1) (sym h.are) in
+      subst (Appends (contents (writer_of first)) (contents (writer_of new))) all (Appends-join _ _ _ _ _ h.written x)
+  part_fails old new mark trace fails.Write s = λ first h. part_behind old new mark trace s first h
+  part_fails old new mark trace fails.Memory s = λ first h. part_behind old new mark trace s first h
+
+  -- a read failed where all was shown, or memory ran out there
+  pub read_fails : (old new : Counted W) (mark next : Place) (trace : List Communication) (fault : LiveFault) → Shows contents old mark trace new next → FailsBehind contents old mark trace new fault
+  read_fails old new mark next trace (fails.Read reason) s = λ first h. all_shown old new mark next trace s first h
+  read_fails old new mark next trace fails.Write s = λ first h. (channel_bytes 1 trace, [], sym (append-nil (channel_bytes 1 trace)), all_shown old new mark next trace s first h)
+  read_fails old new mark next trace fails.Memory s = λ first h. (channel_bytes 1 trace, [], sym (append-nil (channel_bytes 1 trace)), all_shown old new mark next trace s first h)

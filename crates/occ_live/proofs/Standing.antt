@@ -1,0 +1,134 @@
+-- A live run goes on over the bytes that it has, and over more.
+use Rattle.std.proofs.Common.{◌≡◌, ◌∙◌, refl, sym, ap, subst, Bool, true, false, IsFalse, IsTrue, ℕ, zero, suc, ◌+◌, ◌<◌, ◌^◌, List, [], ◌∷◌, ◌++◌, Some, None, length, drop, arith, append-nil}
+use mathlib.Core.Bool.{true≢false}
+use Rattle.occ_term.specs.declared.communication.Communication.{Communication}
+use Rattle.occ_term.specs.declared.message.Part.{Part}
+use Rattle.occ_machine.specs.Compiled.{IsCompiled, Program}
+use Rattle.occ_live_laws.specs.Live.{ReplaysWithin, with_more}
+use Rattle.occ_live_laws.proofs.Live.{more_bytes, within_replays}
+use Rattle.occ_live_laws.proofs.Shown.{settled_says}
+use Rattle.occ_net_replay.specs.declared.choice.Choice.{Choice}
+use Rattle.occ_net_replay.specs.Following.{AreBytes, or_limit}
+use Rattle.occ_net_replay.specs.Replay.{Net, OneTurn, Replays, ending_of, first_net, begins, goes_on}
+use Rattle.occ_net_replay.proofs.Law.{replays_are_runs}
+use Rattle.occ_net_tables.specs.Begun.{AllTaken, BeganTurn, StaysWithinBytes, with_used}
+use Rattle.occ_net_tables.specs.Holding.{Holds, trace_in}
+use Rattle.occ_net_tables.specs.Rows.{HasTakenTurn, SettlesEnd}
+use Rattle.occ_net_tables.specs.Settling.{Standing, TurnsTo}
+use Rattle.occ_net_tables.specs.declared.tables.Tables.{Tables}
+use Rattle.occ_net_tables.specs.declared.turning.Begun.{Begun}
+use Rattle.occ_net_tables.proofs.Begun.{began_with, has_taken, has_turned, held_before, stays_as_turn, stays_where_some}
+use Rattle.occ_shown.specs.Answers.{AreByteMessages}
+use Rattle.occ_shown.proofs.ByteMessages.{outputs_are_bytes}
+use Rattle.occ_live.specs.Living.{CanGoOn, HasBegun, HasHeard, StandsLive}
+
+-- ---- bytes behind those that were read
+
+behind : (xs ys : List ℕ) → drop (length xs) (xs ++ ys) ≡ ys
+behind [] ys = refl
+behind (x ∷ xs) ys = behind xs ys
+
+none_behind : (xs : List ℕ) → drop (length xs) xs ≡ []
+none_behind [] = refl
+none_behind (x ∷ xs) = none_behind xs
+
+holds_more : (p : Program) (read more : List ℕ) (n : Tables) (net : Net) → Holds p read n net → net.keyboard ≡ [] → Holds p (read ++ more) (with_used n (length read)) (with_more more net)
+holds_more p read more n net h none = record { tasks = h.tasks; bytes = ap (λ l. l ++ more) none ∙ sym (behind read more); trace = h.trace; sound = h.sound; sized = h.sized }
+
+holds_all : (p : Program) (read : List ℕ) (n : Tables) (net : Net) → Holds p read n net → net.keyboard ≡ [] → Holds p read (with_used n (length read)) net
+holds_all p read n net h none = record { tasks = h.tasks; bytes = none ∙ sym (none_behind read); trace = h.trace; sound = h.sound; sized = h.sized }
+
+module _ (p : Program) (read : List ℕ) (is_open : Bool) (kept : List Choice) (choice : Choice) (begun : Begun) (items : List Part) (n : Tables) (x : HasBegun p read is_open kept choice begun items n) where
+  its : StandsLive p read is_open kept x.old
+  its = x.from.stands
+
+  taken_all : AllTaken read n → its.net.keyboard ≡ []
+  taken_all taken = taken p begun.number x.began.first its.net (held_before p read choice x.old begun items n x.began its.net its.holds)
+
+  pub trace_is : its.net.trace ≡ trace_in n
+  trace_is = its.holds.trace ∙ ap (λ z. trace_in z) (sym x.began.others)
+
+  -- nothing was read, since the keyboard has no more, or the turn stays within
+  pub heard_same : (IsTrue is_open → StaysWithinBytes read n begun choice.pick) → HasHeard p read is_open kept choice begun items n
+  heard_same stays = record { begun_so = x; stays = stays }
+
+  -- more was read
+  pub heard_more : IsTrue is_open → AllTaken read n → (longer more : List ℕ) → longer ≡ read ++ more → length read < length longer → HasHeard p longer true kept choice begun items (with_used n (length read))
+  heard_more open taken longer more e less =
+      let none = taken_all taken in
+      let within : ReplaysWithin p longer kept (with_more more its.net) = subst (λ l. ReplaysWithin p l kept (with_more more its.net)) (sym e) (more_bytes p read more kept its.net (its.within open)) in
+      record {
+        begun_so = record {
+          old = with_used x.old (length read);
+          from = record {
+            stands = record {
+              net = with_more more its.net;
+              replays = within_replays p longer kept (with_more more its.net) within;
+              within = λ o. within;
+              holds = subst (λ l. Holds p l (with_used x.old (length read)) (with_more more its.net)) (sym e) (holds_more p read more x.old its.net its.holds none);
+            };
+            few = x.from.few;
+            going = x.from.going;
+          };
+          began = began_with p choice x.old begun items n x.began (length read);
+        };
+        stays = λ o. stays_where_some longer (with_used n (length read)) begun choice.pick less;
+      }
+
+  -- the keyboard was at its end
+  pub heard_end : AllTaken read n → (longer : List ℕ) → longer ≡ read → HasHeard p longer false kept choice begun items (with_used n (length read))
+  heard_end taken longer e =
+      let none = taken_all taken in
+      subst (λ l. HasHeard p l false kept choice begun items (with_used n (length read))) (sym e)
+      (record {
+        begun_so = record {
+          old = with_used x.old (length read);
+          from = record {
+            stands = record { net = its.net; replays = its.replays; within = λ o. absurd (true≢false (sym o)); holds = holds_all p read x.old its.net its.holds none };
+            few = x.from.few;
+            going = x.from.going;
+          };
+          began = began_with p choice x.old begun items n x.began (length read);
+        };
+        stays = λ o. absurd (true≢false (sym o));
+      })
+
+-- ---- what the screen gets are bytes
+
+pub screen_has_bytes : (p : Program) (read : List ℕ) (kept : List Choice) (net : Net) (trace : List Communication) → IsCompiled p → AreBytes read → length kept < 2 ^ 64 → Replays p read kept net → net.trace ≡ trace → AreByteMessages 1 trace
+screen_has_bytes p read kept net trace c bytes few r e =
+    (outputs_are_bytes c.source c.quantum read net trace c.well_formed (replays_are_runs c.source p c.quantum read kept net c.well_formed c.lawful c.compiled bytes few r) e).0
+
+-- ---- the end of a turn
+
+module _ (p : Program) (read : List ℕ) (is_open : Bool) (kept : List Choice) (choice : Choice) (begun : Begun) (items : List Part) (n : Tables) (h : HasHeard p read is_open kept choice begun items n) where
+  x : HasBegun p read is_open kept choice begun items n
+  x = h.begun_so
+
+  s : StandsLive p read is_open kept x.old
+  s = x.from.stands
+
+  stood : Standing p read x.old
+  stood = record { choices = kept; few = x.from.few; net = s.net; replays = s.replays; open_end = x.from.going; holds = s.holds }
+
+  pub taken : HasTakenTurn p read n begun.place begun.number begun.end items
+  taken = has_taken p read choice x.old begun items n x.began stood
+
+  module _ (new : Tables) (settles : SettlesEnd p read begun.place begun.number begun.end items choice.pick n new) where
+    turned : TurnsTo p read choice s.net new
+    turned = has_turned p read choice x.old begun items n x.began stood new settles s.net s.holds
+
+    pub stands_on : (after : List Choice) → after ≡ kept ++ choice ∷ [] → StandsLive p read is_open after new
+    stands_on after e =
+        subst (λ cs. StandsLive p read is_open cs new) (sym e)
+        (record {
+          net = turned.next;
+          replays = goes_on s.replays x.from.going turned.turn;
+          within = λ o. ReplaysWithin.goes_on (s.within o) x.from.going turned.turn (stays_as_turn p read choice x.old begun items n x.began s.net s.holds turned.next turned.turn (h.stays o));
+          holds = turned.holds;
+        })
+
+    pub trace_on : (more : List Communication) × (trace_in new ≡ trace_in n ++ more)
+    trace_on =
+        let y = settled_says turned.turn.settles in
+        (y.0, sym turned.holds.trace ∙ y.1 ∙ ap (λ l. l ++ y.0) (trace_is p read is_open kept choice begun items n x))

@@ -1,0 +1,137 @@
+-- Runs that get the keyboard's bytes while they go on, and what of their screen was written.
+-- Manual: nothing; this is (own).
+use Rattle.std.specs.Prelude.{Bool, IsFalse, IsTrue, List, None, Option, [], length, ℕ, ⊤, ◌++◌, ◌+◌, ◌<◌, ◌^◌, ◌∷◌, ◌≡◌}
+use Rattle.std.specs.Io.KnownBytes.{IsAtEnd}
+use Rattle.occ_term.specs.declared.communication.Communication.{Communication}
+use Rattle.occ_machine.specs.Compiled.{Program}
+use Rattle.occ_term.specs.declared.message.Part.{Part}
+use Rattle.occ_live_laws.specs.Live.{ReplaysWithin}
+use Rattle.occ_net_replay.specs.declared.choice.Choice.{Choice}
+use Rattle.occ_net_replay.specs.Following.{AreBytes}
+use Rattle.occ_net_replay.specs.Replay.{Net, Replays, ending_of}
+use Rattle.occ_net_trace.specs.Places.{Place, place_behind}
+use Rattle.occ_net_tables.specs.Begun.{BeganTurn, StaysWithinBytes}
+use Rattle.occ_net_tables.specs.Holding.{Holds, trace_in}
+use Rattle.occ_net_tables.specs.Outcomes.{Begins, IsOutcome}
+use Rattle.occ_net_tables.specs.declared.tables.Tables.{Tables}
+use Rattle.occ_net_tables.specs.declared.turning.Begun.{Begun}
+use Rattle.occ_files.specs.Reading.{ReadsNext, failures_of, reader_of, reason_kept}
+use Rattle.occ_files.specs.declared.reader.CountedReader.{CountedReader}
+use Rattle.occ_shown.specs.Answers.{channel_bytes}
+use Rattle.occ_shown.specs.Counting.{AppendsTo}
+use Rattle.occ_shown.specs.declared.counted.Counted.{Counted}
+use Rattle.occ_live.specs.declared.fault.LiveFault.{LiveFault}
+use Rattle.occ_live.specs.declared.fault.LiveFault.TheVariants as fails
+use Rattle.occ_live.specs.declared.living.Lived.{Lived}
+
+-- ---- what a live run comes to
+
+-- What it comes to is what a run by the list comes to that had the bytes from the start. Where the keyboard may have more, it is so with any
+-- bytes behind them.
+pub record IsLive (p : Program) (read : List ℕ) (list : List Choice) (lived : Lived) : Type 0 where
+  pub is : IsOutcome p read list lived.outcome
+  pub for_more : IsTrue lived.is_open → (more : List ℕ) → IsOutcome p (read ++ more) list lived.outcome
+
+-- where the keyboard has no more, its reader is at its end
+abbrev pub EndsRightly : {K : Type 0} → (K → Option (List ℕ)) → CountedReader K → Bool → Type 0
+EndsRightly remaining keys is_open = IsFalse is_open → IsAtEnd (remaining (reader_of keys))
+
+-- What was written when a run was given up: all that its screen had before a read that failed, and else a beginning of it.
+abbrev pub WroteSome : {W : Type 0} → (W → Option (List ℕ)) → (first now : Counted W) → List Communication → LiveFault → Type 0
+WroteSome contents first now trace (fails.Read reason) = AppendsTo contents first now (channel_bytes 1 trace)
+WroteSome contents first now trace fails.Write = (shown : List ℕ) × (rest : List ℕ) × (channel_bytes 1 trace ≡ shown ++ rest) × AppendsTo contents first now shown
+WroteSome contents first now trace fails.Memory = (shown : List ℕ) × (rest : List ℕ) × (channel_bytes 1 trace ≡ shown ++ rest) × AppendsTo contents first now shown
+
+-- The run had come to this network by a beginning of the list, over the bytes that were read.
+pub record FailsLive {W : Type 0} (contents : W → Option (List ℕ)) (p : Program) (read : List ℕ) (list : List Choice) (first now : Counted W) (fault : LiveFault) : Type 0 where
+  pub used : List Choice
+  pub begins : Begins used list
+  pub net : Net
+  pub replays : Replays p read used net
+  pub wrote : WroteSome contents first now net.trace fault
+
+-- ---- private contracts alone cite what follows
+
+-- why a read failed
+abbrev pub TellsRead : {K : Type 0} → (old new : CountedReader K) → LiveFault → Type 0
+TellsRead old new (fails.Read reason) = (failures_of old < failures_of new) × (reason ≡ reason_kept new)
+TellsRead old new fails.Write = ⊤
+TellsRead old new fails.Memory = ⊤
+
+-- ---- what was shown
+
+-- no communication stands before this place
+abbrev pub MarksStart : Place → Type 0
+MarksStart mark = mark ≡ place_behind []
+
+-- the screen's bytes of the communications up to the mark were written
+pub record HasShown {W : Type 0} (contents : W → Option (List ℕ)) (first now : Counted W) (mark : Place) (trace : List Communication) : Type 0 where
+  pub before : List Communication
+  pub behind : List Communication
+  pub are : trace ≡ before ++ behind
+  pub place : mark ≡ place_behind before
+  pub written : AppendsTo contents first now (channel_bytes 1 before)
+
+-- all that stood behind the mark was written, and nothing stands behind it now
+abbrev pub Shows : {W : Type 0} → (W → Option (List ℕ)) → (old : Counted W) → Place → List Communication → (new : Counted W) → Place → Type 0
+Shows contents old mark trace new next = (before behind : List Communication) → trace ≡ before ++ behind → mark ≡ place_behind before → AppendsTo contents old new (channel_bytes 1 behind) × (next ≡ place_behind trace)
+
+-- a beginning of that was
+abbrev pub ShowsPart : {W : Type 0} → (W → Option (List ℕ)) → (old : Counted W) → Place → List Communication → (new : Counted W) → LiveFault → Type 0
+ShowsPart contents old mark trace new (fails.Read reason) = (before behind : List Communication) → trace ≡ before ++ behind → mark ≡ place_behind before → AppendsTo contents old new (channel_bytes 1 behind)
+ShowsPart contents old mark trace new fault =
+    (before behind : List Communication) → trace ≡ before ++ behind → mark ≡ place_behind before → (shown : List ℕ) × (rest : List ℕ) × (channel_bytes 1 behind ≡ shown ++ rest) × AppendsTo contents old new shown
+
+-- whatever was shown of the one trace, so much is shown of the other
+abbrev pub ShowsOn : {W : Type 0} → (W → Option (List ℕ)) → (old : Counted W) → Place → List Communication → (new : Counted W) → Place → List Communication → Type 0
+ShowsOn contents old mark trace new next longer = (first : Counted _) → HasShown contents first old mark trace → HasShown contents first new next longer
+
+-- whatever was shown, a fault left so much written
+abbrev pub FailsBehind : {W : Type 0} → (W → Option (List ℕ)) → (old : Counted W) → Place → List Communication → (new : Counted W) → LiveFault → Type 0
+FailsBehind contents old mark trace new fault = (first : Counted _) → HasShown contents first old mark trace → WroteSome contents first new trace fault
+
+-- ---- what was read
+
+-- whatever was read before, these are all that was read
+abbrev pub ReadsOn : {K : Type 0} → (K → Option (List ℕ)) → (old : CountedReader K) → List ℕ → (new : CountedReader K) → List ℕ → Type 0
+ReadsOn remaining old read new longer = (first : CountedReader _) → ReadsNext remaining first old read → ReadsNext remaining first new longer
+
+-- ---- where a run stands
+
+-- It has used these choices over the bytes that were read. While the keyboard may have more, no turn has looked past them.
+pub record StandsLive (p : Program) (read : List ℕ) (is_open : Bool) (kept : List Choice) (n : Tables) : Type 0 where
+  pub net : Net
+  pub replays : Replays p read kept net
+  pub within : IsTrue is_open → ReplaysWithin p read kept net
+  pub holds : Holds p read n net
+
+-- it stands where it can go on
+pub record CanGoOn (p : Program) (read : List ℕ) (is_open : Bool) (kept : List Choice) (n : Tables) : Type 0 where
+  pub stands : StandsLive p read is_open kept n
+  pub few : 1 + length kept < 2 ^ 64
+  pub going : ending_of p.errors stands.net ≡ None
+
+-- it stood so, and this turn of its has come to its stop
+pub record HasBegun (p : Program) (read : List ℕ) (is_open : Bool) (kept : List Choice) (choice : Choice) (begun : Begun) (items : List Part) (n : Tables) : Type 0 where
+  pub old : Tables
+  pub from : CanGoOn p read is_open kept old
+  pub began : BeganTurn p choice old begun items n
+
+abbrev pub CanHear : Program → List ℕ → Bool → (pick : ℕ) → Begun → Tables → Type 0
+CanHear p read is_open pick begun n = (kept : List Choice) × (choice : Choice) × (items : List Part) × HasBegun p read is_open kept choice begun items n
+
+-- it stands so over the bytes that were read since, and the turn stays within these while the keyboard may have more
+pub record HasHeard (p : Program) (read : List ℕ) (is_open : Bool) (kept : List Choice) (choice : Choice) (begun : Begun) (items : List Part) (n : Tables) : Type 0 where
+  pub begun_so : HasBegun p read is_open kept choice begun items n
+  pub stays : IsTrue is_open → StaysWithinBytes read n begun choice.pick
+
+abbrev pub Hears : Program → List ℕ → Bool → Tables → Begun → (pick : ℕ) → List ℕ → Tables → Bool → Type 0
+Hears p read is_open n begun pick longer next still_open =
+    (kept : List Choice) (choice : Choice) (items : List Part) → choice.pick ≡ pick → HasBegun p read is_open kept choice begun items n → HasHeard p longer still_open kept choice begun items next
+
+-- a fault in a turn of a run that stood so
+pub record FailsAt {W : Type 0} (contents : W → Option (List ℕ)) (p : Program) (read : List ℕ) (kept : List Choice) (old : Counted W) (mark : Place) (n : Tables) (new : Counted W) (fault : LiveFault) : Type 0 where
+  pub net : Net
+  pub replays : Replays p read kept net
+  pub trace : net.trace ≡ trace_in n
+  pub part : FailsBehind contents old mark (trace_in n) new fault
