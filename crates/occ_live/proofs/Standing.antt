@@ -11,13 +11,13 @@ use Rattle.occ_net_replay.specs.declared.choice.Choice.{Choice}
 use Rattle.occ_net_replay.specs.Following.{AreBytes, or_limit}
 use Rattle.occ_net_replay.specs.Replay.{Net, OneTurn, Replays, ending_of, first_net, begins, goes_on}
 use Rattle.occ_net_replay.proofs.Law.{replays_are_runs}
-use Rattle.occ_net_tables.specs.Begun.{AllTaken, BeganTurn, StaysWithinBytes, with_used}
+use Rattle.occ_net_tables.specs.Halves.{AllTaken, BeganTurn, StaysWithinBytes, with_used}
 use Rattle.occ_net_tables.specs.Holding.{Holds, trace_in}
 use Rattle.occ_net_tables.specs.Rows.{HasTakenTurn, SettlesEnd}
 use Rattle.occ_net_tables.specs.Settling.{Standing, TurnsTo}
 use Rattle.occ_net_tables.specs.declared.tables.Tables.{Tables}
 use Rattle.occ_net_tables.specs.declared.turning.Begun.{Begun}
-use Rattle.occ_net_tables.proofs.Begun.{began_with, has_taken, has_turned, held_before, stays_as_turn, stays_where_some}
+use Rattle.occ_net_tables.proofs.Halves.{began_with, has_taken, has_turned, held_before, stays_as_turn, stays_where_some}
 use Rattle.occ_shown.specs.Answers.{AreByteMessages}
 use Rattle.occ_shown.proofs.ByteMessages.{outputs_are_bytes}
 use Rattle.occ_live.specs.Living.{CanGoOn, HasBegun, HasHeard, StandsLive}

@@ -10,7 +10,7 @@ use Rattle.occ_net_replay.specs.declared.choice.Choice.{Choice}
 use Rattle.occ_net_replay.specs.Following.{AreBytes}
 use Rattle.occ_net_replay.specs.Replay.{Net, Replays, ending_of}
 use Rattle.occ_net_trace.specs.Places.{Place, place_behind}
-use Rattle.occ_net_tables.specs.Begun.{BeganTurn, StaysWithinBytes}
+use Rattle.occ_net_tables.specs.Halves.{BeganTurn, StaysWithinBytes}
 use Rattle.occ_net_tables.specs.Holding.{Holds, trace_in}
 use Rattle.occ_net_tables.specs.Outcomes.{Begins, IsOutcome}
 use Rattle.occ_net_tables.specs.declared.tables.Tables.{Tables}

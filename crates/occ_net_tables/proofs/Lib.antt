@@ -23,4 +23,4 @@ pub mod Placing
 pub mod Rerun
 pub mod CountedPicks
 pub mod Rowed
-pub mod Begun
+pub mod Halves

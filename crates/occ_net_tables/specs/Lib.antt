@@ -13,4 +13,4 @@ pub mod Running
 pub mod Outcomes
 pub mod Rows
 pub mod Turning
-pub mod Begun
+pub mod Halves

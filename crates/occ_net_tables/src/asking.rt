@@ -1,7 +1,7 @@
 //! Whether a turn looks past the bytes that the keyboard has so far, and bytes that come behind them.
 ghost use Rattle.std.specs.Prelude.{◌≡◌, IsFalse, IsTrue, None};
 ghost use Rattle.occ_live_laws.specs.Live.{IsDeaf};
-ghost use Rattle.occ_net_tables.specs.Begun.{AllTaken, StaysWithinBytes, StandsAt, with_used};
+ghost use Rattle.occ_net_tables.specs.Halves.{AllTaken, StaysWithinBytes, StandsAt, with_used};
 ghost use Rattle.occ_net_tables.specs.Choosing.{offered_by};
 
 use crate::choosing::choose_arm;
@@ -41,8 +41,8 @@ impl Tables {
         match wait {
             Wait::Awaits { chan } => *chan == KEYBOARD,
             Wait::Chooses { pri, arms } => {
-                let with = choose_arm(Some(KEYBOARD), &self.offering, *pri, pick, arms);
-                let without = choose_arm(None, &self.offering, *pri, pick, arms);
+                let with = choose_arm(Some(KEYBOARD), &self.offering, *pri, pick, arms.as_slice());
+                let without = choose_arm(None, &self.offering, *pri, pick, arms.as_slice());
                 with != without
             }
             _ => false,

@@ -1,7 +1,7 @@
 //! A turn of the network: the chosen process goes on, and what that makes possible happens.
 ghost use Rattle.std.specs.Prelude.{◌+◌, ◌<◌, ◌≤◌, ◌^◌, IfOk, IsTrue, OnOk, length};
 ghost use Rattle.occ_choices.specs.Plans.{choices_of};
-ghost use Rattle.occ_net_tables.specs.Begun.{BeginsTurn, CanBegin, IsBegun};
+ghost use Rattle.occ_net_tables.specs.Halves.{BeginsTurn, CanBegin, IsBegun};
 ghost use Rattle.occ_net_tables.specs.Endings.{GoesOn};
 ghost use Rattle.occ_net_tables.specs.Rows.{StandsAlone};
 ghost use Rattle.occ_net_tables.specs.Settling.{HasSomeMid, HasStopped, SettlesBy, SettlesOn, SettlesWait, Standing, TakesTurn, offer_left};

@@ -1,5 +1,4 @@
 use Rattle.std.proofs.Common.{◌≡◌, ◌∙◌, ◌%◌, ℕ, refl, sym, ap, length, Some, arith}
-use Rattle.std.specs.Prelude.{slice_get}
 use Rattle.occ_proc.specs.Turns.{left_message}
 use Rattle.occ_net_tables.specs.Tasks.{EndedBy}
 use Rattle.occ_net_tables.proofs.Branches.{has_body}
@@ -41,8 +40,8 @@ advance_task-requires-clause-turn c =
     let at = read_at n.ready.items place number within c.index-number.ensures in
     has_turn p r.keyboard n r.standing c.compiled.ensures r.bytes place number c.deref.result.now at (c.in-Some.ensures.some ∙ ap Some (sym c.deref.ensures))
 
-pub returns-in_ok-end : goal.returns-in_ok-end
-returns-in_ok-end c =
+pub returns : goal.returns
+returns c =
     let p = c.args.code.now in
     let n = c.args.self.now in
     let r = c.requires in

@@ -1,6 +1,6 @@
 use Rattle.occ_proc.specs.Turns.{left_message}
 use Rattle.occ_proc.proofs.Mapped.{on_ok_map}
-use Rattle.occ_net_tables.proofs.Begun.{has_taken, has_turned}
+use Rattle.occ_net_tables.proofs.Halves.{has_taken, has_turned}
 use Rattle.occ_net_tables.proofs.Turned.{are_bytes}
 use Rattle.occ_net_tables.proofs.tables.Tables.take_turn.Goals as goal
 

@@ -1,6 +1,8 @@
 -- A turn that has come to its stop, and whether it looks past the keyboard's bytes.
-use Rattle.std.proofs.Common.{◌≡◌, ◌∙◌, refl, sym, ap, subst, Bool, true, false, IsFalse, IsTrue, ℕ, zero, suc, ◌<◌, ◌≤◌, ◌%◌, List, [], ◌∷◌, Option, Some, None, length, drop, arith}
-use Rattle.std.specs.Prelude.{nat_eq, slice_get, slice_set, ◌||◌}
+use Rattle.std.proofs.Common.{◌≡◌, ◌∙◌, refl, sym, ap, subst, Bool, true, false, IsFalse, IsTrue, ℕ, ◌<◌, ◌≤◌, ◌%◌, List, [], ◌∷◌, Option, Some, None, length}
+use Rattle.std.specs.Prelude.{nat_eq, not, slice_get, slice_set, ◌||◌}
+use Rattle.std.specs.Option.{option_eq}
+use Rattle.std.proofs.lemmas.Bool.{eqb-true}
 use mathlib.Core.Bool.{true≢false}
 use Rattle.occ_machine.specs.Compiled.{Program}
 use Rattle.occ_machine.specs.Machine.{Body, Stopping}
@@ -10,7 +12,7 @@ use Rattle.occ_machine.specs.declared.task.Task.{Task}
 use Rattle.occ_machine.specs.declared.task.Wait.{Wait}
 use Rattle.occ_machine.specs.declared.task.Wait.TheVariants as W
 use Rattle.occ_term.specs.declared.message.Part.{Part}
-use Rattle.occ_proc.specs.Turns.{IsLeftReady, standing_at}
+use Rattle.occ_proc.specs.Turns.{standing_at}
 use Rattle.occ_proc.specs.declared.turn_end.TurnEnd.{TurnEnd}
 use Rattle.occ_proc.specs.declared.turn_end.TurnEnd.TheVariants as T
 use Rattle.occ_live_laws.specs.Live.{IsDeaf, StaysWithin, or_keyboard}
@@ -20,7 +22,7 @@ use Rattle.occ_net_replay.proofs.OneStop.{stopping_once}
 use Rattle.occ_net_replay.proofs.Tables.{offers_found, offers_there, set_same, task_once}
 use Rattle.occ_net_tables.specs.declared.tables.Tables.{Tables}
 use Rattle.occ_net_tables.specs.declared.turning.Begun.{Begun}
-use Rattle.occ_net_tables.specs.Begun.{AllTaken, BeganTurn, StandsAt, StaysWithinBytes, with_used}
+use Rattle.occ_net_tables.specs.Halves.{AllTaken, BeganTurn, StandsAt, StaysWithinBytes, with_used}
 use Rattle.occ_net_tables.specs.Choosing.{arm_at, is_entry, offered_arm, offered_by}
 use Rattle.occ_net_tables.specs.Holding.{Holds, IsTable}
 use Rattle.occ_net_tables.specs.Keys.{entry_in}
@@ -147,6 +149,26 @@ pub deaf_choice : (pri : Bool) (pick : ℕ) (table : List (Option ℕ)) (arms : 
     → arm_chosen pri pick (or_keyboard (offered_by None table)) arms ≡ arm_chosen pri pick (offered_by None table) arms
 deaf_choice pri pick table arms x y e f same =
     chosen_same (or_keyboard (offered_by None table)) (offered_by (Some 0) table) (λ c. refl) pri pick arms ∙ sym e ∙ ap (arm_at arms) same ∙ f
+
+-- two places that are not told apart are one
+pub same_place : (x y : Option ℕ) (b : Bool) → b ≡ not (option_eq nat_eq x y) → IsFalse b → x ≡ y
+same_place None None b e h = refl
+same_place None (Some j) b e h = absurd (true≢false (sym e ∙ h))
+same_place (Some i) None b e h = absurd (true≢false (sym e ∙ h))
+same_place (Some i) (Some j) b e h = by (nat_eq i j) refl
+  where
+    by : (z : Bool) → nat_eq i j ≡ z → Some i ≡ Some j
+    by true q = ap (λ (k : ℕ). Some k) (eqb-true i j q)
+    by false q = absurd (true≢false (sym (ap not q) ∙ sym e ∙ h))
+
+pub deaf_found : (pri : Bool) (pick : ℕ) (table t1 t2 : List (Option ℕ)) (arms a1 a2 : List Arm) (x y : Option ℕ) → arm_at a1 x ≡ offered_arm pri pick (Some 0) t1 a1 → arm_at a2 y ≡ offered_arm pri pick None t2 a2
+    → a1 ≡ arms → a2 ≡ arms → t1 ≡ table → t2 ≡ table → x ≡ y → (w : Wait) → w ≡ W.Chooses pri arms → IsDeaf pick (offered_by None table) w
+deaf_found pri pick table t1 t2 arms a1 a2 x y e f p q r s same w is =
+    let e1 = subst (λ a. arm_at a x ≡ offered_arm pri pick (Some 0) t1 a) p e in
+    let e2 = subst (λ t. arm_at arms x ≡ offered_arm pri pick (Some 0) t arms) r e1 in
+    let f1 = subst (λ a. arm_at a y ≡ offered_arm pri pick None t2 a) q f in
+    let f2 = subst (λ t. arm_at arms y ≡ offered_arm pri pick None t arms) s f1 in
+    subst (IsDeaf pick (offered_by None table)) (sym is) (deaf_choice pri pick table arms x y e2 f2 same)
 
 -- the table says who offers
 module _ (tasks : Tasks) (table : List (Option ℕ)) (h : IsTable offers_on tasks table) where
