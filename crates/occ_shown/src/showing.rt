@@ -207,7 +207,7 @@ pub fn write_bytes(
     communications: Entries<'_>,
     chan: u32,
 ) -> Result<(), AllocError>
-    requires { AreByteMessages chan communications.entry }
+    requires { AreByteMessages chan communications }
     ensures { OnOk result (AddsText out.old out.new (channel_bytes chan communications.entry)) }
 {
     let mut entries = communications;
