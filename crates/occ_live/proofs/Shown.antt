@@ -1,5 +1,5 @@
 -- What of the screen was written while the trace grows.
-use Rattle.std.proofs.Common.{◌≡◌, ◌∙◌, refl, sym, ap, subst, ℕ, List, [], ◌++◌, Option, append-nil}
+use Rattle.std.proofs.Common.{◌≡◌, ◌∙◌, refl, sym, ap, subst, ℕ, List, [], ◌∷◌, ◌++◌, Option, append-nil}
 use Rattle.std.proofs.lemmas.List.{append_assoc}
 use Rattle.std.specs.Io.KnownBytes.{Appends}
 use Rattle.occ_term.specs.declared.communication.Communication.{Communication}
@@ -83,3 +83,7 @@ module _ {W : Type 0} (contents : W → Option (List ℕ)) where
   read_fails old new mark next trace (fails.Read reason) s = λ first h. all_shown old new mark next trace s first h
   read_fails old new mark next trace fails.Write s = λ first h. (channel_bytes 1 trace, [], sym (append-nil (channel_bytes 1 trace)), all_shown old new mark next trace s first h)
   read_fails old new mark next trace fails.Memory s = λ first h. (channel_bytes 1 trace, [], sym (append-nil (channel_bytes 1 trace)), all_shown old new mark next trace s first h)
+
+  -- memory ran out once more was shown
+  pub memory_after : (old new : Counted W) (mark next : Place) (trace same : List Communication) → trace ≡ same → ShowsOn contents old mark trace new next trace → FailsBehind contents old mark same new fails.Memory
+  memory_after old new mark next trace same e s = subst (λ t. FailsBehind contents old mark t new fails.Memory) e (λ first h. begun_at first new next trace (s first h))

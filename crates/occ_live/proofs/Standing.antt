@@ -1,5 +1,5 @@
 -- A live run goes on over the bytes that it has, and over more.
-use Rattle.std.proofs.Common.{◌≡◌, ◌∙◌, refl, sym, ap, subst, Bool, true, false, IsFalse, IsTrue, ℕ, zero, suc, ◌+◌, ◌<◌, ◌^◌, List, [], ◌∷◌, ◌++◌, Some, None, length, drop, arith, append-nil}
+use Rattle.std.proofs.Common.{◌≡◌, ◌∙◌, refl, sym, ap, subst, Bool, true, false, IsFalse, IsTrue, ℕ, zero, suc, ◌+◌, ◌<◌, ◌^◌, List, [], ◌∷◌, ◌++◌, Some, None, get_or, length, drop, arith, append-nil}
 use mathlib.Core.Bool.{true≢false}
 use Rattle.occ_term.specs.declared.communication.Communication.{Communication}
 use Rattle.occ_term.specs.declared.message.Part.{Part}
@@ -39,7 +39,7 @@ holds_all : (p : Program) (read : List ℕ) (n : Tables) (net : Net) → Holds p
 holds_all p read n net h none = record { tasks = h.tasks; bytes = none ∙ sym (none_behind read); trace = h.trace; sound = h.sound; sized = h.sized }
 
 module _ (p : Program) (read : List ℕ) (is_open : Bool) (kept : List Choice) (choice : Choice) (begun : Begun) (items : List Part) (n : Tables) (x : HasBegun p read is_open kept choice begun items n) where
-  its : StandsLive p read is_open kept x.old
+  abbrev pub its : StandsLive p read is_open kept x.old
   its = x.from.stands
 
   taken_all : AllTaken read n → its.net.keyboard ≡ []
@@ -53,16 +53,17 @@ module _ (p : Program) (read : List ℕ) (is_open : Bool) (kept : List Choice) (
   heard_same stays = record { begun_so = x; stays = stays }
 
   -- more was read
-  pub heard_more : IsTrue is_open → AllTaken read n → (longer more : List ℕ) → longer ≡ read ++ more → length read < length longer → HasHeard p longer true kept choice begun items (with_used n (length read))
-  heard_more open taken longer more e less =
+  pub heard_more : IsTrue is_open → AllTaken read n → (longer more : List ℕ) → AreBytes longer → longer ≡ read ++ more → length read < length longer → HasHeard p longer true kept choice begun items (with_used n (length read))
+  heard_more still taken longer more are e less =
       let none = taken_all taken in
-      let within : ReplaysWithin p longer kept (with_more more its.net) = subst (λ l. ReplaysWithin p l kept (with_more more its.net)) (sym e) (more_bytes p read more kept its.net (its.within open)) in
+      let within : ReplaysWithin p longer kept (with_more more its.net) = subst (λ l. ReplaysWithin p l kept (with_more more its.net)) (sym e) (more_bytes p read more kept its.net (its.within still)) in
       record {
         begun_so = record {
           old = with_used x.old (length read);
           from = record {
             stands = record {
               net = with_more more its.net;
+              bytes = are;
               replays = within_replays p longer kept (with_more more its.net) within;
               within = λ o. within;
               holds = subst (λ l. Holds p l (with_used x.old (length read)) (with_more more its.net)) (sym e) (holds_more p read more x.old its.net its.holds none);
@@ -70,7 +71,7 @@ module _ (p : Program) (read : List ℕ) (is_open : Bool) (kept : List Choice) (
             few = x.from.few;
             going = x.from.going;
           };
-          began = began_with p choice x.old begun items n x.began (length read);
+          began = began_with p read choice x.old begun items n x.began (length read);
         };
         stays = λ o. stays_where_some longer (with_used n (length read)) begun choice.pick less;
       }
@@ -84,16 +85,29 @@ module _ (p : Program) (read : List ℕ) (is_open : Bool) (kept : List Choice) (
         begun_so = record {
           old = with_used x.old (length read);
           from = record {
-            stands = record { net = its.net; replays = its.replays; within = λ o. absurd (true≢false (sym o)); holds = holds_all p read x.old its.net its.holds none };
+            stands = record { net = its.net; bytes = its.bytes; replays = its.replays; within = λ o. absurd (true≢false (sym o)); holds = holds_all p read x.old its.net its.holds none };
             few = x.from.few;
             going = x.from.going;
           };
-          began = began_with p choice x.old begun items n x.began (length read);
+          began = began_with p read choice x.old begun items n x.began (length read);
         };
         stays = λ o. absurd (true≢false (sym o));
       })
 
+  -- whatever the reader gave
+  pub heard_by : IsTrue is_open → AllTaken read n → (some : Bool) (longer : List ℕ) → AreBytes longer → (more : List ℕ) → longer ≡ read ++ more → (IsTrue some → length read < length longer) → (IsFalse some → longer ≡ read) → HasHeard p longer some kept choice begun items (with_used n (length read))
+  heard_by still taken true longer are more e less same = heard_more still taken longer more are e (less refl)
+  heard_by still taken false longer are more e less same = heard_end taken longer (same refl)
+
 -- ---- what the screen gets are bytes
+
+pub these_are_bytes : (xs : List ℕ) → ((i : ℕ) → get_or xs i 0 < 256) → AreBytes xs
+these_are_bytes [] h = tt
+these_are_bytes (x ∷ xs) h = (h 0, these_are_bytes xs (λ i. h (suc i)))
+
+pub are_bytes : (xs : List ℕ) → ((i d : ℕ) → i < length xs → get_or xs i d < 256) → AreBytes xs
+are_bytes [] h = tt
+are_bytes (x ∷ xs) h = (h 0 0 (omega arith), are_bytes xs (λ i d l. h (suc i) d (omega (arith, l))))
 
 pub screen_has_bytes : (p : Program) (read : List ℕ) (kept : List Choice) (net : Net) (trace : List Communication) → IsCompiled p → AreBytes read → length kept < 2 ^ 64 → Replays p read kept net → net.trace ≡ trace → AreByteMessages 1 trace
 screen_has_bytes p read kept net trace c bytes few r e =
@@ -102,10 +116,10 @@ screen_has_bytes p read kept net trace c bytes few r e =
 -- ---- the end of a turn
 
 module _ (p : Program) (read : List ℕ) (is_open : Bool) (kept : List Choice) (choice : Choice) (begun : Begun) (items : List Part) (n : Tables) (h : HasHeard p read is_open kept choice begun items n) where
-  x : HasBegun p read is_open kept choice begun items n
+  abbrev x : HasBegun p read is_open kept choice begun items n
   x = h.begun_so
 
-  s : StandsLive p read is_open kept x.old
+  abbrev s : StandsLive p read is_open kept x.old
   s = x.from.stands
 
   stood : Standing p read x.old
@@ -123,6 +137,7 @@ module _ (p : Program) (read : List ℕ) (is_open : Bool) (kept : List Choice) (
         subst (λ cs. StandsLive p read is_open cs new) (sym e)
         (record {
           net = turned.next;
+          bytes = s.bytes;
           replays = goes_on s.replays x.from.going turned.turn;
           within = λ o. ReplaysWithin.goes_on (s.within o) x.from.going turned.turn (stays_as_turn p read choice x.old begun items n x.began s.net s.holds turned.next turned.turn (h.stays o));
           holds = turned.holds;

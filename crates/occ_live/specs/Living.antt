@@ -72,6 +72,13 @@ pub record HasShown {W : Type 0} (contents : W → Option (List ℕ)) (first now
   pub place : mark ≡ place_behind before
   pub written : AppendsTo contents first now (channel_bytes 1 before)
 
+-- the mark stands behind a beginning of the trace
+pub record IsMarked (mark : Place) (trace : List Communication) : Type 0 where
+  pub before : List Communication
+  pub behind : List Communication
+  pub are : trace ≡ before ++ behind
+  pub place : mark ≡ place_behind before
+
 -- all that stood behind the mark was written, and nothing stands behind it now
 abbrev pub Shows : {W : Type 0} → (W → Option (List ℕ)) → (old : Counted W) → Place → List Communication → (new : Counted W) → Place → Type 0
 Shows contents old mark trace new next = (before behind : List Communication) → trace ≡ before ++ behind → mark ≡ place_behind before → AppendsTo contents old new (channel_bytes 1 behind) × (next ≡ place_behind trace)
@@ -101,8 +108,16 @@ ReadsOn remaining old read new longer = (first : CountedReader _) → ReadsNext 
 -- It has used these choices over the bytes that were read. While the keyboard may have more, no turn has looked past them.
 pub record StandsLive (p : Program) (read : List ℕ) (is_open : Bool) (kept : List Choice) (n : Tables) : Type 0 where
   pub net : Net
+  pub bytes : AreBytes read
   pub replays : Replays p read kept net
   pub within : IsTrue is_open → ReplaysWithin p read kept net
+  pub holds : Holds p read n net
+
+-- it has come to this, of which it is not said whether the keyboard may have more
+pub record HasCome (p : Program) (read : List ℕ) (kept : List Choice) (n : Tables) : Type 0 where
+  pub net : Net
+  pub few : length kept < 2 ^ 64
+  pub replays : Replays p read kept net
   pub holds : Holds p read n net
 
 -- it stands where it can go on

@@ -1,7 +1,7 @@
 //! A turn that looks past the bytes that were read waits for more.
 ghost use Rattle.std.specs.Prelude.{◌≡◌, ◌<◌, ◌-◌, ◌^◌, IfErr, IfOk, OnErr, OnOk};
 ghost use Rattle.occ_files.specs.Reading.{failures_of as reads_failed};
-ghost use Rattle.occ_live.specs.Living.{CanHear, EndsRightly, FailsBehind, Hears, ReadsOn, ShowsOn};
+ghost use Rattle.occ_live.specs.Living.{CanHear, EndsRightly, FailsBehind, Hears, IsMarked, ReadsOn, ShowsOn};
 ghost use Rattle.occ_net_tables.specs.Holding.{trace_in};
 ghost use Rattle.occ_shown.specs.Counting.{failures_of};
 
@@ -29,14 +29,15 @@ pub(crate) fn hear<K: Read, W: Write>(
 ) -> Result<bool, LiveFault>
     requires room { failures_of out.old < 2 ^ 64 - 1 }
     requires keys { reads_failed keys.old < 2 ^ 64 - 1 }
+    requires marked { IsMarked screen.old.mark (trace_in tables.old) }
     requires begun { CanHear code.now keyboard.old.items is_open pick begun tables.old }
     ensures heard { IfOk result
         (Hears code.now keyboard.old.items is_open tables.old begun pick keyboard.new.items
         tables.new) }
     ensures trace { trace_in tables.new ≡ trace_in tables.old }
     ensures shown { OnOk result
-        (ShowsOn W.contents out.old screen.old.mark.now (trace_in tables.old) out.new
-        screen.new.mark.now (trace_in tables.old)) }
+        (ShowsOn W.contents out.old screen.old.mark (trace_in tables.old) out.new
+        screen.new.mark (trace_in tables.old)) }
     ensures read { OnOk result
         (ReadsOn K.remaining keys.old keyboard.old.items keys.new keyboard.new.items) }
     ensures none_failed { OnOk result (failures_of out.new ≡ failures_of out.old) }
@@ -45,15 +46,22 @@ pub(crate) fn hear<K: Read, W: Write>(
         EndsRightly K.remaining keys.new still_open) }
     ensures kept { OnErr result (keyboard.new.items ≡ keyboard.old.items) }
     ensures part { IfErr result
-        (FailsBehind W.contents out.old screen.old.mark.now (trace_in tables.old) out.new) }
+        (FailsBehind W.contents out.old screen.old.mark (trace_in tables.old) out.new) }
 {
     if !is_open || !tables.asks(keyboard, begun, pick) {
         return Ok(is_open);
     }
     code.compiled();
-    screen.show(tables.trace_so_far(), out)?;
+    match screen.show(tables.trace_so_far(), out) {
+        Ok(()) => {}
+        Err(fault) => return Err(fault),
+    }
     let known = keyboard.len();
-    let some = read_more(keys, keyboard)?;
-    tables.reach(known);
-    Ok(some)
+    match read_more(keys, keyboard) {
+        Ok(some) => {
+            tables.reach(known);
+            Ok(some)
+        }
+        Err(unread) => Err(unread),
+    }
 }

@@ -2,7 +2,7 @@
 ghost use Rattle.std.specs.Prelude.{◌≡◌, ◌<◌, ◌-◌, ◌^◌, ◌++◌, ◌∷◌, [], IfErr, IfOk, OnOk};
 ghost use Rattle.occ_choices.specs.Plans.{choices_of};
 ghost use Rattle.occ_files.specs.Reading.{ReadsNext, failures_of as reads_failed};
-ghost use Rattle.occ_live.specs.Living.{CanGoOn, EndsRightly, FailsAt, FailsLive, IsLive, ReadsOn, ShowsOn, StandsLive};
+ghost use Rattle.occ_live.specs.Living.{CanGoOn, EndsRightly, FailsAt, FailsLive, HasCome, IsLive, IsMarked, ReadsOn, Shows, ShowsOn, ShowsPart, StandsLive};
 ghost use Rattle.occ_net_tables.specs.Holding.{trace_in};
 ghost use Rattle.occ_shown.specs.Answers.{channel_bytes};
 ghost use Rattle.occ_shown.specs.Counting.{AppendsTo, failures_of};
@@ -18,7 +18,7 @@ use occ_net_tables::{Outcome, Tables};
 use occ_proc::Scratch;
 use occ_shown::Counted;
 use occ_term::Ending;
-use std::alloc::Global;
+use std::alloc::{AllocError, Global};
 use std::io::{Read, Write};
 
 /// After how many turns the screen is written at the latest.
@@ -31,6 +31,14 @@ pub struct Lived {
     pub outcome: Outcome,
     /// Whether the keyboard may have more bytes: whatever they are, it comes to the same.
     pub is_open: bool,
+}
+
+/// Keeps a choice behind the others.
+fn keep(kept: &mut Vec<Choice>, choice: Choice) -> Result<(), AllocError>
+    ensures { OnOk result (kept.new.items ≡ kept.old.items ++ choice ∷ []) }
+{
+    kept.push(choice)?;
+    Ok(())
 }
 
 /// One turn, by this choice, for which more is read where it looks past the bytes. It is TRUE where the keyboard may have more.
@@ -49,13 +57,14 @@ fn live_turn<K: Read, W: Write>(
 ) -> Result<bool, LiveFault>
     requires room { failures_of out.old < 2 ^ 64 - 1 }
     requires keys { reads_failed keys.old < 2 ^ 64 - 1 }
+    requires marked { IsMarked screen.old.mark (trace_in tables.old) }
     requires stands { CanGoOn code.now keyboard.old.items is_open kept.old.items tables.old }
     ensures stands { IfOk result (λ still_open.
         StandsLive code.now keyboard.new.items still_open kept.new.items tables.new) }
     ensures kept { OnOk result (kept.new.items ≡ kept.old.items ++ choice ∷ []) }
     ensures shown { OnOk result
-        (ShowsOn W.contents out.old screen.old.mark.now (trace_in tables.old) out.new
-        screen.new.mark.now (trace_in tables.new)) }
+        (ShowsOn W.contents out.old screen.old.mark (trace_in tables.old) out.new
+        screen.new.mark (trace_in tables.new)) }
     ensures read { OnOk result
         (ReadsOn K.remaining keys.old keyboard.old.items keys.new keyboard.new.items) }
     ensures none_failed { OnOk result (failures_of out.new ≡ failures_of out.old) }
@@ -63,10 +72,13 @@ fn live_turn<K: Read, W: Write>(
     ensures end { IfOk result (λ still_open. EndsRightly K.remaining keys.old is_open →
         EndsRightly K.remaining keys.new still_open) }
     ensures fault { IfErr result (FailsAt W.contents code.now keyboard.new.items kept.old.items
-        out.old screen.old.mark.now tables.old out.new) }
+        out.old screen.old.mark tables.old out.new) }
 {
-    let begun = tables.begin_turn(alloc, code, scratch, choice)?;
-    let still_open = hear(
+    let begun = match tables.begin_turn(alloc, code, scratch, choice) {
+        Ok(begun) => begun,
+        Err(_refused) => return Err(LiveFault::Memory),
+    };
+    let heard = hear(
         code,
         keys,
         keyboard,
@@ -76,10 +88,76 @@ fn live_turn<K: Read, W: Write>(
         choice.pick,
         screen,
         out,
-    )?;
-    tables.end_turn(alloc, code, scratch, keyboard, begun, choice.pick)?;
-    kept.push(choice)?;
-    Ok(still_open)
+    );
+    let still_open = match heard {
+        Ok(still_open) => still_open,
+        Err(fault) => return Err(fault),
+    };
+    match tables.end_turn(alloc, code, scratch, keyboard, begun, choice.pick) {
+        Ok(_going) => {}
+        Err(_unsettled) => return Err(LiveFault::Memory),
+    }
+    match keep(kept, choice) {
+        Ok(()) => Ok(still_open),
+        Err(_unkept) => Err(LiveFault::Memory),
+    }
+}
+
+/// Writes what the screen has and that was not written yet.
+fn show_all<W: Write>(
+    code: &Code,
+    keyboard: &[u8],
+    kept: &[Choice],
+    tables: &Tables,
+    screen: &mut Screen,
+    out: &mut Counted<W>,
+) -> Result<(), LiveFault>
+    requires room { failures_of out.old < 2 ^ 64 - 1 }
+    requires marked { IsMarked screen.old.mark (trace_in tables.now) }
+    requires stands { HasCome code.now keyboard.now kept.now tables.now }
+    ensures shown { OnOk result
+        (Shows W.contents out.old screen.old.mark (trace_in tables.now) out.new screen.new.mark) }
+    ensures none_failed { OnOk result (failures_of out.new ≡ failures_of out.old) }
+    ensures part { IfErr result
+        (ShowsPart W.contents out.old screen.old.mark (trace_in tables.now) out.new) }
+{
+    code.compiled();
+    screen.show(tables.trace_so_far(), out)
+}
+
+/// What a run came to, all of whose screen is written.
+fn come_to<W: Write>(
+    code: &Code,
+    keyboard: &[u8],
+    tables: Tables,
+    kept: Vec<Choice>,
+    ending: Ending,
+    is_open: bool,
+    screen: &mut Screen,
+    out: &mut Counted<W>,
+) -> Result<Lived, LiveFault>
+    requires room { failures_of out.old < 2 ^ 64 - 1 }
+    requires marked { IsMarked screen.old.mark (trace_in tables) }
+    requires stands { HasCome code.now keyboard.now kept.items tables }
+    ensures outcome { IfOk result (λ lived. lived.outcome.trace ≡ trace_in tables) }
+    ensures choices { IfOk result (λ lived. lived.outcome.choices ≡ kept) }
+    ensures ending { IfOk result (λ lived. lived.outcome.ending ≡ ending) }
+    ensures is_open { IfOk result (λ lived. lived.is_open ≡ is_open) }
+    ensures shown { OnOk result
+        (Shows W.contents out.old screen.old.mark (trace_in tables) out.new screen.new.mark) }
+    ensures none_failed { OnOk result (failures_of out.new ≡ failures_of out.old) }
+    ensures part { IfErr result
+        (ShowsPart W.contents out.old screen.old.mark (trace_in tables) out.new) }
+{
+    show_all(code, keyboard, &kept, &tables, screen, out)?;
+    Ok(Lived {
+        outcome: Outcome {
+            ending,
+            choices: kept,
+            trace: tables.into_trace(),
+        },
+        is_open,
+    })
 }
 
 /// Takes a turn for each choice of the plan, until the network ends. The keyboard's bytes are read behind one another where a turn
@@ -109,17 +187,18 @@ pub fn run_live<K: Read, W: Write>(
     ensures fault { IfErr result (FailsLive W.contents code.now keyboard.new.items
         (choices_of plan.now) out.old out.new) }
 {
-    code.compiled();
     let mut scratch = Scratch::new(alloc);
     let mut tables = Tables::new(alloc, code)?;
     let mut kept = Vec::new(alloc);
     let mut screen = Screen::new(alloc);
     let mut is_open = true;
-    let mut ending = tables.ending(code.errors());
-    while ending.is_none() {
+    loop {
+        if let Some(ending) = tables.ending(code.errors()) {
+            return come_to(code, keyboard, tables, kept, ending, is_open, &mut screen, out);
+        }
         let Some(choice) = plan.at(kept.len()) else {
-            ending = Some(Ending::Limit);
-            break;
+            let ending = Ending::Limit;
+            return come_to(code, keyboard, tables, kept, ending, is_open, &mut screen, out);
         };
         is_open = live_turn(
             alloc,
@@ -135,17 +214,7 @@ pub fn run_live<K: Read, W: Write>(
             out,
         )?;
         if kept.len() % MOST_TURNS == 0 {
-            screen.show(tables.trace(), out)?;
+            show_all(code, keyboard, &kept, &tables, &mut screen, out)?;
         }
-        ending = tables.ending(code.errors());
     }
-    screen.show(tables.trace(), out)?;
-    Ok(Lived {
-        outcome: Outcome {
-            ending: ending.unwrap_or(Ending::Limit),
-            choices: kept,
-            trace: tables.into_trace(),
-        },
-        is_open,
-    })
 }

@@ -1,6 +1,6 @@
 //! What of a run's screen was written.
 ghost use Rattle.std.specs.Prelude.{◌≡◌, ◌<◌, ◌-◌, ◌^◌, IfErr, OnOk};
-ghost use Rattle.occ_live.specs.Living.{MarksStart, Shows, ShowsPart};
+ghost use Rattle.occ_live.specs.Living.{IsMarked, MarksStart, Shows, ShowsPart};
 ghost use Rattle.occ_shown.specs.Answers.{AreByteMessages};
 ghost use Rattle.occ_shown.specs.Counting.{failures_of};
 
@@ -23,7 +23,7 @@ pub(crate) struct Screen {
 impl Screen {
     /// Nothing was shown.
     pub(crate) fn new(alloc: Global) -> Screen
-        ensures { MarksStart result.mark.now }
+        ensures { MarksStart result.mark }
     {
         Screen {
             mark: Trace::new(alloc).mark(),
@@ -40,11 +40,12 @@ impl Screen {
     ) -> Result<(), LiveFault>
         requires room { failures_of out.old < 2 ^ 64 - 1 }
         requires screen { AreByteMessages SCREEN trace.now }
+        requires marked { IsMarked self.old.mark trace.now }
         ensures shown { OnOk result
-            (Shows W.contents out.old self.old.mark.now trace.now out.new self.new.mark.now) }
+            (Shows W.contents out.old self.old.mark trace.now out.new self.new.mark) }
         ensures none_failed { OnOk result (failures_of out.new ≡ failures_of out.old) }
         ensures part { IfErr result
-            (ShowsPart W.contents out.old self.old.mark.now trace.now out.new) }
+            (ShowsPart W.contents out.old self.old.mark trace.now out.new) }
     {
         trace.copy_behind(&self.mark, &mut self.news)?;
         self.bytes.clear();

@@ -1,0 +1,44 @@
+use Rattle.std.proofs.Common.{◌≡◌, ◌∙◌, ◌+◌, ◌<◌, ◌^◌, sym, ap, subst, Bool, true, false, ℕ, List, length, arith}
+use Rattle.occ_live.specs.Living.{HasHeard, Shows, ShowsPart}
+use Rattle.occ_net_tables.specs.Halves.{AllTaken, with_used}
+use Rattle.occ_net_tables.specs.Holding.{trace_in}
+use Rattle.occ_live.proofs.Shown.{part_fails, read_fails, shown_now}
+use Rattle.occ_live.proofs.Standing.{are_bytes, heard_by, screen_has_bytes, trace_is}
+use Rattle.occ_live.proofs.asking.hear.Goals as goal
+
+pub show-requires-clause-screen : goal.show-requires-clause-screen
+show-requires-clause-screen g c =
+    let p = c.args.code.now in
+    let read = c.args.keyboard.now.items in
+    let b = c.requires.begun in
+    let x = b.3 in
+    let few : length b.0 < 2 ^ 64 = (let more = x.from.few in omega (arith, more)) in
+    screen_has_bytes p read b.0 x.from.stands.net c.trace_so_far.result.now c.compiled.ensures x.from.stands.bytes few x.from.stands.replays
+    (trace_is p read c.args.is_open b.0 b.1 c.args.begun b.2 c.args.tables.now x ∙ sym c.trace_so_far.ensures)
+
+pub returns-in-Err-clause-part : goal.returns-in-Err-clause-part
+returns-in-Err-clause-part g c =
+    part_fails g.W.Write.contents c.args.out.now c.show.new.out c.args.screen.now.mark (trace_in c.args.tables.now) c.in-Err.fault
+    (subst (λ t. ShowsPart g.W.Write.contents c.args.out.now c.args.screen.now.mark t c.show.new.out c.in-Err.fault) c.trace_so_far.ensures c.in-Err.ensures.part)
+
+pub returns-in-Err-read_more-clause-part : goal.returns-in-Err-read_more-clause-part
+returns-in-Err-read_more-clause-part g c =
+    read_fails g.W.Write.contents c.args.out.now c.show.new.out c.args.screen.now.mark c.show.new.self.mark (trace_in c.args.tables.now) c.in-Err-read_more.unread
+    (subst (λ t. Shows g.W.Write.contents c.args.out.now c.args.screen.now.mark t c.show.new.out c.show.new.self.mark) c.trace_so_far.ensures c.in-Ok.ensures.shown)
+
+pub returns-in-Ok-read_more-clause-heard : goal.returns-in-Ok-read_more-clause-heard
+returns-in-Ok-read_more-clause-heard g c = λ kept choice items same x.
+    let p = c.args.code.now in
+    let read = c.args.keyboard.now.items in
+    let n = c.args.tables.now in
+    let r = c.in-Ok-read_more.ensures in
+    let longer = c.read_more.new.keyboard.items in
+    let known : c.len-known.result ≡ length read = c.len-known.ensures ∙ c.args.keyboard.now.ok.0 in
+    let there : c.reach.new.self ≡ with_used n (length read) = c.reach.ensures ∙ ap (with_used n) known in
+    subst (λ z. HasHeard p longer c.in-Ok-read_more.some kept choice c.args.begun items z) (sym there)
+    (heard_by p read c.args.is_open kept choice c.args.begun items n x c.if-not-is_open.false (subst (λ l. AllTaken l n) c.deref.ensures.value (c.asks.ensures.taken c.if-not-asks.false)) c.in-Ok-read_more.some longer (are_bytes longer c.type_inv.keyboard) r.read.more r.read.added r.some r.none)
+
+pub returns-in-Ok-read_more-clause-shown : goal.returns-in-Ok-read_more-clause-shown
+returns-in-Ok-read_more-clause-shown g c = λ first h.
+    shown_now g.W.Write.contents c.args.out.now c.show.new.out c.args.screen.now.mark c.show.new.self.mark (trace_in c.args.tables.now)
+    (subst (λ t. Shows g.W.Write.contents c.args.out.now c.args.screen.now.mark t c.show.new.out c.show.new.self.mark) c.trace_so_far.ensures c.in-Ok.ensures.shown) first h
