@@ -1,7 +1,8 @@
 -- What of the screen was written while the trace grows.
-use Rattle.std.proofs.Common.{◌≡◌, ◌∙◌, refl, sym, ap, subst, ℕ, List, [], ◌∷◌, ◌++◌, Option, append-nil}
+use Rattle.std.proofs.Common.{◌≡◌, ◌∙◌, sym, ap, subst, ℕ, List, [], ◌∷◌, ◌++◌, Option, append-nil}
 use Rattle.std.proofs.lemmas.List.{append_assoc}
 use Rattle.std.specs.Io.KnownBytes.{Appends}
+use Rattle.std.specs.Prelude.{Err, IfErr, IfOk, Ok, Result}
 use Rattle.occ_term.specs.declared.communication.Communication.{Communication}
 use Rattle.occ_term.specs.Runs.{bytes_of, messages_on}
 use Rattle.occ_live_laws.proofs.Shown.{bytes_more, said_more}
@@ -12,7 +13,7 @@ use Rattle.occ_shown.specs.declared.counted.Counted.{Counted}
 use Rattle.occ_shown.proofs.Growth.{Appends-join}
 use Rattle.occ_live.specs.declared.fault.LiveFault.{LiveFault}
 use Rattle.occ_live.specs.declared.fault.LiveFault.TheVariants as fails
-use Rattle.occ_live.specs.Living.{FailsBehind, HasShown, Shows, ShowsOn, ShowsPart, WroteSome}
+use Rattle.occ_live.specs.Living.{FailsBehind, HasShown, Shows, ShowsOn, ShowsPart}
 
 pub bytes_behind : (c : ℕ) (xs ys : List Communication) → channel_bytes c (xs ++ ys) ≡ channel_bytes c xs ++ channel_bytes c ys
 bytes_behind c xs ys = ap bytes_of (said_more c xs ys) ∙ bytes_more (messages_on c xs) (messages_on c ys)
@@ -87,3 +88,13 @@ module _ {W : Type 0} (contents : W → Option (List ℕ)) where
   -- memory ran out once more was shown
   pub memory_after : (old new : Counted W) (mark next : Place) (trace same : List Communication) → trace ≡ same → ShowsOn contents old mark trace new next trace → FailsBehind contents old mark same new fails.Memory
   memory_after old new mark next trace same e s = subst (λ t. FailsBehind contents old mark t new fails.Memory) e (λ first h. begun_at first new next trace (s first h))
+
+-- ---- what a result says of its value, or of its fault
+
+pub if_ok_map : {X E : Type 0} (P Q : X → Type 0) (r : Result X E) → ((x : X) → P x → Q x) → IfOk r P → IfOk r Q
+if_ok_map P Q (Ok x) f h = f x h
+if_ok_map P Q (Err e) f h = tt
+
+pub if_err_map : {X E : Type 0} (P Q : E → Type 0) (r : Result X E) → ((e : E) → P e → Q e) → IfErr r P → IfErr r Q
+if_err_map P Q (Ok x) f h = tt
+if_err_map P Q (Err e) f h = f e h

@@ -1,7 +1,10 @@
 -- A live run goes on over the bytes that it has, and over more.
-use Rattle.std.proofs.Common.{◌≡◌, ◌∙◌, refl, sym, ap, subst, Bool, true, false, IsFalse, IsTrue, ℕ, zero, suc, ◌+◌, ◌<◌, ◌^◌, List, [], ◌∷◌, ◌++◌, Some, None, get_or, length, drop, arith, append-nil}
+use Rattle.std.proofs.Common.{◌≡◌, ◌∙◌, refl, sym, ap, subst, Bool, true, false, IsFalse, IsTrue, ℕ, suc, ◌+◌, ◌<◌, ◌^◌, List, [], ◌∷◌, ◌++◌, Some, None, Option, get_or, length, take, drop, arith, length-append}
+use Rattle.std.specs.Prelude.{slice_get}
+use Rattle.std.specs.Io.KnownBytes.{Consumes}
 use mathlib.Core.Bool.{true≢false}
 use Rattle.occ_term.specs.declared.communication.Communication.{Communication}
+use Rattle.occ_term.specs.declared.ending.Ending.{Ending}
 use Rattle.occ_term.specs.declared.message.Part.{Part}
 use Rattle.occ_machine.specs.Compiled.{IsCompiled, Program}
 use Rattle.occ_live_laws.specs.Live.{ReplaysWithin, with_more}
@@ -9,18 +12,29 @@ use Rattle.occ_live_laws.proofs.Live.{more_bytes, within_replays}
 use Rattle.occ_live_laws.proofs.Shown.{settled_says}
 use Rattle.occ_net_replay.specs.declared.choice.Choice.{Choice}
 use Rattle.occ_net_replay.specs.Following.{AreBytes, or_limit}
-use Rattle.occ_net_replay.specs.Replay.{Net, OneTurn, Replays, ending_of, first_net, begins, goes_on}
+use Rattle.occ_net_replay.specs.Replay.{Net, Replays, ending_of, first_net, begins, goes_on}
 use Rattle.occ_net_replay.proofs.Law.{replays_are_runs}
-use Rattle.occ_net_tables.specs.Halves.{AllTaken, BeganTurn, StaysWithinBytes, with_used}
-use Rattle.occ_net_tables.specs.Holding.{Holds, trace_in}
+use Rattle.occ_net_tables.specs.Halves.{AllTaken, StaysWithinBytes, with_used}
+use Rattle.occ_net_trace.specs.Places.{Place}
+use Rattle.occ_net_tables.specs.Holding.{Holds, HoldsFirst, trace_in}
+use Rattle.occ_net_tables.specs.Outcomes.{Begins}
+use Rattle.occ_net_tables.proofs.Rerun.{begins_taken, taken_more}
+use Rattle.occ_files.specs.Reading.{ReadsNext, reader_of}
+use Rattle.occ_files.specs.declared.reader.CountedReader.{CountedReader}
 use Rattle.occ_net_tables.specs.Rows.{HasTakenTurn, SettlesEnd}
 use Rattle.occ_net_tables.specs.Settling.{Standing, TurnsTo}
 use Rattle.occ_net_tables.specs.declared.tables.Tables.{Tables}
 use Rattle.occ_net_tables.specs.declared.turning.Begun.{Begun}
 use Rattle.occ_net_tables.proofs.Halves.{began_with, has_taken, has_turned, held_before, stays_as_turn, stays_where_some}
-use Rattle.occ_shown.specs.Answers.{AreByteMessages}
+use Rattle.occ_shown.specs.Answers.{AreByteMessages, channel_bytes}
+use Rattle.occ_shown.specs.Counting.{AppendsTo, writer_of}
+use Rattle.occ_shown.specs.declared.counted.Counted.{Counted}
+use Rattle.occ_shown.proofs.Growth.{Appends-join, Appends-none}
 use Rattle.occ_shown.proofs.ByteMessages.{outputs_are_bytes}
-use Rattle.occ_live.specs.Living.{CanGoOn, HasBegun, HasHeard, StandsLive}
+use Rattle.occ_live.specs.declared.fault.LiveFault.{LiveFault}
+use Rattle.occ_live.specs.declared.living.Lived.{Lived}
+use Rattle.occ_live.specs.Living.{ComesTo, FailsBehind, FailsLive, HasBegun, HasCome, HasHeard, HasShown, IsLive, IsMarked, MarksStart, StandsLive, WroteSome}
+use Rattle.occ_live.proofs.Shown.{bytes_behind}
 
 -- ---- bytes behind those that were read
 
@@ -147,3 +161,69 @@ module _ (p : Program) (read : List ℕ) (is_open : Bool) (kept : List Choice) (
     trace_on =
         let y = settled_says turned.turn.settles in
         (y.0, sym turned.holds.trace ∙ y.1 ∙ ap (λ l. l ++ y.0) (trace_is p read is_open kept choice begun items n x))
+
+-- ---- the run
+
+nothing_read : (k : Option (List ℕ)) (bytes : List ℕ) → bytes ≡ [] → Consumes k k bytes
+nothing_read None bytes e = tt
+nothing_read (Some xs) bytes e = ap (λ (l : List ℕ). l ++ xs) (sym e)
+
+pub read_nothing : {K : Type 0} (remaining : K → Option (List ℕ)) (keys : CountedReader K) (bytes : List ℕ) → bytes ≡ [] → ReadsNext remaining keys keys bytes
+read_nothing remaining keys bytes e = nothing_read (remaining (reader_of keys)) bytes e
+
+pub starts_live : (p : Program) (read : List ℕ) (n : Tables) → read ≡ [] → HoldsFirst p n → StandsLive p read true [] n
+starts_live p read n e h = subst (λ l. StandsLive p l true [] n) (sym e) (record { net = first_net p []; bytes = tt; replays = begins; within = λ o. ReplaysWithin.begins; holds = h [] })
+
+pub shows_nothing : {W : Type 0} (contents : W → Option (List ℕ)) (out : Counted W) (mark : Place) (trace : List Communication) → MarksStart mark → HasShown contents out out mark trace
+shows_nothing contents out mark trace m = record { before = []; behind = trace; are = refl; place = m; written = Appends-none (contents (writer_of out)) }
+
+pub is_marked : {W : Type 0} (contents : W → Option (List ℕ)) (first out : Counted W) (mark : Place) (trace : List Communication) → HasShown contents first out mark trace → IsMarked mark trace
+is_marked contents first out mark trace h = record { before = h.before; behind = h.behind; are = h.are; place = h.place }
+
+module _ (p : Program) (read : List ℕ) (is_open : Bool) (list kept : List Choice) (n : Tables) (s : StandsLive p read is_open kept n) (used : kept ≡ take (length kept) list) where
+  pub has_come : length kept < 2 ^ 64 → HasCome p read kept n
+  has_come few = record { net = s.net; few = few; replays = s.replays; holds = s.holds }
+
+  pub begins_list : Begins kept list
+  begins_list = subst (λ cs. Begins cs list) (sym used) (begins_taken list (length kept))
+
+  pub fails_live : {W : Type 0} (contents : W → Option (List ℕ)) (first out now : Counted W) (mark : Place) (fault : LiveFault) → HasShown contents first out mark (trace_in n) → FailsBehind contents out mark (trace_in n) now fault → FailsLive contents p read list first now fault
+  fails_live contents first out now mark fault shown part =
+      record { used = kept; begins = begins_list; net = s.net; replays = s.replays; wrote = subst (λ t. WroteSome contents first now t fault) (sym s.holds.trace) (part first shown) }
+
+  module _ {W : Type 0} (contents : W → Option (List ℕ)) (first out now : Counted W) (mark : Place) (ending : Ending) (lived : Lived) (x : ComesTo contents out mark (trace_in n) kept ending is_open now lived) where
+    module _ (same : ending ≡ or_limit (ending_of p.errors s.net)) (whole : ending_of p.errors s.net ≡ None → kept ≡ list) where
+      pub is_live : IsLive p read list lived
+      is_live =
+          record {
+            is = record {
+              net = s.net;
+              replays = subst (λ cs. Replays p read cs s.net) (sym x.choices) s.replays;
+              trace = s.holds.trace ∙ sym x.trace_is;
+              used = subst (λ cs. Begins cs list) (sym x.choices) begins_list;
+              ending = x.ending_is ∙ same;
+              whole = λ e. x.choices ∙ whole e;
+            };
+            for_more = λ o more.
+                let still : IsTrue is_open = sym x.open_is ∙ o in
+                let within = more_bytes p read more kept s.net (s.within still) in
+                record {
+                  net = with_more more s.net;
+                  replays = subst (λ cs. Replays p (read ++ more) cs (with_more more s.net)) (sym x.choices) (within_replays p (read ++ more) kept (with_more more s.net) within);
+                  trace = s.holds.trace ∙ sym x.trace_is;
+                  used = subst (λ cs. Begins cs list) (sym x.choices) begins_list;
+                  ending = x.ending_is ∙ same;
+                  whole = λ e. x.choices ∙ whole e;
+                };
+          }
+
+    pub all_written : HasShown contents first out mark (trace_in n) → AppendsTo contents first now (channel_bytes 1 lived.outcome.trace)
+    all_written h =
+        let all : channel_bytes 1 h.before ++ channel_bytes 1 h.behind ≡ channel_bytes 1 lived.outcome.trace = sym (bytes_behind 1 h.before h.behind) ∙ ap (channel_bytes 1) (sym h.are ∙ sym x.trace_is) in
+        subst (AppendsTo contents first now) all (Appends-join _ _ _ _ _ h.written (x.shown h.before h.behind h.are h.place))
+
+-- one choice more is used
+pub one_more_used : (list kept after : List Choice) (choice : Choice) → kept ≡ take (length kept) list → slice_get list (length kept) ≡ Some choice → after ≡ kept ++ choice ∷ [] → after ≡ take (length after) list
+one_more_used list kept after choice used at e =
+    let grown : length after ≡ length kept + 1 = ap length e ∙ length-append kept (choice ∷ []) in
+    e ∙ ap (λ (l : List Choice). l ++ choice ∷ []) used ∙ taken_more list (length kept) choice at ∙ ap (λ (k : ℕ). take k list) (sym grown)

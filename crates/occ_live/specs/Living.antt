@@ -1,8 +1,9 @@
 -- Runs that get the keyboard's bytes while they go on, and what of their screen was written.
 -- Manual: nothing; this is (own).
-use Rattle.std.specs.Prelude.{Bool, IsFalse, IsTrue, List, None, Option, [], length, ℕ, ⊤, ◌++◌, ◌+◌, ◌<◌, ◌^◌, ◌∷◌, ◌≡◌}
+use Rattle.std.specs.Prelude.{Bool, IsFalse, IsTrue, List, None, Option, [], length, ℕ, ⊤, ◌++◌, ◌+◌, ◌<◌, ◌^◌, ◌≡◌}
 use Rattle.std.specs.Io.KnownBytes.{IsAtEnd}
 use Rattle.occ_term.specs.declared.communication.Communication.{Communication}
+use Rattle.occ_term.specs.declared.ending.Ending.{Ending}
 use Rattle.occ_machine.specs.Compiled.{Program}
 use Rattle.occ_term.specs.declared.message.Part.{Part}
 use Rattle.occ_live_laws.specs.Live.{ReplaysWithin}
@@ -150,3 +151,11 @@ pub record FailsAt {W : Type 0} (contents : W → Option (List ℕ)) (p : Progra
   pub replays : Replays p read kept net
   pub trace : net.trace ≡ trace_in n
   pub part : FailsBehind contents old mark (trace_in n) new fault
+
+-- what came of a run with these choices, whose screen's bytes were written up to the end
+pub record ComesTo {W : Type 0} (contents : W → Option (List ℕ)) (old : Counted W) (mark : Place) (trace : List Communication) (kept : List Choice) (ending : Ending) (is_open : Bool) (new : Counted W) (lived : Lived) : Type 0 where
+  pub trace_is : lived.outcome.trace ≡ trace
+  pub choices : lived.outcome.choices.items ≡ kept
+  pub ending_is : lived.outcome.ending ≡ ending
+  pub open_is : lived.is_open ≡ is_open
+  pub shown : (before behind : List Communication) → trace ≡ before ++ behind → mark ≡ place_behind before → AppendsTo contents old new (channel_bytes 1 behind)

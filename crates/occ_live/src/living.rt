@@ -2,7 +2,7 @@
 ghost use Rattle.std.specs.Prelude.{◌≡◌, ◌<◌, ◌-◌, ◌^◌, ◌++◌, ◌∷◌, [], IfErr, IfOk, OnOk};
 ghost use Rattle.occ_choices.specs.Plans.{choices_of};
 ghost use Rattle.occ_files.specs.Reading.{ReadsNext, failures_of as reads_failed};
-ghost use Rattle.occ_live.specs.Living.{CanGoOn, EndsRightly, FailsAt, FailsLive, HasCome, IsLive, IsMarked, ReadsOn, Shows, ShowsOn, ShowsPart, StandsLive};
+ghost use Rattle.occ_live.specs.Living.{CanGoOn, ComesTo, EndsRightly, FailsAt, FailsLive, HasCome, IsLive, IsMarked, ReadsOn, Shows, ShowsOn, ShowsPart, StandsLive};
 ghost use Rattle.occ_net_tables.specs.Holding.{trace_in};
 ghost use Rattle.occ_shown.specs.Answers.{channel_bytes};
 ghost use Rattle.occ_shown.specs.Counting.{AppendsTo, failures_of};
@@ -125,6 +125,31 @@ fn show_all<W: Write>(
     screen.show(tables.trace_so_far(), out)
 }
 
+/// Writes what the screen has, after each 256 turns.
+fn show_at_times<W: Write>(
+    code: &Code,
+    keyboard: &[u8],
+    kept: &[Choice],
+    tables: &Tables,
+    screen: &mut Screen,
+    out: &mut Counted<W>,
+) -> Result<(), LiveFault>
+    requires room { failures_of out.old < 2 ^ 64 - 1 }
+    requires marked { IsMarked screen.old.mark (trace_in tables.now) }
+    requires stands { HasCome code.now keyboard.now kept.now tables.now }
+    ensures shown { OnOk result (ShowsOn W.contents out.old screen.old.mark
+        (trace_in tables.now) out.new screen.new.mark (trace_in tables.now)) }
+    ensures none_failed { OnOk result (failures_of out.new ≡ failures_of out.old) }
+    ensures part { IfErr result
+        (ShowsPart W.contents out.old screen.old.mark (trace_in tables.now) out.new) }
+{
+    if kept.len() % MOST_TURNS == 0 {
+        show_all(code, keyboard, kept, tables, screen, out)
+    } else {
+        Ok(())
+    }
+}
+
 /// What a run came to, all of whose screen is written.
 fn come_to<W: Write>(
     code: &Code,
@@ -139,12 +164,8 @@ fn come_to<W: Write>(
     requires room { failures_of out.old < 2 ^ 64 - 1 }
     requires marked { IsMarked screen.old.mark (trace_in tables) }
     requires stands { HasCome code.now keyboard.now kept.items tables }
-    ensures outcome { IfOk result (λ lived. lived.outcome.trace ≡ trace_in tables) }
-    ensures choices { IfOk result (λ lived. lived.outcome.choices ≡ kept) }
-    ensures ending { IfOk result (λ lived. lived.outcome.ending ≡ ending) }
-    ensures is_open { IfOk result (λ lived. lived.is_open ≡ is_open) }
-    ensures shown { OnOk result
-        (Shows W.contents out.old screen.old.mark (trace_in tables) out.new screen.new.mark) }
+    ensures lived { IfOk result (ComesTo W.contents out.old screen.old.mark (trace_in tables)
+        kept.items ending is_open out.new) }
     ensures none_failed { OnOk result (failures_of out.new ≡ failures_of out.old) }
     ensures part { IfErr result
         (ShowsPart W.contents out.old screen.old.mark (trace_in tables) out.new) }
@@ -188,19 +209,40 @@ pub fn run_live<K: Read, W: Write>(
         (choices_of plan.now) out.old out.new) }
 {
     let mut scratch = Scratch::new(alloc);
-    let mut tables = Tables::new(alloc, code)?;
+    let mut tables = match Tables::new(alloc, code) {
+        Ok(tables) => tables,
+        Err(_refused) => return Err(LiveFault::Memory),
+    };
     let mut kept = Vec::new(alloc);
     let mut screen = Screen::new(alloc);
     let mut is_open = true;
     loop {
         if let Some(ending) = tables.ending(code.errors()) {
-            return come_to(code, keyboard, tables, kept, ending, is_open, &mut screen, out);
+            return come_to(
+                code,
+                keyboard,
+                tables,
+                kept,
+                ending,
+                is_open,
+                &mut screen,
+                out,
+            );
         }
         let Some(choice) = plan.at(kept.len()) else {
             let ending = Ending::Limit;
-            return come_to(code, keyboard, tables, kept, ending, is_open, &mut screen, out);
+            return come_to(
+                code,
+                keyboard,
+                tables,
+                kept,
+                ending,
+                is_open,
+                &mut screen,
+                out,
+            );
         };
-        is_open = live_turn(
+        let turned = live_turn(
             alloc,
             code,
             &mut scratch,
@@ -212,9 +254,14 @@ pub fn run_live<K: Read, W: Write>(
             &mut tables,
             &mut screen,
             out,
-        )?;
-        if kept.len() % MOST_TURNS == 0 {
-            show_all(code, keyboard, &kept, &tables, &mut screen, out)?;
+        );
+        match turned {
+            Ok(still_open) => is_open = still_open,
+            Err(fault) => return Err(fault),
+        }
+        match show_at_times(code, keyboard, &kept, &tables, &mut screen, out) {
+            Ok(()) => {}
+            Err(unshown) => return Err(unshown),
         }
     }
 }

@@ -1,4 +1,4 @@
-use Rattle.std.proofs.Common.{◌≡◌, ◌∙◌, ◌+◌, ◌<◌, ◌^◌, sym, ap, subst, Bool, true, false, ℕ, List, length, arith}
+use Rattle.std.proofs.Common.{◌≡◌, ◌∙◌, ◌<◌, ◌^◌, sym, ap, subst, length, arith}
 use Rattle.occ_live.specs.Living.{HasHeard, Shows, ShowsPart}
 use Rattle.occ_net_tables.specs.Halves.{AllTaken, with_used}
 use Rattle.occ_net_tables.specs.Holding.{trace_in}

@@ -1,6 +1,5 @@
 use Rattle.std.proofs.Common.{◌≡◌, ◌∙◌, sym, ap, subst, ℕ, List, ◌++◌, take, drop}
 use Rattle.std.proofs.lemmas.List.{take-append-drop}
-use Rattle.occ_term.specs.declared.communication.Communication.{Communication}
 use Rattle.occ_shown.specs.Answers.{AreByteMessages, channel_bytes}
 use Rattle.occ_live.proofs.Shown.{last_bytes}
 use Rattle.occ_live.proofs.screen.Screen.show.Goals as goal

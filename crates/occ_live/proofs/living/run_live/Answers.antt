@@ -1,0 +1,190 @@
+use Rattle.std.proofs.Common.{◌≡◌, ◌∙◌, ◌+◌, ◌-◌, ◌<◌, ◌^◌, refl, sym, ap, subst, true, List, [], None, Some, length, take, rules, arith, length-append}
+use Rattle.std.specs.Prelude.{slice_get}
+use Rattle.std.proofs.lemmas.Option.{slice_get_within}
+use mathlib.Core.Bool.{true≢false}
+use Rattle.occ_choices.specs.Plans.{choices_of}
+use Rattle.occ_net_replay.specs.Following.{or_limit}
+use Rattle.occ_net_replay.specs.Replay.{begins, ending_of, first_net}
+use Rattle.occ_net_tables.specs.Holding.{trace_in}
+use Rattle.occ_net_tables.proofs.Rerun.{all_taken}
+use Rattle.occ_live.specs.Living.{StandsLive, WroteSome}
+use Rattle.occ_shown.specs.Counting.{writer_of}
+use Rattle.occ_shown.proofs.Growth.{Appends-none}
+use Rattle.occ_live.proofs.Shown.{if_err_map, if_ok_map, part_fails}
+use Rattle.occ_live.proofs.Standing.{all_written, begins_list, fails_live, is_live, is_marked, one_more_used, read_nothing, shows_nothing, starts_live}
+use Rattle.occ_live.proofs.living.run_live.Goals as goal
+
+pub loop-ending-init : goal.loop-ending-init
+loop-ending-init g c =
+    let none : c.new-kept.result.items ≡ [] = c.new-kept.ensures.items in
+    record {
+      stands = subst (λ cs. StandsLive c.args.code.now c.args.keyboard.now.items true cs c.in-Ok.tables) (sym none) (starts_live c.args.code.now c.args.keyboard.now.items c.in-Ok.tables c.requires.empty c.in-Ok.ensures);
+      used = none ∙ sym (ap (λ (cs : List _). take (length cs) (choices_of c.args.plan.now)) none);
+      shown = shows_nothing g.W.Write.contents c.args.out.now c.new-screen.result.mark (trace_in c.in-Ok.tables) c.new-screen.ensures;
+      read = read_nothing g.K.Read.remaining c.args.keys.now c.args.keyboard.now.items c.requires.empty;
+      end = λ o. absurd (true≢false o);
+      failed = refl;
+      room = c.requires.keys;
+    }
+
+pub returns-in-Err-clause-fault : goal.returns-in-Err-clause-fault
+returns-in-Err-clause-fault g c =
+    record { used = []; begins = record { rest = choices_of c.args.plan.now; is = refl }; net = first_net c.args.code.now c.args.keyboard.now.items; replays = begins; wrote = ([], [], refl, Appends-none (g.W.Write.contents (writer_of c.args.out.now))) }
+
+pub returns-in-Some-clause-lived : goal.returns-in-Some-clause-lived
+returns-in-Some-clause-lived g c =
+    let p = c.args.code.now in
+    let list = choices_of c.args.plan.now in
+    let read = c.loop-ending.keyboard.items in
+    let n = c.loop-ending.tables in
+    let h = c.loop-ending.invariant in
+    let ends : Some c.in-Some.ending ≡ ending_of p.errors h.stands.net = sym c.in-Some.is ∙ c.ending.ensures p read h.stands.net h.stands.holds ∙ ap (λ e. ending_of e h.stands.net) c.errors.ensures in
+    if_ok_map _ _ c.come_to.result
+    (λ lived x. is_live p read c.loop-ending.is_open list c.loop-ending.kept.items n h.stands h.used g.W.Write.contents c.loop-ending.out c.loop-ending.out c.come_to.new.out c.loop-ending.screen.mark c.in-Some.ending lived x (ap or_limit ends) (λ q. let never : Some c.in-Some.ending ≡ None = ends ∙ q in absurd cc))
+    c.come_to.ensures.lived
+
+pub returns-in-Some-clause-shown : goal.returns-in-Some-clause-shown
+returns-in-Some-clause-shown g c =
+    let p = c.args.code.now in
+    let list = choices_of c.args.plan.now in
+    let read = c.loop-ending.keyboard.items in
+    let n = c.loop-ending.tables in
+    let h = c.loop-ending.invariant in
+    if_ok_map _ _ c.come_to.result
+    (λ lived x. all_written p read c.loop-ending.is_open list c.loop-ending.kept.items n h.stands h.used g.W.Write.contents c.args.out.now c.loop-ending.out c.come_to.new.out c.loop-ending.screen.mark c.in-Some.ending lived x h.shown)
+    c.come_to.ensures.lived
+
+pub returns-in-Some-clause-fault : goal.returns-in-Some-clause-fault
+returns-in-Some-clause-fault g c =
+    let p = c.args.code.now in
+    let list = choices_of c.args.plan.now in
+    let read = c.loop-ending.keyboard.items in
+    let n = c.loop-ending.tables in
+    let h = c.loop-ending.invariant in
+    if_err_map _ _ c.come_to.result
+    (λ fault part. fails_live p read c.loop-ending.is_open list c.loop-ending.kept.items n h.stands h.used g.W.Write.contents c.args.out.now c.loop-ending.out c.come_to.new.out c.loop-ending.screen.mark fault h.shown
+    (part_fails g.W.Write.contents c.loop-ending.out c.come_to.new.out c.loop-ending.screen.mark (trace_in n) fault part))
+    c.come_to.ensures.part
+
+pub returns-in_default-at-clause-lived : goal.returns-in_default-at-clause-lived
+returns-in_default-at-clause-lived g c =
+    let p = c.args.code.now in
+    let list = choices_of c.args.plan.now in
+    let read = c.loop-ending.keyboard.items in
+    let n = c.loop-ending.tables in
+    let h = c.loop-ending.invariant in
+    let ends : None ≡ ending_of p.errors h.stands.net = sym c.in_default.is ∙ c.ending.ensures p read h.stands.net h.stands.holds ∙ ap (λ e. ending_of e h.stands.net) c.errors.ensures in
+    let count : c.len.result ≡ length c.loop-ending.kept.items = c.len.ensures ∙ c.loop-ending.kept.ok.0 in
+    let at = ap (slice_get list) (sym count) ∙ sym c.at.ensures ∙ c.in_default-at.is in
+    if_ok_map _ _ c.come_to-in_default-at.result
+    (λ lived x. is_live p read c.loop-ending.is_open list c.loop-ending.kept.items n h.stands h.used g.W.Write.contents c.loop-ending.out c.loop-ending.out c.come_to-in_default-at.new.out c.loop-ending.screen.mark _ lived x (ap or_limit ends) (λ q. h.used ∙ all_taken list (length c.loop-ending.kept.items) at))
+    c.come_to-in_default-at.ensures.lived
+
+pub returns-in_default-at-clause-shown : goal.returns-in_default-at-clause-shown
+returns-in_default-at-clause-shown g c =
+    let p = c.args.code.now in
+    let list = choices_of c.args.plan.now in
+    let read = c.loop-ending.keyboard.items in
+    let n = c.loop-ending.tables in
+    let h = c.loop-ending.invariant in
+    if_ok_map _ _ c.come_to-in_default-at.result
+    (λ lived x. all_written p read c.loop-ending.is_open list c.loop-ending.kept.items n h.stands h.used g.W.Write.contents c.args.out.now c.loop-ending.out c.come_to-in_default-at.new.out c.loop-ending.screen.mark _ lived x h.shown)
+    c.come_to-in_default-at.ensures.lived
+
+pub returns-in_default-at-clause-fault : goal.returns-in_default-at-clause-fault
+returns-in_default-at-clause-fault g c =
+    let p = c.args.code.now in
+    let list = choices_of c.args.plan.now in
+    let read = c.loop-ending.keyboard.items in
+    let n = c.loop-ending.tables in
+    let h = c.loop-ending.invariant in
+    if_err_map _ _ c.come_to-in_default-at.result
+    (λ fault part. fails_live p read c.loop-ending.is_open list c.loop-ending.kept.items n h.stands h.used g.W.Write.contents c.args.out.now c.loop-ending.out c.come_to-in_default-at.new.out c.loop-ending.screen.mark fault h.shown
+    (part_fails g.W.Write.contents c.loop-ending.out c.come_to-in_default-at.new.out c.loop-ending.screen.mark (trace_in n) fault part))
+    c.come_to-in_default-at.ensures.part
+
+pub live_turn-turned-requires-clause-stands : goal.live_turn-turned-requires-clause-stands
+live_turn-turned-requires-clause-stands g c =
+    let p = c.args.code.now in
+    let list = choices_of c.args.plan.now in
+    let read = c.loop-ending.keyboard.items in
+    let n = c.loop-ending.tables in
+    let h = c.loop-ending.invariant in
+    let ends : None ≡ ending_of p.errors h.stands.net = sym c.in_default.is ∙ c.ending.ensures p read h.stands.net h.stands.holds ∙ ap (λ e. ending_of e h.stands.net) c.errors.ensures in
+    let few : 1 + length c.loop-ending.kept.items < 2 ^ 64 = search rules in
+    record { stands = h.stands; few = few; going = sym ends }
+
+pub returns-in-Err-turned-clause-fault : goal.returns-in-Err-turned-clause-fault
+returns-in-Err-turned-clause-fault g c =
+    let p = c.args.code.now in
+    let list = choices_of c.args.plan.now in
+    let read = c.loop-ending.keyboard.items in
+    let n = c.loop-ending.tables in
+    let h = c.loop-ending.invariant in
+    let x = c.in-Err-turned.ensures.fault in
+    record {
+      used = c.loop-ending.kept.items;
+      begins = begins_list p read c.loop-ending.is_open list c.loop-ending.kept.items n h.stands h.used;
+      net = x.net;
+      replays = x.replays;
+      wrote = subst (λ t. WroteSome g.W.Write.contents c.args.out.now c.live_turn-turned.new.out t c.in-Err-turned.fault) (sym x.trace) (x.part c.args.out.now h.shown);
+    }
+
+pub show_at_times-requires-clause-marked : goal.show_at_times-requires-clause-marked
+show_at_times-requires-clause-marked g c =
+    let p = c.args.code.now in
+    let list = choices_of c.args.plan.now in
+    let read = c.loop-ending.keyboard.items in
+    let n = c.loop-ending.tables in
+    let h = c.loop-ending.invariant in
+    is_marked g.W.Write.contents c.args.out.now c.live_turn-turned.new.out c.live_turn-turned.new.screen.mark (trace_in c.live_turn-turned.new.tables) (c.in-Ok-turned.ensures.shown c.args.out.now h.shown)
+
+pub loop-ending-smaller : goal.loop-ending-smaller
+loop-ending-smaller g c =
+    let p = c.args.code.now in
+    let list = choices_of c.args.plan.now in
+    let read = c.loop-ending.keyboard.items in
+    let n = c.loop-ending.tables in
+    let h = c.loop-ending.invariant in
+    let count : c.len.result ≡ length c.loop-ending.kept.items = c.len.ensures ∙ c.loop-ending.kept.ok.0 in
+    let at = ap (slice_get list) (sym count) ∙ sym c.at.ensures ∙ c.in-Some-at.is in
+    let there : length c.loop-ending.kept.items < length list = slice_get_within _ _ _ at in
+    let grown : length c.live_turn-turned.new.kept.items ≡ length c.loop-ending.kept.items + 1 = ap length c.in-Ok-turned.ensures.kept ∙ length-append c.loop-ending.kept.items _ in
+    let less : length list - length c.live_turn-turned.new.kept.items < length list - length c.loop-ending.kept.items = omega (arith, there, grown) in
+    less
+
+pub loop-ending-preserved : goal.loop-ending-preserved
+loop-ending-preserved g c =
+    let p = c.args.code.now in
+    let list = choices_of c.args.plan.now in
+    let read = c.loop-ending.keyboard.items in
+    let n = c.loop-ending.tables in
+    let h = c.loop-ending.invariant in
+    let count : c.len.result ≡ length c.loop-ending.kept.items = c.len.ensures ∙ c.loop-ending.kept.ok.0 in
+    let at = ap (slice_get list) (sym count) ∙ sym c.at.ensures ∙ c.in-Some-at.is in
+    let t = c.in-Ok-turned.ensures in
+    record {
+      stands = t.stands;
+      used = one_more_used list c.loop-ending.kept.items c.live_turn-turned.new.kept.items c.in-Some-at.choice h.used at t.kept;
+      shown = c.in-Ok-show_at_times.ensures.shown c.args.out.now (t.shown c.args.out.now h.shown);
+      read = t.read c.args.keys.now h.read;
+      end = t.end h.end;
+      failed = c.in-Ok-show_at_times.ensures.none_failed ∙ t.none_failed ∙ h.failed;
+      room = t.room_left;
+    }
+
+pub returns-in-Err-show_at_times-clause-fault : goal.returns-in-Err-show_at_times-clause-fault
+returns-in-Err-show_at_times-clause-fault g c =
+    let p = c.args.code.now in
+    let list = choices_of c.args.plan.now in
+    let read = c.loop-ending.keyboard.items in
+    let n = c.loop-ending.tables in
+    let h = c.loop-ending.invariant in
+    let count : c.len.result ≡ length c.loop-ending.kept.items = c.len.ensures ∙ c.loop-ending.kept.ok.0 in
+    let at = ap (slice_get list) (sym count) ∙ sym c.at.ensures ∙ c.in-Some-at.is in
+    let t = c.in-Ok-turned.ensures in
+    let now = trace_in c.live_turn-turned.new.tables in
+    let used = one_more_used list c.loop-ending.kept.items c.live_turn-turned.new.kept.items c.in-Some-at.choice h.used at t.kept in
+    fails_live p c.live_turn-turned.new.keyboard.items c.in-Ok-turned.still_open list c.live_turn-turned.new.kept.items c.live_turn-turned.new.tables t.stands used g.W.Write.contents c.args.out.now c.live_turn-turned.new.out c.show_at_times.new.out
+    c.live_turn-turned.new.screen.mark c.in-Err-show_at_times.unshown (t.shown c.args.out.now h.shown)
+    (part_fails g.W.Write.contents c.live_turn-turned.new.out c.show_at_times.new.out c.live_turn-turned.new.screen.mark now c.in-Err-show_at_times.unshown c.in-Err-show_at_times.ensures.part)
