@@ -24,6 +24,7 @@ use Rattle.occ_shown.specs.declared.counted.Counted.{Counted}
 use Rattle.occ_live.specs.declared.fault.LiveFault.{LiveFault}
 use Rattle.occ_live.specs.declared.fault.LiveFault.TheVariants as fails
 use Rattle.occ_live.specs.declared.living.Lived.{Lived}
+use Rattle.occ_live.specs.declared.screen.Screen.{Screen}
 
 -- ---- what a live run comes to
 
@@ -122,7 +123,7 @@ pub record HasCome (p : Program) (read : List ℕ) (kept : List Choice) (n : Tab
   pub holds : Holds p read n net
 
 -- it stands where it can go on
-pub record CanGoOn (p : Program) (read : List ℕ) (is_open : Bool) (kept : List Choice) (n : Tables) : Type 0 where
+pub record MayGoOn (p : Program) (read : List ℕ) (is_open : Bool) (kept : List Choice) (n : Tables) : Type 0 where
   pub stands : StandsLive p read is_open kept n
   pub few : 1 + length kept < 2 ^ 64
   pub going : ending_of p.errors stands.net ≡ None
@@ -130,7 +131,7 @@ pub record CanGoOn (p : Program) (read : List ℕ) (is_open : Bool) (kept : List
 -- it stood so, and this turn of its has come to its stop
 pub record HasBegun (p : Program) (read : List ℕ) (is_open : Bool) (kept : List Choice) (choice : Choice) (begun : Begun) (items : List Part) (n : Tables) : Type 0 where
   pub old : Tables
-  pub from : CanGoOn p read is_open kept old
+  pub from : MayGoOn p read is_open kept old
   pub began : BeganTurn p choice old begun items n
 
 abbrev pub CanHear : Program → List ℕ → Bool → (pick : ℕ) → Begun → Tables → Type 0
@@ -153,9 +154,36 @@ pub record FailsAt {W : Type 0} (contents : W → Option (List ℕ)) (p : Progra
   pub part : FailsBehind contents old mark (trace_in n) new fault
 
 -- what came of a run with these choices, whose screen's bytes were written up to the end
-pub record ComesTo {W : Type 0} (contents : W → Option (List ℕ)) (old : Counted W) (mark : Place) (trace : List Communication) (kept : List Choice) (ending : Ending) (is_open : Bool) (new : Counted W) (lived : Lived) : Type 0 where
+pub record CameTo {W : Type 0} (contents : W → Option (List ℕ)) (old : Counted W) (mark : Place) (trace : List Communication) (kept : List Choice) (ending : Ending) (is_open : Bool) (new : Counted W) (lived : Lived) : Type 0 where
   pub trace_is : lived.outcome.trace ≡ trace
   pub choices : lived.outcome.choices.items ≡ kept
   pub ending_is : lived.outcome.ending ≡ ending
   pub open_is : lived.is_open ≡ is_open
   pub shown : (before behind : List Communication) → trace ≡ before ++ behind → mark ≡ place_behind before → AppendsTo contents old new (channel_bytes 1 behind)
+
+-- ---- the same of a screen and of tables
+
+abbrev pub Marked : Screen → Tables → Type 0
+Marked s n = IsMarked s.mark (trace_in n)
+
+abbrev pub ScreenGoesOn : {W : Type 0} → (W → Option (List ℕ)) → (old : Counted W) → Screen → Tables → (new : Counted W) → Screen → Tables → Type 0
+ScreenGoesOn contents old s n new t m = ShowsOn contents old s.mark (trace_in n) new t.mark (trace_in m)
+
+abbrev pub ScreenShows : {W : Type 0} → (W → Option (List ℕ)) → (old : Counted W) → Screen → Tables → (new : Counted W) → Screen → Type 0
+ScreenShows contents old s n new t = Shows contents old s.mark (trace_in n) new t.mark
+
+abbrev pub ScreenShowsPart : {W : Type 0} → (W → Option (List ℕ)) → (old : Counted W) → Screen → Tables → (new : Counted W) → LiveFault → Type 0
+ScreenShowsPart contents old s n new fault = ShowsPart contents old s.mark (trace_in n) new fault
+
+abbrev pub ScreenFails : {W : Type 0} → (W → Option (List ℕ)) → (old : Counted W) → Screen → Tables → (new : Counted W) → LiveFault → Type 0
+ScreenFails contents old s n new fault = FailsBehind contents old s.mark (trace_in n) new fault
+
+abbrev pub TurnFails : {W : Type 0} → (W → Option (List ℕ)) → Program → List ℕ → List Choice → (old : Counted W) → Screen → Tables → (new : Counted W) → LiveFault → Type 0
+TurnFails contents p read kept old s n new fault = FailsAt contents p read kept old s.mark n new fault
+
+-- where the keyboard had no more before, or has no more now, its reader is at its end
+abbrev pub EndsOn : {K : Type 0} → (K → Option (List ℕ)) → (old new : CountedReader K) → (was is : Bool) → Type 0
+EndsOn remaining old new was is = EndsRightly remaining old was → EndsRightly remaining new is
+
+abbrev pub RunComesTo : {W : Type 0} → (W → Option (List ℕ)) → (old : Counted W) → Screen → Tables → List Choice → Ending → Bool → (new : Counted W) → Lived → Type 0
+RunComesTo contents old s n kept ending is_open new lived = CameTo contents old s.mark (trace_in n) kept ending is_open new lived

@@ -29,24 +29,21 @@ pub(crate) fn hear<K: Read, W: Write>(
 ) -> Result<bool, LiveFault>
     requires room { failures_of out.old < 2 ^ 64 - 1 }
     requires keys { reads_failed keys.old < 2 ^ 64 - 1 }
-    requires marked { IsMarked screen.old.mark (trace_in tables.old) }
+    requires marked { Marked screen.old tables.old }
     requires begun { CanHear code.now keyboard.old.items is_open pick begun tables.old }
-    ensures heard { IfOk result
-        (Hears code.now keyboard.old.items is_open tables.old begun pick keyboard.new.items
-        tables.new) }
+    ensures heard { IfOk result (HearsBytes code.now keyboard.old.items is_open tables.old begun pick
+        keyboard.new.items tables.new) }
     ensures trace { trace_in tables.new ≡ trace_in tables.old }
     ensures shown { OnOk result
-        (ShowsOn W.contents out.old screen.old.mark (trace_in tables.old) out.new
-        screen.new.mark (trace_in tables.old)) }
+        (ScreenGoesOn W.contents out.old screen.old tables.old out.new screen.new tables.old) }
     ensures read { OnOk result
         (ReadsOn K.remaining keys.old keyboard.old.items keys.new keyboard.new.items) }
     ensures none_failed { OnOk result (failures_of out.new ≡ failures_of out.old) }
     ensures room_left { OnOk result (reads_failed keys.new < 2 ^ 64 - 1) }
-    ensures end { IfOk result (λ still_open. EndsRightly K.remaining keys.old is_open →
-        EndsRightly K.remaining keys.new still_open) }
+    ensures end { IfOk result (EndsOn K.remaining keys.old keys.new is_open) }
     ensures kept { OnErr result (keyboard.new.items ≡ keyboard.old.items) }
     ensures part { IfErr result
-        (FailsBehind W.contents out.old screen.old.mark (trace_in tables.old) out.new) }
+        (ScreenFails W.contents out.old screen.old tables.old out.new) }
 {
     if !is_open || !tables.asks(keyboard, begun, pick) {
         return Ok(is_open);

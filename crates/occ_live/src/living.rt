@@ -2,7 +2,7 @@
 ghost use Rattle.std.specs.Prelude.{◌≡◌, ◌<◌, ◌-◌, ◌^◌, ◌++◌, ◌∷◌, [], IfErr, IfOk, OnOk};
 ghost use Rattle.occ_choices.specs.Plans.{choices_of};
 ghost use Rattle.occ_files.specs.Reading.{ReadsNext, failures_of as reads_failed};
-ghost use Rattle.occ_live.specs.Living.{CanGoOn, ComesTo, EndsRightly, FailsAt, FailsLive, HasCome, IsLive, IsMarked, ReadsOn, Shows, ShowsOn, ShowsPart, StandsLive};
+ghost use Rattle.occ_live.specs.Living.{MayGoOn, CameTo, EndsRightly, FailsAt, FailsLive, HasCome, IsLive, IsMarked, ReadsOn, Shows, ShowsOn, ShowsPart, StandsLive};
 ghost use Rattle.occ_net_tables.specs.Holding.{trace_in};
 ghost use Rattle.occ_shown.specs.Answers.{channel_bytes};
 ghost use Rattle.occ_shown.specs.Counting.{AppendsTo, failures_of};
@@ -58,7 +58,7 @@ fn live_turn<K: Read, W: Write>(
     requires room { failures_of out.old < 2 ^ 64 - 1 }
     requires keys { reads_failed keys.old < 2 ^ 64 - 1 }
     requires marked { IsMarked screen.old.mark (trace_in tables.old) }
-    requires stands { CanGoOn code.now keyboard.old.items is_open kept.old.items tables.old }
+    requires stands { MayGoOn code.now keyboard.old.items is_open kept.old.items tables.old }
     ensures stands { IfOk result (λ still_open.
         StandsLive code.now keyboard.new.items still_open kept.new.items tables.new) }
     ensures kept { OnOk result (kept.new.items ≡ kept.old.items ++ choice ∷ []) }
@@ -164,7 +164,7 @@ fn come_to<W: Write>(
     requires room { failures_of out.old < 2 ^ 64 - 1 }
     requires marked { IsMarked screen.old.mark (trace_in tables) }
     requires stands { HasCome code.now keyboard.now kept.items tables }
-    ensures lived { IfOk result (ComesTo W.contents out.old screen.old.mark (trace_in tables)
+    ensures lived { IfOk result (CameTo W.contents out.old screen.old.mark (trace_in tables)
         kept.items ending is_open out.new) }
     ensures none_failed { OnOk result (failures_of out.new ≡ failures_of out.old) }
     ensures part { IfErr result

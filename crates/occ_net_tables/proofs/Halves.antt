@@ -22,7 +22,7 @@ use Rattle.occ_net_replay.proofs.OneStop.{stopping_once}
 use Rattle.occ_net_replay.proofs.Tables.{offers_found, offers_there, set_same, task_once}
 use Rattle.occ_net_tables.specs.declared.tables.Tables.{Tables}
 use Rattle.occ_net_tables.specs.declared.turning.Begun.{Begun}
-use Rattle.occ_net_tables.specs.Halves.{AllTaken, BeganTurn, StandsAt, StaysWithinBytes, with_used}
+use Rattle.occ_net_tables.specs.Halves.{AllTaken, BeganTurn, HasOwnTask, StaysWithinBytes, with_used}
 use Rattle.occ_net_tables.specs.Choosing.{arm_at, is_entry, offered_arm, offered_by}
 use Rattle.occ_net_tables.specs.Holding.{Holds, IsTable}
 use Rattle.occ_net_tables.specs.Keys.{entry_in}
@@ -85,7 +85,7 @@ module _ (p : Program) (kb : List ℕ) (choice : Choice) (old : Tables) (begun :
   pub left_here : HasTask new.tasks.items begun.number b.left
   left_here = ap (λ (l : Tasks). slice_get l begun.number) b.tasks ∙ set_same old.tasks.items begun.number (Some b.first) (Some b.left) b.there
 
-  pub stands_at : StandsAt new begun.number
+  pub stands_at : HasOwnTask new begun.number
   stands_at = record { task = b.left; there = left_here }
 
   -- other bytes are taken

@@ -17,6 +17,7 @@ use Rattle.occ_net_tables.specs.Holding.{Holds}
 use Rattle.occ_net_tables.specs.Rows.{HasTakenTurn}
 use Rattle.occ_net_tables.specs.Settling.{IsTurnAt, Standing, tables_with}
 use Rattle.occ_net_tables.specs.Tasks.{IsThere}
+use Rattle.occ_net_tables.specs.Turning.{SettlesTurn}
 
 -- the network stands where a replay of some keyboard has come to that can go on
 pub record CanBegin (p : Program) (n : Tables) : Type 0 where
@@ -44,11 +45,15 @@ BeginsTurn p choice old begun scratch new = BeganTurn p choice old begun (left_m
 abbrev pub IsBegun : Program → List ℕ → Tables → Begun → Scratch → Type 0
 IsBegun p keyboard n begun scratch = HasTakenTurn p keyboard n begun.place begun.number begun.end (left_message scratch)
 
+-- that turn of the network, with this pick
+abbrev pub SettlesBegun : Program → List ℕ → Begun → Scratch → (pick : ℕ) → Tables → Tables → Type 0
+SettlesBegun p keyboard begun s pick old new = SettlesTurn p keyboard begun.place begun.number begun.end s pick old new
+
 -- ---- the keyboard's bytes
 
 -- the process has a task here
-abbrev pub StandsAt : Tables → ℕ → Type 0
-StandsAt n number = IsThere n.tasks.items number
+abbrev pub HasOwnTask : Tables → ℕ → Type 0
+HasOwnTask n number = IsThere n.tasks.items number
 
 -- Of whatever network the tables held before it: the turn does not look past these bytes.
 abbrev pub StaysWithinBytes : List ℕ → Tables → Begun → (pick : ℕ) → Type 0

@@ -1,7 +1,7 @@
 //! Whether a turn looks past the bytes that the keyboard has so far, and bytes that come behind them.
 ghost use Rattle.std.specs.Prelude.{◌≡◌, IsFalse, IsTrue, None};
 ghost use Rattle.occ_live_laws.specs.Live.{IsDeaf};
-ghost use Rattle.occ_net_tables.specs.Halves.{AllTaken, StaysWithinBytes, StandsAt, with_used};
+ghost use Rattle.occ_net_tables.specs.Halves.{AllTaken, StaysWithinBytes, HasOwnTask, with_used};
 ghost use Rattle.occ_net_tables.specs.Choosing.{offered_by};
 
 use crate::choosing::choose_arm;
@@ -16,7 +16,7 @@ impl Tables {
     /// does next depends on whether there is another one.
     #[inline(always)]
     pub fn asks(&self, keyboard: &[u8], begun: Begun, pick: u32) -> bool
-        requires { StandsAt self.now begun.number }
+        requires { HasOwnTask self.now begun.number }
         ensures within { IsFalse result → StaysWithinBytes keyboard.now self.now begun pick }
         ensures taken { IsTrue result → AllTaken keyboard.now self.now }
     {

@@ -1,11 +1,11 @@
 //! A turn of the network: the chosen process goes on, and what that makes possible happens.
 ghost use Rattle.std.specs.Prelude.{◌+◌, ◌<◌, ◌≤◌, ◌^◌, IfOk, IsTrue, OnOk, length};
 ghost use Rattle.occ_choices.specs.Plans.{choices_of};
-ghost use Rattle.occ_net_tables.specs.Halves.{BeginsTurn, CanBegin, IsBegun};
+ghost use Rattle.occ_net_tables.specs.Halves.{BeginsTurn, CanBegin, IsBegun, SettlesBegun};
 ghost use Rattle.occ_net_tables.specs.Endings.{GoesOn};
 ghost use Rattle.occ_net_tables.specs.Rows.{StandsAlone};
 ghost use Rattle.occ_net_tables.specs.Settling.{HasSomeMid, HasStopped, SettlesBy, SettlesOn, SettlesWait, Standing, TakesTurn, offer_left};
-ghost use Rattle.occ_net_tables.specs.Turning.{SettlesTurn, TakesRowOf};
+ghost use Rattle.occ_net_tables.specs.Turning.{TakesRowOf};
 
 use crate::ready::place_among;
 use crate::tables::Tables;
@@ -125,8 +125,7 @@ impl Tables {
     ) -> Result<bool, AllocError>
         requires { IsBegun code.now keyboard.now self.old begun scratch.old }
         ensures turn { OnOk result
-            (SettlesTurn code.now keyboard.now begun.place begun.number begun.end scratch.old pick
-            self.old self.new) }
+            (SettlesBegun code.now keyboard.now begun scratch.old pick self.old self.new) }
         ensures going { IfOk result (λ going. IsTrue going → GoesOn code.now self.new) }
     {
         code.compiled();

@@ -10,11 +10,28 @@ const TEXT: &[u8] = b"abcdef";
 
 /// Gives a byte a read. The read with the one number fails, and each second one, from the first on, may be interrupted.
 #[derive(Drop)]
-struct Halting {
+pub(crate) struct Halting {
     rest: &'static [u8],
     reads: u32,
     fails_at: u32,
     is_interrupted: bool,
+}
+
+impl Halting {
+    /// These bytes; the read with this number fails.
+    pub(crate) fn failing(rest: &'static [u8], fails_at: u32) -> Halting {
+        Halting {
+            rest,
+            reads: 0,
+            fails_at,
+            is_interrupted: false,
+        }
+    }
+
+    /// How many reads there were.
+    pub(crate) fn reads(&self) -> u32 {
+        self.reads
+    }
 }
 
 impl Read for Halting {

@@ -14,6 +14,8 @@ mod known;
 #[cfg(test)]
 mod laws;
 #[cfg(test)]
+mod live;
+#[cfg(test)]
 mod plans;
 #[cfg(test)]
 mod refused;
