@@ -1,6 +1,6 @@
 -- Runs that get the keyboard's bytes while they go on, and what of their screen was written.
 -- Manual: nothing; this is (own).
-use Rattle.std.specs.Prelude.{Bool, IsFalse, IsTrue, List, None, Option, [], length, ℕ, ⊤, ◌++◌, ◌+◌, ◌<◌, ◌^◌, ◌≡◌}
+use Rattle.std.specs.Prelude.{Bool, IsFalse, IsTrue, List, None, Option, [], length, ℕ, ⊤, Vec, ◌++◌, ◌+◌, ◌<◌, ◌^◌, ◌≡◌}
 use Rattle.std.specs.Io.KnownBytes.{IsAtEnd}
 use Rattle.occ_term.specs.declared.communication.Communication.{Communication}
 use Rattle.occ_term.specs.declared.ending.Ending.{Ending}
@@ -178,8 +178,12 @@ ScreenShowsPart contents old s n new fault = ShowsPart contents old s.mark (trac
 abbrev pub ScreenFails : {W : Type 0} → (W → Option (List ℕ)) → (old : Counted W) → Screen → Tables → (new : Counted W) → LiveFault → Type 0
 ScreenFails contents old s n new fault = FailsBehind contents old s.mark (trace_in n) new fault
 
-abbrev pub TurnFails : {W : Type 0} → (W → Option (List ℕ)) → Program → List ℕ → List Choice → (old : Counted W) → Screen → Tables → (new : Counted W) → LiveFault → Type 0
-TurnFails contents p read kept old s n new fault = FailsAt contents p read kept old s.mark n new fault
+abbrev pub FailsIn : {W A B : Type 0} → (W → Option (List ℕ)) → Program → (read : Vec ℕ A) → (kept : Vec Choice B) → (old : Counted W) → Screen → Tables → (new : Counted W) → LiveFault → Type 0
+FailsIn contents p read kept old s n new fault = FailsAt contents p read.items kept.items old s.mark n new fault
+
+-- it stands there, and whether the keyboard may have more is said last
+abbrev pub StandsSo : Program → List ℕ → List Choice → Tables → (is_open : Bool) → Type 0
+StandsSo p read kept n is_open = StandsLive p read is_open kept n
 
 -- where the keyboard had no more before, or has no more now, its reader is at its end
 abbrev pub EndsOn : {K : Type 0} → (K → Option (List ℕ)) → (old new : CountedReader K) → (was is : Bool) → Type 0
@@ -187,3 +191,6 @@ EndsOn remaining old new was is = EndsRightly remaining old was → EndsRightly 
 
 abbrev pub RunComesTo : {W : Type 0} → (W → Option (List ℕ)) → (old : Counted W) → Screen → Tables → List Choice → Ending → Bool → (new : Counted W) → Lived → Type 0
 RunComesTo contents old s n kept ending is_open new lived = CameTo contents old s.mark (trace_in n) kept ending is_open new lived
+
+abbrev pub HearsBytes : {A : Type 0} → Program → (old : Vec ℕ A) → Bool → Tables → Begun → (pick : ℕ) → (new : Vec ℕ A) → Tables → Bool → Type 0
+HearsBytes p old is_open n begun pick new next still_open = Hears p old.items is_open n begun pick new.items next still_open

@@ -1,7 +1,7 @@
 //! A turn that looks past the bytes that were read waits for more.
 ghost use Rattle.std.specs.Prelude.{◌≡◌, ◌<◌, ◌-◌, ◌^◌, IfErr, IfOk, OnErr, OnOk};
 ghost use Rattle.occ_files.specs.Reading.{failures_of as reads_failed};
-ghost use Rattle.occ_live.specs.Living.{CanHear, EndsRightly, FailsBehind, Hears, IsMarked, ReadsOn, ShowsOn};
+ghost use Rattle.occ_live.specs.Living.{CanHear, EndsOn, HearsBytes, Marked, ReadsOn, ScreenFails, ScreenGoesOn};
 ghost use Rattle.occ_net_tables.specs.Holding.{trace_in};
 ghost use Rattle.occ_shown.specs.Counting.{failures_of};
 
@@ -31,8 +31,8 @@ pub(crate) fn hear<K: Read, W: Write>(
     requires keys { reads_failed keys.old < 2 ^ 64 - 1 }
     requires marked { Marked screen.old tables.old }
     requires begun { CanHear code.now keyboard.old.items is_open pick begun tables.old }
-    ensures heard { IfOk result (HearsBytes code.now keyboard.old.items is_open tables.old begun pick
-        keyboard.new.items tables.new) }
+    ensures heard { IfOk result (HearsBytes code.now keyboard.old is_open tables.old begun pick
+        keyboard.new tables.new) }
     ensures trace { trace_in tables.new ≡ trace_in tables.old }
     ensures shown { OnOk result
         (ScreenGoesOn W.contents out.old screen.old tables.old out.new screen.new tables.old) }

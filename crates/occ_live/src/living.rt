@@ -2,8 +2,7 @@
 ghost use Rattle.std.specs.Prelude.{◌≡◌, ◌<◌, ◌-◌, ◌^◌, ◌++◌, ◌∷◌, [], IfErr, IfOk, OnOk};
 ghost use Rattle.occ_choices.specs.Plans.{choices_of};
 ghost use Rattle.occ_files.specs.Reading.{ReadsNext, failures_of as reads_failed};
-ghost use Rattle.occ_live.specs.Living.{MayGoOn, CameTo, EndsRightly, FailsAt, FailsLive, HasCome, IsLive, IsMarked, ReadsOn, Shows, ShowsOn, ShowsPart, StandsLive};
-ghost use Rattle.occ_net_tables.specs.Holding.{trace_in};
+ghost use Rattle.occ_live.specs.Living.{EndsOn, EndsRightly, FailsLive, HasCome, IsLive, Marked, MayGoOn, ReadsOn, RunComesTo, ScreenGoesOn, ScreenShows, ScreenShowsPart, StandsSo, FailsIn};
 ghost use Rattle.occ_shown.specs.Answers.{channel_bytes};
 ghost use Rattle.occ_shown.specs.Counting.{AppendsTo, failures_of};
 
@@ -47,7 +46,7 @@ fn live_turn<K: Read, W: Write>(
     code: &Code,
     scratch: &mut Scratch,
     keys: &mut CountedReader<K>,
-    keyboard: &mut Vec<u8>,
+    bytes: &mut Vec<u8>,
     is_open: bool,
     choice: Choice,
     kept: &mut Vec<Choice>,
@@ -57,22 +56,20 @@ fn live_turn<K: Read, W: Write>(
 ) -> Result<bool, LiveFault>
     requires room { failures_of out.old < 2 ^ 64 - 1 }
     requires keys { reads_failed keys.old < 2 ^ 64 - 1 }
-    requires marked { IsMarked screen.old.mark (trace_in tables.old) }
-    requires stands { MayGoOn code.now keyboard.old.items is_open kept.old.items tables.old }
-    ensures stands { IfOk result (λ still_open.
-        StandsLive code.now keyboard.new.items still_open kept.new.items tables.new) }
+    requires marked { Marked screen.old tables.old }
+    requires stands { MayGoOn code.now bytes.old.items is_open kept.old.items tables.old }
+    ensures stands { IfOk result
+        (StandsSo code.now bytes.new.items kept.new.items tables.new) }
     ensures kept { OnOk result (kept.new.items ≡ kept.old.items ++ choice ∷ []) }
     ensures shown { OnOk result
-        (ShowsOn W.contents out.old screen.old.mark (trace_in tables.old) out.new
-        screen.new.mark (trace_in tables.new)) }
+        (ScreenGoesOn W.contents out.old screen.old tables.old out.new screen.new tables.new) }
     ensures read { OnOk result
-        (ReadsOn K.remaining keys.old keyboard.old.items keys.new keyboard.new.items) }
+        (ReadsOn K.remaining keys.old bytes.old.items keys.new bytes.new.items) }
     ensures none_failed { OnOk result (failures_of out.new ≡ failures_of out.old) }
     ensures room_left { OnOk result (reads_failed keys.new < 2 ^ 64 - 1) }
-    ensures end { IfOk result (λ still_open. EndsRightly K.remaining keys.old is_open →
-        EndsRightly K.remaining keys.new still_open) }
-    ensures fault { IfErr result (FailsAt W.contents code.now keyboard.new.items kept.old.items
-        out.old screen.old.mark tables.old out.new) }
+    ensures end { IfOk result (EndsOn K.remaining keys.old keys.new is_open) }
+    ensures part { IfErr result
+        (FailsIn W.contents code.now bytes.new kept.old out.old screen.old tables.old out.new) }
 {
     let begun = match tables.begin_turn(alloc, code, scratch, choice) {
         Ok(begun) => begun,
@@ -81,7 +78,7 @@ fn live_turn<K: Read, W: Write>(
     let heard = hear(
         code,
         keys,
-        keyboard,
+        bytes,
         is_open,
         tables,
         begun,
@@ -93,7 +90,7 @@ fn live_turn<K: Read, W: Write>(
         Ok(still_open) => still_open,
         Err(fault) => return Err(fault),
     };
-    match tables.end_turn(alloc, code, scratch, keyboard, begun, choice.pick) {
+    match tables.end_turn(alloc, code, scratch, bytes, begun, choice.pick) {
         Ok(_going) => {}
         Err(_unsettled) => return Err(LiveFault::Memory),
     }
@@ -113,13 +110,13 @@ fn show_all<W: Write>(
     out: &mut Counted<W>,
 ) -> Result<(), LiveFault>
     requires room { failures_of out.old < 2 ^ 64 - 1 }
-    requires marked { IsMarked screen.old.mark (trace_in tables.now) }
+    requires marked { Marked screen.old tables.now }
     requires stands { HasCome code.now keyboard.now kept.now tables.now }
     ensures shown { OnOk result
-        (Shows W.contents out.old screen.old.mark (trace_in tables.now) out.new screen.new.mark) }
+        (ScreenShows W.contents out.old screen.old tables.now out.new screen.new) }
     ensures none_failed { OnOk result (failures_of out.new ≡ failures_of out.old) }
     ensures part { IfErr result
-        (ShowsPart W.contents out.old screen.old.mark (trace_in tables.now) out.new) }
+        (ScreenShowsPart W.contents out.old screen.old tables.now out.new) }
 {
     code.compiled();
     screen.show(tables.trace_so_far(), out)
@@ -135,13 +132,13 @@ fn show_at_times<W: Write>(
     out: &mut Counted<W>,
 ) -> Result<(), LiveFault>
     requires room { failures_of out.old < 2 ^ 64 - 1 }
-    requires marked { IsMarked screen.old.mark (trace_in tables.now) }
+    requires marked { Marked screen.old tables.now }
     requires stands { HasCome code.now keyboard.now kept.now tables.now }
-    ensures shown { OnOk result (ShowsOn W.contents out.old screen.old.mark
-        (trace_in tables.now) out.new screen.new.mark (trace_in tables.now)) }
+    ensures shown { OnOk result
+        (ScreenGoesOn W.contents out.old screen.old tables.now out.new screen.new tables.now) }
     ensures none_failed { OnOk result (failures_of out.new ≡ failures_of out.old) }
     ensures part { IfErr result
-        (ShowsPart W.contents out.old screen.old.mark (trace_in tables.now) out.new) }
+        (ScreenShowsPart W.contents out.old screen.old tables.now out.new) }
 {
     if kept.len() % MOST_TURNS == 0 {
         show_all(code, keyboard, kept, tables, screen, out)
@@ -162,13 +159,13 @@ fn come_to<W: Write>(
     out: &mut Counted<W>,
 ) -> Result<Lived, LiveFault>
     requires room { failures_of out.old < 2 ^ 64 - 1 }
-    requires marked { IsMarked screen.old.mark (trace_in tables) }
+    requires marked { Marked screen.old tables }
     requires stands { HasCome code.now keyboard.now kept.items tables }
-    ensures lived { IfOk result (CameTo W.contents out.old screen.old.mark (trace_in tables)
-        kept.items ending is_open out.new) }
+    ensures lived { IfOk result
+        (RunComesTo W.contents out.old screen.old tables kept.items ending is_open out.new) }
     ensures none_failed { OnOk result (failures_of out.new ≡ failures_of out.old) }
     ensures part { IfErr result
-        (ShowsPart W.contents out.old screen.old.mark (trace_in tables) out.new) }
+        (ScreenShowsPart W.contents out.old screen.old tables out.new) }
 {
     show_all(code, keyboard, &kept, &tables, screen, out)?;
     Ok(Lived {
@@ -192,20 +189,20 @@ pub fn run_live<K: Read, W: Write>(
     alloc: Global,
     code: &Code,
     keys: &mut CountedReader<K>,
-    keyboard: &mut Vec<u8>,
+    bytes: &mut Vec<u8>,
     plan: &Plan,
     out: &mut Counted<W>,
 ) -> Result<Lived, LiveFault>
-    requires empty { keyboard.old.items ≡ [] }
+    requires empty { bytes.old.items ≡ [] }
     requires room { failures_of out.old < 2 ^ 64 - 1 }
     requires keys { reads_failed keys.old < 2 ^ 64 - 1 }
-    ensures lived { IfOk result (IsLive code.now keyboard.new.items (choices_of plan.now)) }
+    ensures lived { IfOk result (IsLive code.now bytes.new.items (choices_of plan.now)) }
     ensures shown { IfOk result (λ lived.
         AppendsTo W.contents out.old out.new (channel_bytes 1 lived.outcome.trace)) }
     ensures none_failed { OnOk result (failures_of out.new ≡ failures_of out.old) }
-    ensures read { OnOk result (ReadsNext K.remaining keys.old keys.new keyboard.new.items) }
+    ensures read { OnOk result (ReadsNext K.remaining keys.old keys.new bytes.new.items) }
     ensures end { IfOk result (λ lived. EndsRightly K.remaining keys.new lived.is_open) }
-    ensures fault { IfErr result (FailsLive W.contents code.now keyboard.new.items
+    ensures fault { IfErr result (FailsLive W.contents code.now bytes.new.items
         (choices_of plan.now) out.old out.new) }
 {
     let mut scratch = Scratch::new(alloc);
@@ -220,7 +217,7 @@ pub fn run_live<K: Read, W: Write>(
         if let Some(ending) = tables.ending(code.errors()) {
             return come_to(
                 code,
-                keyboard,
+                bytes,
                 tables,
                 kept,
                 ending,
@@ -233,7 +230,7 @@ pub fn run_live<K: Read, W: Write>(
             let ending = Ending::Limit;
             return come_to(
                 code,
-                keyboard,
+                bytes,
                 tables,
                 kept,
                 ending,
@@ -247,7 +244,7 @@ pub fn run_live<K: Read, W: Write>(
             code,
             &mut scratch,
             keys,
-            keyboard,
+            bytes,
             is_open,
             choice,
             &mut kept,
@@ -259,7 +256,7 @@ pub fn run_live<K: Read, W: Write>(
             Ok(still_open) => is_open = still_open,
             Err(fault) => return Err(fault),
         }
-        match show_at_times(code, keyboard, &kept, &tables, &mut screen, out) {
+        match show_at_times(code, bytes, &kept, &tables, &mut screen, out) {
             Ok(()) => {}
             Err(unshown) => return Err(unshown),
         }

@@ -10,20 +10,20 @@ use Rattle.occ_live.proofs.living.live_turn.Goals as goal
 
 pub begin_turn-requires : goal.begin_turn-requires
 begin_turn-requires g c =
-    let kb = c.args.keyboard.now.items in
+    let kb = c.args.bytes.now.items in
     let r = c.requires.stands in
     record { keyboard = kb; bytes = r.stands.bytes; standing = record { choices = c.args.kept.now.items; few = r.few; net = r.stands.net; replays = r.stands.replays; open_end = r.going; holds = r.stands.holds } }
 
-pub returns-in-Err-clause-fault : goal.returns-in-Err-clause-fault
-returns-in-Err-clause-fault g c =
+pub returns-in-Err-clause-part : goal.returns-in-Err-clause-part
+returns-in-Err-clause-part g c =
     let s = c.requires.stands.stands in
     record { net = s.net; replays = s.replays; trace = s.holds.trace; part = memory_behind g.W.Write.contents c.args.out.now c.args.screen.now.mark (trace_in c.args.tables.now) }
 
 pub hear-heard-requires-clause-begun : goal.hear-heard-requires-clause-begun
 hear-heard-requires-clause-begun g c = (c.args.kept.now.items, c.args.choice, left_message c.begin_turn.new.scratch, record { old = c.args.tables.now; from = c.requires.stands; began = c.in-Ok.ensures })
 
-pub returns-in-Err-heard-clause-fault : goal.returns-in-Err-heard-clause-fault
-returns-in-Err-heard-clause-fault g c =
+pub returns-in-Err-heard-clause-part : goal.returns-in-Err-heard-clause-part
+returns-in-Err-heard-clause-part g c =
     let s = c.requires.stands.stands in
     let kept = c.in-Err-heard.ensures.kept in
     let was : trace_in c.begin_turn.new.self ≡ trace_in c.args.tables.now = ap (λ z. trace_in z) c.in-Ok.ensures.others in
@@ -41,19 +41,19 @@ end_turn-requires g c =
     let choice = c.args.choice in
     let begun = c.in-Ok.begun in
     let items = left_message c.begin_turn.new.scratch in
-    let x : HasBegun p c.args.keyboard.now.items c.args.is_open kept choice begun items c.begin_turn.new.self = record { old = c.args.tables.now; from = c.requires.stands; began = c.in-Ok.ensures } in
+    let x : HasBegun p c.args.bytes.now.items c.args.is_open kept choice begun items c.begin_turn.new.self = record { old = c.args.tables.now; from = c.requires.stands; began = c.in-Ok.ensures } in
     let h = c.in-Ok-heard.ensures.heard kept choice items refl x in
     subst (λ l. HasTakenTurn p l c.hear-heard.new.tables begun.place begun.number begun.end items) (sym c.deref.ensures.value)
     (taken p c.hear-heard.new.keyboard.items c.in-Ok-heard.still_open kept choice begun items c.hear-heard.new.tables h)
 
-pub returns-in-Err-end_turn-clause-fault : goal.returns-in-Err-end_turn-clause-fault
-returns-in-Err-end_turn-clause-fault g c =
+pub returns-in-Err-end_turn-clause-part : goal.returns-in-Err-end_turn-clause-part
+returns-in-Err-end_turn-clause-part g c =
     let p = c.args.code.now in
     let kept = c.args.kept.now.items in
     let choice = c.args.choice in
     let begun = c.in-Ok.begun in
     let items = left_message c.begin_turn.new.scratch in
-    let x : HasBegun p c.args.keyboard.now.items c.args.is_open kept choice begun items c.begin_turn.new.self = record { old = c.args.tables.now; from = c.requires.stands; began = c.in-Ok.ensures } in
+    let x : HasBegun p c.args.bytes.now.items c.args.is_open kept choice begun items c.begin_turn.new.self = record { old = c.args.tables.now; from = c.requires.stands; began = c.in-Ok.ensures } in
     let h = c.in-Ok-heard.ensures.heard kept choice items refl x in
     let s = h.begun_so.from.stands in
     let was : trace_in c.begin_turn.new.self ≡ trace_in c.args.tables.now = ap (λ z. trace_in z) c.in-Ok.ensures.others in
@@ -71,7 +71,7 @@ returns-in-Ok-keep-clause-stands g c =
     let choice = c.args.choice in
     let begun = c.in-Ok.begun in
     let items = left_message c.begin_turn.new.scratch in
-    let x : HasBegun p c.args.keyboard.now.items c.args.is_open kept choice begun items c.begin_turn.new.self = record { old = c.args.tables.now; from = c.requires.stands; began = c.in-Ok.ensures } in
+    let x : HasBegun p c.args.bytes.now.items c.args.is_open kept choice begun items c.begin_turn.new.self = record { old = c.args.tables.now; from = c.requires.stands; began = c.in-Ok.ensures } in
     let h = c.in-Ok-heard.ensures.heard kept choice items refl x in
     let settles = subst (λ l. SettlesEnd p l begun.place begun.number begun.end items choice.pick c.hear-heard.new.tables c.end_turn.new.self) c.deref.ensures.value c.in-Ok-end_turn.ensures.turn in
     stands_on p c.hear-heard.new.keyboard.items c.in-Ok-heard.still_open kept choice begun items c.hear-heard.new.tables h c.end_turn.new.self settles c.keep.new.kept.items c.in-Ok-keep.ensures
@@ -83,7 +83,7 @@ returns-in-Ok-keep-clause-shown g c = λ first shown.
     let choice = c.args.choice in
     let begun = c.in-Ok.begun in
     let items = left_message c.begin_turn.new.scratch in
-    let x : HasBegun p c.args.keyboard.now.items c.args.is_open kept choice begun items c.begin_turn.new.self = record { old = c.args.tables.now; from = c.requires.stands; began = c.in-Ok.ensures } in
+    let x : HasBegun p c.args.bytes.now.items c.args.is_open kept choice begun items c.begin_turn.new.self = record { old = c.args.tables.now; from = c.requires.stands; began = c.in-Ok.ensures } in
     let h = c.in-Ok-heard.ensures.heard kept choice items refl x in
     let settles = subst (λ l. SettlesEnd p l begun.place begun.number begun.end items choice.pick c.hear-heard.new.tables c.end_turn.new.self) c.deref.ensures.value c.in-Ok-end_turn.ensures.turn in
     let more = trace_on p c.hear-heard.new.keyboard.items c.in-Ok-heard.still_open kept choice begun items c.hear-heard.new.tables h c.end_turn.new.self settles in
@@ -91,14 +91,14 @@ returns-in-Ok-keep-clause-shown g c = λ first shown.
     let here = c.in-Ok-heard.ensures.shown first (subst (λ t. HasShown g.W.Write.contents first c.args.out.now c.args.screen.now.mark t) (sym was) shown) in
     shown_longer g.W.Write.contents first c.hear-heard.new.out c.hear-heard.new.screen.mark (trace_in c.begin_turn.new.self) more.0 (trace_in c.end_turn.new.self) (more.1 ∙ ap (λ l. l ++ more.0) c.hear-heard.ensures.trace) here
 
-pub returns-in-Err-keep-clause-fault : goal.returns-in-Err-keep-clause-fault
-returns-in-Err-keep-clause-fault g c =
+pub returns-in-Err-keep-clause-part : goal.returns-in-Err-keep-clause-part
+returns-in-Err-keep-clause-part g c =
     let p = c.args.code.now in
     let kept = c.args.kept.now.items in
     let choice = c.args.choice in
     let begun = c.in-Ok.begun in
     let items = left_message c.begin_turn.new.scratch in
-    let x : HasBegun p c.args.keyboard.now.items c.args.is_open kept choice begun items c.begin_turn.new.self = record { old = c.args.tables.now; from = c.requires.stands; began = c.in-Ok.ensures } in
+    let x : HasBegun p c.args.bytes.now.items c.args.is_open kept choice begun items c.begin_turn.new.self = record { old = c.args.tables.now; from = c.requires.stands; began = c.in-Ok.ensures } in
     let h = c.in-Ok-heard.ensures.heard kept choice items refl x in
     let s = h.begun_so.from.stands in
     let was : trace_in c.begin_turn.new.self ≡ trace_in c.args.tables.now = ap (λ z. trace_in z) c.in-Ok.ensures.others in

@@ -18,10 +18,10 @@ pub loop-ending-init : goal.loop-ending-init
 loop-ending-init g c =
     let none : c.new-kept.result.items ≡ [] = c.new-kept.ensures.items in
     record {
-      stands = subst (λ cs. StandsLive c.args.code.now c.args.keyboard.now.items true cs c.in-Ok.tables) (sym none) (starts_live c.args.code.now c.args.keyboard.now.items c.in-Ok.tables c.requires.empty c.in-Ok.ensures);
+      stands = subst (λ cs. StandsLive c.args.code.now c.args.bytes.now.items true cs c.in-Ok.tables) (sym none) (starts_live c.args.code.now c.args.bytes.now.items c.in-Ok.tables c.requires.empty c.in-Ok.ensures);
       used = none ∙ sym (ap (λ (cs : List _). take (length cs) (choices_of c.args.plan.now)) none);
       shown = shows_nothing g.W.Write.contents c.args.out.now c.new-screen.result.mark (trace_in c.in-Ok.tables) c.new-screen.ensures;
-      read = read_nothing g.K.Read.remaining c.args.keys.now c.args.keyboard.now.items c.requires.empty;
+      read = read_nothing g.K.Read.remaining c.args.keys.now c.args.bytes.now.items c.requires.empty;
       end = λ o. absurd (true≢false o);
       failed = refl;
       room = c.requires.keys;
@@ -29,13 +29,13 @@ loop-ending-init g c =
 
 pub returns-in-Err-clause-fault : goal.returns-in-Err-clause-fault
 returns-in-Err-clause-fault g c =
-    record { used = []; begins = record { rest = choices_of c.args.plan.now; is = refl }; net = first_net c.args.code.now c.args.keyboard.now.items; replays = begins; wrote = ([], [], refl, Appends-none (g.W.Write.contents (writer_of c.args.out.now))) }
+    record { used = []; begins = record { rest = choices_of c.args.plan.now; is = refl }; net = first_net c.args.code.now c.args.bytes.now.items; replays = begins; wrote = ([], [], refl, Appends-none (g.W.Write.contents (writer_of c.args.out.now))) }
 
 pub returns-in-Some-clause-lived : goal.returns-in-Some-clause-lived
 returns-in-Some-clause-lived g c =
     let p = c.args.code.now in
     let list = choices_of c.args.plan.now in
-    let read = c.loop-ending.keyboard.items in
+    let read = c.loop-ending.bytes.items in
     let n = c.loop-ending.tables in
     let h = c.loop-ending.invariant in
     let ends : Some c.in-Some.ending ≡ ending_of p.errors h.stands.net = sym c.in-Some.is ∙ c.ending.ensures p read h.stands.net h.stands.holds ∙ ap (λ e. ending_of e h.stands.net) c.errors.ensures in
@@ -47,7 +47,7 @@ pub returns-in-Some-clause-shown : goal.returns-in-Some-clause-shown
 returns-in-Some-clause-shown g c =
     let p = c.args.code.now in
     let list = choices_of c.args.plan.now in
-    let read = c.loop-ending.keyboard.items in
+    let read = c.loop-ending.bytes.items in
     let n = c.loop-ending.tables in
     let h = c.loop-ending.invariant in
     if_ok_map _ _ c.come_to.result
@@ -58,7 +58,7 @@ pub returns-in-Some-clause-fault : goal.returns-in-Some-clause-fault
 returns-in-Some-clause-fault g c =
     let p = c.args.code.now in
     let list = choices_of c.args.plan.now in
-    let read = c.loop-ending.keyboard.items in
+    let read = c.loop-ending.bytes.items in
     let n = c.loop-ending.tables in
     let h = c.loop-ending.invariant in
     if_err_map _ _ c.come_to.result
@@ -70,7 +70,7 @@ pub returns-in_default-at-clause-lived : goal.returns-in_default-at-clause-lived
 returns-in_default-at-clause-lived g c =
     let p = c.args.code.now in
     let list = choices_of c.args.plan.now in
-    let read = c.loop-ending.keyboard.items in
+    let read = c.loop-ending.bytes.items in
     let n = c.loop-ending.tables in
     let h = c.loop-ending.invariant in
     let ends : None ≡ ending_of p.errors h.stands.net = sym c.in_default.is ∙ c.ending.ensures p read h.stands.net h.stands.holds ∙ ap (λ e. ending_of e h.stands.net) c.errors.ensures in
@@ -84,7 +84,7 @@ pub returns-in_default-at-clause-shown : goal.returns-in_default-at-clause-shown
 returns-in_default-at-clause-shown g c =
     let p = c.args.code.now in
     let list = choices_of c.args.plan.now in
-    let read = c.loop-ending.keyboard.items in
+    let read = c.loop-ending.bytes.items in
     let n = c.loop-ending.tables in
     let h = c.loop-ending.invariant in
     if_ok_map _ _ c.come_to-in_default-at.result
@@ -95,7 +95,7 @@ pub returns-in_default-at-clause-fault : goal.returns-in_default-at-clause-fault
 returns-in_default-at-clause-fault g c =
     let p = c.args.code.now in
     let list = choices_of c.args.plan.now in
-    let read = c.loop-ending.keyboard.items in
+    let read = c.loop-ending.bytes.items in
     let n = c.loop-ending.tables in
     let h = c.loop-ending.invariant in
     if_err_map _ _ c.come_to-in_default-at.result
@@ -107,7 +107,7 @@ pub live_turn-turned-requires-clause-stands : goal.live_turn-turned-requires-cla
 live_turn-turned-requires-clause-stands g c =
     let p = c.args.code.now in
     let list = choices_of c.args.plan.now in
-    let read = c.loop-ending.keyboard.items in
+    let read = c.loop-ending.bytes.items in
     let n = c.loop-ending.tables in
     let h = c.loop-ending.invariant in
     let ends : None ≡ ending_of p.errors h.stands.net = sym c.in_default.is ∙ c.ending.ensures p read h.stands.net h.stands.holds ∙ ap (λ e. ending_of e h.stands.net) c.errors.ensures in
@@ -118,10 +118,10 @@ pub returns-in-Err-turned-clause-fault : goal.returns-in-Err-turned-clause-fault
 returns-in-Err-turned-clause-fault g c =
     let p = c.args.code.now in
     let list = choices_of c.args.plan.now in
-    let read = c.loop-ending.keyboard.items in
+    let read = c.loop-ending.bytes.items in
     let n = c.loop-ending.tables in
     let h = c.loop-ending.invariant in
-    let x = c.in-Err-turned.ensures.fault in
+    let x = c.in-Err-turned.ensures.part in
     record {
       used = c.loop-ending.kept.items;
       begins = begins_list p read c.loop-ending.is_open list c.loop-ending.kept.items n h.stands h.used;
@@ -134,7 +134,7 @@ pub show_at_times-requires-clause-marked : goal.show_at_times-requires-clause-ma
 show_at_times-requires-clause-marked g c =
     let p = c.args.code.now in
     let list = choices_of c.args.plan.now in
-    let read = c.loop-ending.keyboard.items in
+    let read = c.loop-ending.bytes.items in
     let n = c.loop-ending.tables in
     let h = c.loop-ending.invariant in
     is_marked g.W.Write.contents c.args.out.now c.live_turn-turned.new.out c.live_turn-turned.new.screen.mark (trace_in c.live_turn-turned.new.tables) (c.in-Ok-turned.ensures.shown c.args.out.now h.shown)
@@ -143,7 +143,7 @@ pub loop-ending-smaller : goal.loop-ending-smaller
 loop-ending-smaller g c =
     let p = c.args.code.now in
     let list = choices_of c.args.plan.now in
-    let read = c.loop-ending.keyboard.items in
+    let read = c.loop-ending.bytes.items in
     let n = c.loop-ending.tables in
     let h = c.loop-ending.invariant in
     let count : c.len.result ≡ length c.loop-ending.kept.items = c.len.ensures ∙ c.loop-ending.kept.ok.0 in
@@ -157,7 +157,7 @@ pub loop-ending-preserved : goal.loop-ending-preserved
 loop-ending-preserved g c =
     let p = c.args.code.now in
     let list = choices_of c.args.plan.now in
-    let read = c.loop-ending.keyboard.items in
+    let read = c.loop-ending.bytes.items in
     let n = c.loop-ending.tables in
     let h = c.loop-ending.invariant in
     let count : c.len.result ≡ length c.loop-ending.kept.items = c.len.ensures ∙ c.loop-ending.kept.ok.0 in
@@ -177,7 +177,7 @@ pub returns-in-Err-show_at_times-clause-fault : goal.returns-in-Err-show_at_time
 returns-in-Err-show_at_times-clause-fault g c =
     let p = c.args.code.now in
     let list = choices_of c.args.plan.now in
-    let read = c.loop-ending.keyboard.items in
+    let read = c.loop-ending.bytes.items in
     let n = c.loop-ending.tables in
     let h = c.loop-ending.invariant in
     let count : c.len.result ≡ length c.loop-ending.kept.items = c.len.ensures ∙ c.loop-ending.kept.ok.0 in
@@ -185,6 +185,6 @@ returns-in-Err-show_at_times-clause-fault g c =
     let t = c.in-Ok-turned.ensures in
     let now = trace_in c.live_turn-turned.new.tables in
     let used = one_more_used list c.loop-ending.kept.items c.live_turn-turned.new.kept.items c.in-Some-at.choice h.used at t.kept in
-    fails_live p c.live_turn-turned.new.keyboard.items c.in-Ok-turned.still_open list c.live_turn-turned.new.kept.items c.live_turn-turned.new.tables t.stands used g.W.Write.contents c.args.out.now c.live_turn-turned.new.out c.show_at_times.new.out
+    fails_live p c.live_turn-turned.new.bytes.items c.in-Ok-turned.still_open list c.live_turn-turned.new.kept.items c.live_turn-turned.new.tables t.stands used g.W.Write.contents c.args.out.now c.live_turn-turned.new.out c.show_at_times.new.out
     c.live_turn-turned.new.screen.mark c.in-Err-show_at_times.unshown (t.shown c.args.out.now h.shown)
     (part_fails g.W.Write.contents c.live_turn-turned.new.out c.show_at_times.new.out c.live_turn-turned.new.screen.mark now c.in-Err-show_at_times.unshown c.in-Err-show_at_times.ensures.part)

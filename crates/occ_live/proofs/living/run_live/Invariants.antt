@@ -9,10 +9,10 @@ use Rattle.occ_live.proofs.living.run_live.Given as goal
 
 abbrev pub invariant-loop-ending : goal.invariant-loop-ending
 invariant-loop-ending g l = record {
-  stands : StandsLive l.code l.keyboard.items l.is_open l.kept.items l.tables;
+  stands : StandsLive l.code l.bytes.items l.is_open l.kept.items l.tables;
   used : l.kept.items ≡ take (length l.kept.items) (choices_of l.plan);
   shown : HasShown g.W.Write.contents l.fn.out l.out l.screen.mark (trace_in l.tables);
-  read : ReadsNext g.K.Read.remaining l.fn.keys l.keys l.keyboard.items;
+  read : ReadsNext g.K.Read.remaining l.fn.keys l.keys l.bytes.items;
   end : EndsRightly g.K.Read.remaining l.keys l.is_open;
   failed : failures_of l.out ≡ failures_of l.fn.out;
   room : reads_failed l.keys < 2 ^ 64 - 1;
