@@ -33,7 +33,7 @@ use Rattle.occ_shown.proofs.Growth.{Appends-join, Appends-none}
 use Rattle.occ_shown.proofs.ByteMessages.{outputs_are_bytes}
 use Rattle.occ_live.specs.declared.fault.LiveFault.{LiveFault}
 use Rattle.occ_live.specs.declared.living.Lived.{Lived}
-use Rattle.occ_live.specs.Living.{CameTo, FailsBehind, FailsLive, HasBegun, HasCome, HasHeard, HasShown, IsLive, IsMarked, MarksStart, StandsLive, WroteSome}
+use Rattle.occ_live.specs.Living.{EndedSo, FailsBehind, FailsLive, HasBegun, HasCome, HasHeard, HasShown, IsLive, IsMarked, MarksStart, StandsLive, WroteSome}
 use Rattle.occ_live.proofs.Shown.{bytes_behind}
 
 -- ---- bytes behind those that were read
@@ -191,7 +191,7 @@ module _ (p : Program) (read : List ℕ) (is_open : Bool) (list kept : List Choi
   fails_live contents first out now mark fault shown part =
       record { used = kept; begins = begins_list; net = s.net; replays = s.replays; wrote = subst (λ t. WroteSome contents first now t fault) (sym s.holds.trace) (part first shown) }
 
-  module _ {W : Type 0} (contents : W → Option (List ℕ)) (first out now : Counted W) (mark : Place) (ending : Ending) (lived : Lived) (x : CameTo contents out mark (trace_in n) kept ending is_open now lived) where
+  module _ {W : Type 0} (contents : W → Option (List ℕ)) (first out now : Counted W) (mark : Place) (ending : Ending) (lived : Lived) (x : EndedSo contents out mark (trace_in n) kept ending is_open now lived) where
     module _ (same : ending ≡ or_limit (ending_of p.errors s.net)) (whole : ending_of p.errors s.net ≡ None → kept ≡ list) where
       pub is_live : IsLive p read list lived
       is_live =

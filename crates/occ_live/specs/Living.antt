@@ -154,7 +154,7 @@ pub record FailsAt {W : Type 0} (contents : W → Option (List ℕ)) (p : Progra
   pub part : FailsBehind contents old mark (trace_in n) new fault
 
 -- what came of a run with these choices, whose screen's bytes were written up to the end
-pub record CameTo {W : Type 0} (contents : W → Option (List ℕ)) (old : Counted W) (mark : Place) (trace : List Communication) (kept : List Choice) (ending : Ending) (is_open : Bool) (new : Counted W) (lived : Lived) : Type 0 where
+pub record EndedSo {W : Type 0} (contents : W → Option (List ℕ)) (old : Counted W) (mark : Place) (trace : List Communication) (kept : List Choice) (ending : Ending) (is_open : Bool) (new : Counted W) (lived : Lived) : Type 0 where
   pub trace_is : lived.outcome.trace ≡ trace
   pub choices : lived.outcome.choices.items ≡ kept
   pub ending_is : lived.outcome.ending ≡ ending
@@ -190,7 +190,7 @@ abbrev pub EndsOn : {K : Type 0} → (K → Option (List ℕ)) → (old new : Co
 EndsOn remaining old new was is = EndsRightly remaining old was → EndsRightly remaining new is
 
 abbrev pub RunComesTo : {W : Type 0} → (W → Option (List ℕ)) → (old : Counted W) → Screen → Tables → List Choice → Ending → Bool → (new : Counted W) → Lived → Type 0
-RunComesTo contents old s n kept ending is_open new lived = CameTo contents old s.mark (trace_in n) kept ending is_open new lived
+RunComesTo contents old s n kept ending is_open new lived = EndedSo contents old s.mark (trace_in n) kept ending is_open new lived
 
 abbrev pub HearsBytes : {A : Type 0} → Program → (old : Vec ℕ A) → Bool → Tables → Begun → (pick : ℕ) → (new : Vec ℕ A) → Tables → Bool → Type 0
 HearsBytes p old is_open n begun pick new next still_open = Hears p old.items is_open n begun pick new.items next still_open

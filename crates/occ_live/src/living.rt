@@ -215,29 +215,11 @@ pub fn run_live<K: Read, W: Write>(
     let mut is_open = true;
     loop {
         if let Some(ending) = tables.ending(code.errors()) {
-            return come_to(
-                code,
-                bytes,
-                tables,
-                kept,
-                ending,
-                is_open,
-                &mut screen,
-                out,
-            );
+            return come_to(code, bytes, tables, kept, ending, is_open, &mut screen, out);
         }
         let Some(choice) = plan.at(kept.len()) else {
             let ending = Ending::Limit;
-            return come_to(
-                code,
-                bytes,
-                tables,
-                kept,
-                ending,
-                is_open,
-                &mut screen,
-                out,
-            );
+            return come_to(code, bytes, tables, kept, ending, is_open, &mut screen, out);
         };
         let turned = live_turn(
             alloc,
