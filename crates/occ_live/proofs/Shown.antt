@@ -1,5 +1,5 @@
 -- What of the screen was written while the trace grows.
-use Rattle.std.proofs.Common.{◌≡◌, ◌∙◌, sym, ap, subst, ℕ, List, [], ◌∷◌, ◌++◌, Option, append-nil}
+use Rattle.std.proofs.Common.{◌≡◌, ◌∙◌, sym, ap, subst, ℕ, List, [], ◌∷◌, ◌++◌, ◌<◌, ◌≤◌, Option, append-nil, arith}
 use Rattle.std.proofs.lemmas.List.{append_assoc}
 use Rattle.std.specs.Io.KnownBytes.{Appends}
 use Rattle.std.specs.Prelude.{Err, IfErr, IfOk, Ok, Result}
@@ -8,12 +8,14 @@ use Rattle.occ_term.specs.Runs.{bytes_of, messages_on}
 use Rattle.occ_live_laws.proofs.Shown.{bytes_more, said_more}
 use Rattle.occ_net_trace.specs.Places.{Place, place_behind}
 use Rattle.occ_shown.specs.Answers.{AreByteMessages, channel_bytes}
-use Rattle.occ_shown.specs.Counting.{writer_of}
+use Rattle.occ_shown.specs.Counting.{failures_of as writes_failed, writer_of}
 use Rattle.occ_shown.specs.declared.counted.Counted.{Counted}
 use Rattle.occ_shown.proofs.Growth.{Appends-join}
+use Rattle.occ_files.specs.Reading.{failures_of}
+use Rattle.occ_files.specs.declared.reader.CountedReader.{CountedReader}
 use Rattle.occ_live.specs.declared.fault.LiveFault.{LiveFault}
 use Rattle.occ_live.specs.declared.fault.LiveFault.TheVariants as fails
-use Rattle.occ_live.specs.Living.{FailsBehind, HasShown, Shows, ShowsOn, ShowsPart}
+use Rattle.occ_live.specs.Living.{FailsBehind, HasShown, Shows, ShowsOn, ShowsPart, TellsFault, TellsRead, TellsWrite}
 
 pub bytes_behind : (c : ℕ) (xs ys : List Communication) → channel_bytes c (xs ++ ys) ≡ channel_bytes c xs ++ channel_bytes c ys
 bytes_behind c xs ys = ap bytes_of (said_more c xs ys) ∙ bytes_more (messages_on c xs) (messages_on c ys)
@@ -88,6 +90,30 @@ module _ {W : Type 0} (contents : W → Option (List ℕ)) where
   -- memory ran out once more was shown
   pub memory_after : (old new : Counted W) (mark next : Place) (trace same : List Communication) → trace ≡ same → ShowsOn contents old mark trace new next trace → FailsBehind contents old mark same new fails.Memory
   memory_after old new mark next trace same e s = subst (λ t. FailsBehind contents old mark t new fails.Memory) e (λ first h. begun_at first new next trace (s first h))
+
+-- ---- what a fault is told of
+
+module _ {K W : Type 0} where
+  pub read_told : (keys_old keys_new : CountedReader K) (old new : Counted W) (fault : LiveFault) → TellsRead keys_old keys_new fault → TellsFault keys_old keys_new old new fault
+  read_told keys_old keys_new old new (fails.Read reason) t = t
+  read_told keys_old keys_new old new fails.Write t = absurd t
+  read_told keys_old keys_new old new fails.Memory t = tt
+
+  pub write_told : (keys_old keys_new : CountedReader K) (first old new : Counted W) (fault : LiveFault) → writes_failed old ≡ writes_failed first → TellsWrite old new fault → TellsFault keys_old keys_new first new fault
+  write_told keys_old keys_new first old new (fails.Read reason) e t = absurd t
+  write_told keys_old keys_new first old new fails.Write e t = subst (λ n. n < writes_failed new) e t
+  write_told keys_old keys_new first old new fails.Memory e t = tt
+
+  pub told_on : (keys_first keys_old keys_new : CountedReader K) (first old new : Counted W) (fault : LiveFault) → failures_of keys_first ≤ failures_of keys_old → writes_failed old ≡ writes_failed first → TellsFault keys_old keys_new old new fault → TellsFault keys_first keys_new first new fault
+  told_on keys_first keys_old keys_new first old new (fails.Read reason) g e t = let more = t.0 in (omega (arith, g, more), t.1)
+  told_on keys_first keys_old keys_new first old new fails.Write g e t = subst (λ n. n < writes_failed new) e t
+  told_on keys_first keys_old keys_new first old new fails.Memory g e t = tt
+
+pub same_count : (n : ℕ) → n ≤ n
+same_count n = omega (arith)
+
+pub up_to : (m n k : ℕ) → m ≤ n → n ≤ k → m ≤ k
+up_to m n k less more = omega (arith, less, more)
 
 -- ---- what a result says of its value, or of its fault
 

@@ -19,7 +19,7 @@ use Rattle.occ_net_tables.specs.declared.turning.Begun.{Begun}
 use Rattle.occ_files.specs.Reading.{ReadsNext, failures_of, reader_of, reason_kept}
 use Rattle.occ_files.specs.declared.reader.CountedReader.{CountedReader}
 use Rattle.occ_shown.specs.Answers.{channel_bytes}
-use Rattle.occ_shown.specs.Counting.{AppendsTo}
+use Rattle.occ_shown.specs.Counting.{AppendsTo, failures_of as writes_failed}
 use Rattle.occ_shown.specs.declared.counted.Counted.{Counted}
 use Rattle.occ_live.specs.declared.fault.LiveFault.{LiveFault}
 use Rattle.occ_live.specs.declared.fault.LiveFault.TheVariants as fails
@@ -44,6 +44,12 @@ WroteSome contents first now trace (fails.Read reason) = AppendsTo contents firs
 WroteSome contents first now trace fails.Write = (shown : List ℕ) × (rest : List ℕ) × (channel_bytes 1 trace ≡ shown ++ rest) × AppendsTo contents first now shown
 WroteSome contents first now trace fails.Memory = (shown : List ℕ) × (rest : List ℕ) × (channel_bytes 1 trace ≡ shown ++ rest) × AppendsTo contents first now shown
 
+-- What is told has failed: a read, for the reason of the last that did, or a write; or memory was refused.
+abbrev pub TellsFault : {K W : Type 0} → (keys_old keys_new : CountedReader K) → (old new : Counted W) → LiveFault → Type 0
+TellsFault keys_old keys_new old new (fails.Read reason) = (failures_of keys_old < failures_of keys_new) × (reason ≡ reason_kept keys_new)
+TellsFault keys_old keys_new old new fails.Write = writes_failed old < writes_failed new
+TellsFault keys_old keys_new old new fails.Memory = ⊤
+
 -- The run had come to this network by a beginning of the list, over the bytes that were read.
 pub record FailsLive {W : Type 0} (contents : W → Option (List ℕ)) (p : Program) (read : List ℕ) (list : List Choice) (first now : Counted W) (fault : LiveFault) : Type 0 where
   pub used : List Choice
@@ -54,11 +60,17 @@ pub record FailsLive {W : Type 0} (contents : W → Option (List ℕ)) (p : Prog
 
 -- ---- private contracts alone cite what follows
 
--- why a read failed
+-- a read failed, or memory was refused
 abbrev pub TellsRead : {K : Type 0} → (old new : CountedReader K) → LiveFault → Type 0
 TellsRead old new (fails.Read reason) = (failures_of old < failures_of new) × (reason ≡ reason_kept new)
-TellsRead old new fails.Write = ⊤
+TellsRead old new fails.Write = ⊥
 TellsRead old new fails.Memory = ⊤
+
+-- a write failed, or memory was refused
+abbrev pub TellsWrite : {W : Type 0} → (old new : Counted W) → LiveFault → Type 0
+TellsWrite old new (fails.Read reason) = ⊥
+TellsWrite old new fails.Write = writes_failed old < writes_failed new
+TellsWrite old new fails.Memory = ⊤
 
 -- ---- what was shown
 

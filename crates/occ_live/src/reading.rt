@@ -1,5 +1,5 @@
 //! Bytes that come behind those that were read.
-ghost use Rattle.std.specs.Prelude.{◌≡◌, ◌<◌, ◌-◌, ◌^◌, IfErr, IfOk, IsFalse, IsTrue, OnErr, OnOk, length};
+ghost use Rattle.std.specs.Prelude.{◌≡◌, ◌<◌, ◌≤◌, ◌-◌, ◌^◌, IfErr, IfOk, IsFalse, IsTrue, OnErr, OnOk, length};
 ghost use Rattle.std.specs.Io.KnownBytes.{IsAtEnd};
 ghost use Rattle.occ_files.specs.Reading.{Grows, failures_of, reader_of};
 ghost use Rattle.occ_live.specs.Living.{TellsRead};
@@ -25,6 +25,7 @@ pub(crate) fn read_more<K: Read>(
     ensures end { IfOk result (λ some. IsFalse some → IsAtEnd (K.remaining (reader_of keys.new))) }
     ensures room_left { OnOk result (failures_of keys.new < 2 ^ 64 - 1) }
     ensures kept { OnErr result (keyboard.new.items ≡ keyboard.old.items) }
+    ensures grown { OnOk result (failures_of keys.old ≤ failures_of keys.new) }
     ensures told { IfErr result (TellsRead keys.old keys.new) }
 {
     let mut piece = [0; PIECE];

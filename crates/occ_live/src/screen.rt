@@ -1,6 +1,6 @@
 //! What of a run's screen was written.
 ghost use Rattle.std.specs.Prelude.{◌≡◌, ◌<◌, ◌-◌, ◌^◌, IfErr, OnOk};
-ghost use Rattle.occ_live.specs.Living.{IsMarked, MarksStart, Shows, ShowsPart};
+ghost use Rattle.occ_live.specs.Living.{IsMarked, MarksStart, Shows, ShowsPart, TellsWrite};
 ghost use Rattle.occ_shown.specs.Answers.{AreByteMessages};
 ghost use Rattle.occ_shown.specs.Counting.{failures_of};
 
@@ -46,6 +46,7 @@ impl Screen {
         ensures none_failed { OnOk result (failures_of out.new ≡ failures_of out.old) }
         ensures part { IfErr result
             (ShowsPart W.contents out.old self.old.mark trace.now out.new) }
+        ensures told { IfErr result (TellsWrite out.old out.new) }
     {
         trace.copy_behind(&self.mark, &mut self.news)?;
         self.bytes.clear();

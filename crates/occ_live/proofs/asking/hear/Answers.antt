@@ -1,8 +1,8 @@
-use Rattle.std.proofs.Common.{◌≡◌, ◌∙◌, ◌<◌, ◌^◌, sym, ap, subst, length, arith}
+use Rattle.std.proofs.Common.{◌≡◌, ◌∙◌, ◌<◌, ◌^◌, refl, sym, ap, subst, length, arith}
 use Rattle.occ_live.specs.Living.{HasHeard, Shows, ShowsPart}
 use Rattle.occ_net_tables.specs.Halves.{AllTaken, with_used}
 use Rattle.occ_net_tables.specs.Holding.{trace_in}
-use Rattle.occ_live.proofs.Shown.{part_fails, read_fails, shown_now}
+use Rattle.occ_live.proofs.Shown.{part_fails, read_fails, read_told, shown_now, write_told}
 use Rattle.occ_live.proofs.Standing.{are_bytes, heard_by, screen_has_bytes, trace_is}
 use Rattle.occ_live.proofs.asking.hear.Goals as goal
 
@@ -42,3 +42,9 @@ pub returns-in-Ok-read_more-clause-shown : goal.returns-in-Ok-read_more-clause-s
 returns-in-Ok-read_more-clause-shown g c = λ first h.
     shown_now g.W.Write.contents c.args.out.now c.show.new.out c.args.screen.now.mark c.show.new.self.mark (trace_in c.args.tables.now)
     (subst (λ t. Shows g.W.Write.contents c.args.out.now c.args.screen.now.mark t c.show.new.out c.show.new.self.mark) c.trace_so_far.ensures c.in-Ok.ensures.shown) first h
+
+pub returns-in-Err-clause-told : goal.returns-in-Err-clause-told
+returns-in-Err-clause-told g c = write_told c.args.keys.now c.args.keys.now c.args.out.now c.args.out.now c.show.new.out c.in-Err.fault refl c.in-Err.ensures.told
+
+pub returns-in-Err-read_more-clause-told : goal.returns-in-Err-read_more-clause-told
+returns-in-Err-read_more-clause-told g c = read_told c.args.keys.now c.read_more.new.keys c.args.out.now c.show.new.out c.in-Err-read_more.unread c.in-Err-read_more.ensures.told

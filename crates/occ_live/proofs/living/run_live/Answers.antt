@@ -7,10 +7,11 @@ use Rattle.occ_net_replay.specs.Following.{or_limit}
 use Rattle.occ_net_replay.specs.Replay.{begins, ending_of, first_net}
 use Rattle.occ_net_tables.specs.Holding.{trace_in}
 use Rattle.occ_net_tables.proofs.Rerun.{all_taken}
+use Rattle.occ_files.specs.Reading.{failures_of as reads_failed}
 use Rattle.occ_live.specs.Living.{StandsLive, WroteSome}
 use Rattle.occ_shown.specs.Counting.{writer_of}
 use Rattle.occ_shown.proofs.Growth.{Appends-none}
-use Rattle.occ_live.proofs.Shown.{if_err_map, if_ok_map, part_fails}
+use Rattle.occ_live.proofs.Shown.{if_err_map, if_ok_map, part_fails, same_count, told_on, up_to, write_told}
 use Rattle.occ_live.proofs.Standing.{all_written, begins_list, fails_live, is_live, is_marked, one_more_used, read_nothing, shows_nothing, starts_live}
 use Rattle.occ_live.proofs.living.run_live.Goals as goal
 
@@ -24,6 +25,7 @@ loop-ending-init g c =
       read = read_nothing g.K.Read.remaining c.args.keys.now c.args.bytes.now.items c.requires.empty;
       end = λ o. absurd (true≢false o);
       failed = refl;
+      grown = same_count (reads_failed c.args.keys.now);
       room = c.requires.keys;
     }
 
@@ -170,6 +172,7 @@ loop-ending-preserved g c =
       read = t.read c.args.keys.now h.read;
       end = t.end h.end;
       failed = c.in-Ok-show_at_times.ensures.none_failed ∙ t.none_failed ∙ h.failed;
+      grown = up_to (reads_failed c.args.keys.now) (reads_failed c.loop-ending.keys) (reads_failed c.live_turn-turned.new.keys) h.grown t.grown;
       room = t.room_left;
     }
 
@@ -188,3 +191,24 @@ returns-in-Err-show_at_times-clause-fault g c =
     fails_live p c.live_turn-turned.new.bytes.items c.in-Ok-turned.still_open list c.live_turn-turned.new.kept.items c.live_turn-turned.new.tables t.stands used g.W.Write.contents c.args.out.now c.live_turn-turned.new.out c.show_at_times.new.out
     c.live_turn-turned.new.screen.mark c.in-Err-show_at_times.unshown (t.shown c.args.out.now h.shown)
     (part_fails g.W.Write.contents c.live_turn-turned.new.out c.show_at_times.new.out c.live_turn-turned.new.screen.mark now c.in-Err-show_at_times.unshown c.in-Err-show_at_times.ensures.part)
+
+pub returns-in-Some-clause-told : goal.returns-in-Some-clause-told
+returns-in-Some-clause-told g c =
+    if_err_map _ _ c.come_to.result
+    (λ fault t. write_told c.args.keys.now c.loop-ending.keys c.args.out.now c.loop-ending.out c.come_to.new.out fault c.loop-ending.invariant.failed t)
+    c.come_to.ensures.told
+
+pub returns-in_default-at-clause-told : goal.returns-in_default-at-clause-told
+returns-in_default-at-clause-told g c =
+    if_err_map _ _ c.come_to-in_default-at.result
+    (λ fault t. write_told c.args.keys.now c.loop-ending.keys c.args.out.now c.loop-ending.out c.come_to-in_default-at.new.out fault c.loop-ending.invariant.failed t)
+    c.come_to-in_default-at.ensures.told
+
+pub returns-in-Err-turned-clause-told : goal.returns-in-Err-turned-clause-told
+returns-in-Err-turned-clause-told g c =
+    let h = c.loop-ending.invariant in
+    told_on c.args.keys.now c.loop-ending.keys c.live_turn-turned.new.keys c.args.out.now c.loop-ending.out c.live_turn-turned.new.out c.in-Err-turned.fault h.grown h.failed c.in-Err-turned.ensures.told
+
+pub returns-in-Err-show_at_times-clause-told : goal.returns-in-Err-show_at_times-clause-told
+returns-in-Err-show_at_times-clause-told g c =
+    write_told c.args.keys.now c.live_turn-turned.new.keys c.args.out.now c.live_turn-turned.new.out c.show_at_times.new.out c.in-Err-show_at_times.unshown (c.in-Ok-turned.ensures.none_failed ∙ c.loop-ending.invariant.failed) c.in-Err-show_at_times.ensures.told

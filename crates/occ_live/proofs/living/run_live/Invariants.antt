@@ -1,4 +1,4 @@
-use Rattle.std.proofs.Common.{◌≡◌, ◌-◌, ◌<◌, ◌^◌, length, take}
+use Rattle.std.proofs.Common.{◌≡◌, ◌-◌, ◌<◌, ◌≤◌, ◌^◌, length, take}
 use Rattle.occ_choices.specs.Plans.{choices_of}
 use Rattle.occ_files.specs.Reading.{ReadsNext}
 use Rattle.occ_files.specs.Reading.{failures_of as reads_failed}
@@ -15,6 +15,7 @@ invariant-loop-ending g l = record {
   read : ReadsNext g.K.Read.remaining l.fn.keys l.keys l.bytes.items;
   end : EndsRightly g.K.Read.remaining l.keys l.is_open;
   failed : failures_of l.out ≡ failures_of l.fn.out;
+  grown : reads_failed l.fn.keys ≤ reads_failed l.keys;
   room : reads_failed l.keys < 2 ^ 64 - 1;
 }
 
