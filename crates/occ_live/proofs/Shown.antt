@@ -15,7 +15,7 @@ use Rattle.occ_files.specs.Reading.{failures_of}
 use Rattle.occ_files.specs.declared.reader.CountedReader.{CountedReader}
 use Rattle.occ_live.specs.declared.fault.LiveFault.{LiveFault}
 use Rattle.occ_live.specs.declared.fault.LiveFault.TheVariants as fails
-use Rattle.occ_live.specs.Living.{FailsBehind, HasShown, Shows, ShowsOn, ShowsPart, TellsFault, TellsRead, TellsWrite}
+use Rattle.occ_live.specs.Living.{FailsBehind, HasShown, Shows, ShowsOn, ShowsPart, TellsFailed, TellsRead, TellsWrite}
 
 pub bytes_behind : (c : ℕ) (xs ys : List Communication) → channel_bytes c (xs ++ ys) ≡ channel_bytes c xs ++ channel_bytes c ys
 bytes_behind c xs ys = ap bytes_of (said_more c xs ys) ∙ bytes_more (messages_on c xs) (messages_on c ys)
@@ -94,17 +94,17 @@ module _ {W : Type 0} (contents : W → Option (List ℕ)) where
 -- ---- what a fault is told of
 
 module _ {K W : Type 0} where
-  pub read_told : (keys_old keys_new : CountedReader K) (old new : Counted W) (fault : LiveFault) → TellsRead keys_old keys_new fault → TellsFault keys_old keys_new old new fault
+  pub read_told : (keys_old keys_new : CountedReader K) (old new : Counted W) (fault : LiveFault) → TellsRead keys_old keys_new fault → TellsFailed keys_old keys_new old new fault
   read_told keys_old keys_new old new (fails.Read reason) t = t
   read_told keys_old keys_new old new fails.Write t = absurd t
   read_told keys_old keys_new old new fails.Memory t = tt
 
-  pub write_told : (keys_old keys_new : CountedReader K) (first old new : Counted W) (fault : LiveFault) → writes_failed old ≡ writes_failed first → TellsWrite old new fault → TellsFault keys_old keys_new first new fault
+  pub write_told : (keys_old keys_new : CountedReader K) (first old new : Counted W) (fault : LiveFault) → writes_failed old ≡ writes_failed first → TellsWrite old new fault → TellsFailed keys_old keys_new first new fault
   write_told keys_old keys_new first old new (fails.Read reason) e t = absurd t
   write_told keys_old keys_new first old new fails.Write e t = subst (λ n. n < writes_failed new) e t
   write_told keys_old keys_new first old new fails.Memory e t = tt
 
-  pub told_on : (keys_first keys_old keys_new : CountedReader K) (first old new : Counted W) (fault : LiveFault) → failures_of keys_first ≤ failures_of keys_old → writes_failed old ≡ writes_failed first → TellsFault keys_old keys_new old new fault → TellsFault keys_first keys_new first new fault
+  pub told_on : (keys_first keys_old keys_new : CountedReader K) (first old new : Counted W) (fault : LiveFault) → failures_of keys_first ≤ failures_of keys_old → writes_failed old ≡ writes_failed first → TellsFailed keys_old keys_new old new fault → TellsFailed keys_first keys_new first new fault
   told_on keys_first keys_old keys_new first old new (fails.Read reason) g e t = let more = t.0 in (omega (arith, g, more), t.1)
   told_on keys_first keys_old keys_new first old new fails.Write g e t = subst (λ n. n < writes_failed new) e t
   told_on keys_first keys_old keys_new first old new fails.Memory g e t = tt

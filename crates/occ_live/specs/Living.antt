@@ -45,10 +45,10 @@ WroteSome contents first now trace fails.Write = (shown : List ℕ) × (rest : L
 WroteSome contents first now trace fails.Memory = (shown : List ℕ) × (rest : List ℕ) × (channel_bytes 1 trace ≡ shown ++ rest) × AppendsTo contents first now shown
 
 -- What is told has failed: a read, for the reason of the last that did, or a write; or memory was refused.
-abbrev pub TellsFault : {K W : Type 0} → (keys_old keys_new : CountedReader K) → (old new : Counted W) → LiveFault → Type 0
-TellsFault keys_old keys_new old new (fails.Read reason) = (failures_of keys_old < failures_of keys_new) × (reason ≡ reason_kept keys_new)
-TellsFault keys_old keys_new old new fails.Write = writes_failed old < writes_failed new
-TellsFault keys_old keys_new old new fails.Memory = ⊤
+abbrev pub TellsFailed : {K W : Type 0} → (keys_old keys_new : CountedReader K) → (old new : Counted W) → LiveFault → Type 0
+TellsFailed keys_old keys_new old new (fails.Read reason) = (failures_of keys_old < failures_of keys_new) × (reason ≡ reason_kept keys_new)
+TellsFailed keys_old keys_new old new fails.Write = writes_failed old < writes_failed new
+TellsFailed keys_old keys_new old new fails.Memory = ⊤
 
 -- The run had come to this network by a beginning of the list, over the bytes that were read.
 pub record FailsLive {W : Type 0} (contents : W → Option (List ℕ)) (p : Program) (read : List ℕ) (list : List Choice) (first now : Counted W) (fault : LiveFault) : Type 0 where

@@ -1,7 +1,7 @@
 //! A turn that looks past the bytes that were read waits for more.
 ghost use Rattle.std.specs.Prelude.{◌≡◌, ◌<◌, ◌≤◌, ◌-◌, ◌^◌, IfErr, IfOk, OnErr, OnOk};
 ghost use Rattle.occ_files.specs.Reading.{failures_of as reads_failed};
-ghost use Rattle.occ_live.specs.Living.{CanHear, EndsOn, HearsBytes, Marked, ReadsOn, ScreenFails, ScreenGoesOn, TellsFault};
+ghost use Rattle.occ_live.specs.Living.{CanHear, EndsOn, HearsBytes, Marked, ReadsOn, ScreenFails, ScreenGoesOn, TellsFailed};
 ghost use Rattle.occ_net_tables.specs.Holding.{trace_in};
 ghost use Rattle.occ_shown.specs.Counting.{failures_of};
 
@@ -44,7 +44,7 @@ pub(crate) fn hear<K: Read, W: Write>(
     ensures kept { OnErr result (keyboard.new.items ≡ keyboard.old.items) }
     ensures part { IfErr result
         (ScreenFails W.contents out.old screen.old tables.old out.new) }
-    ensures told { IfErr result (TellsFault keys.old keys.new out.old out.new) }
+    ensures told { IfErr result (TellsFailed keys.old keys.new out.old out.new) }
     ensures grown { OnOk result (reads_failed keys.old ≤ reads_failed keys.new) }
 {
     if !is_open || !tables.asks(keyboard, begun, pick) {

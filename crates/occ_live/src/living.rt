@@ -2,7 +2,7 @@
 ghost use Rattle.std.specs.Prelude.{◌≡◌, ◌<◌, ◌≤◌, ◌-◌, ◌^◌, ◌++◌, ◌∷◌, [], IfErr, IfOk, OnOk};
 ghost use Rattle.occ_choices.specs.Plans.{choices_of};
 ghost use Rattle.occ_files.specs.Reading.{ReadsNext, failures_of as reads_failed};
-ghost use Rattle.occ_live.specs.Living.{EndsOn, EndsRightly, FailsIn, FailsLive, HasCome, IsLive, Marked, MayGoOn, ReadsOn, RunComesTo, ScreenGoesOn, ScreenShows, ScreenShowsPart, StandsSo, TellsFault, TellsWrite};
+ghost use Rattle.occ_live.specs.Living.{EndsOn, EndsRightly, FailsIn, FailsLive, HasCome, IsLive, Marked, MayGoOn, ReadsOn, RunComesTo, ScreenGoesOn, ScreenShows, ScreenShowsPart, StandsSo, TellsFailed, TellsWrite};
 ghost use Rattle.occ_shown.specs.Answers.{channel_bytes};
 ghost use Rattle.occ_shown.specs.Counting.{AppendsTo, failures_of};
 
@@ -70,7 +70,7 @@ fn live_turn<K: Read, W: Write>(
     ensures end { IfOk result (EndsOn K.remaining keys.old keys.new is_open) }
     ensures part { IfErr result
         (FailsIn W.contents code.now bytes.new kept.old out.old screen.old tables.old out.new) }
-    ensures told { IfErr result (TellsFault keys.old keys.new out.old out.new) }
+    ensures told { IfErr result (TellsFailed keys.old keys.new out.old out.new) }
     ensures grown { OnOk result (reads_failed keys.old ≤ reads_failed keys.new) }
 {
     let begun = match tables.begin_turn(alloc, code, scratch, choice) {
@@ -209,7 +209,7 @@ pub fn run_live<K: Read, W: Write>(
     ensures end { IfOk result (λ lived. EndsRightly K.remaining keys.new lived.is_open) }
     ensures fault { IfErr result (FailsLive W.contents code.now bytes.new.items
         (choices_of plan.now) out.old out.new) }
-    ensures told { IfErr result (TellsFault keys.old keys.new out.old out.new) }
+    ensures told { IfErr result (TellsFailed keys.old keys.new out.old out.new) }
 {
     let mut scratch = Scratch::new(alloc);
     let mut tables = match Tables::new(alloc, code) {
