@@ -1,9 +1,10 @@
 -- What is told behind a refusal's line, behind an ending, and behind the answers of a search.
 -- Manual: nothing; this is (own).
-use Rattle.std.specs.Prelude.{Err, List, Ok, Result, Some, [], codes, get_or, length, suc, take, zero, ℕ, ⊤, ◌++◌, ◌<◌, ◌∷◌, ◌≡◌, ◌≢◌, ◌⊎◌}
+use Rattle.std.specs.Prelude.{Err, List, Ok, Result, Some, [], codes, IsTrue, get_or, length, list_any, suc, take, zero, ℕ, ⊤, ◌++◌, ◌<◌, ◌==◌, ◌∷◌, ◌≡◌, ◌≢◌, ◌⊎◌}
 use Rattle.std.specs.Fmt.{decimal}
 use Rattle.occ_explaining.specs.Explaining.{ReportsOn, TellsRefusal, refusal_in}
 use Rattle.occ_explore.specs.declared.exploration.Answer.{Answer}
+use Rattle.occ_files.specs.Names.{printed_name}
 use Rattle.occ_files.specs.declared.reason.Reason.{Reason}
 use Rattle.occ_net_replay.specs.declared.choice.Choice.{Choice}
 use Rattle.occ_term.specs.Endings.{ending_text}
@@ -23,9 +24,13 @@ use Rattle.occ_program.specs.Troubles.{path_or, trouble_text}
 abbrev pub file_in : Words → List ℕ
 file_in words = path_or (codes "-") words.file
 
--- an explanation of a refusal of this source
+-- what is told of a source that is no text
+abbrev pub no_text : List ℕ → List ℕ
+no_text file = printed_name file ++ codes ": this is no text, and so no occam program: some of its bytes are 0\n"
+
+-- an explanation of a refusal of this source, or that it is no text, where it has a byte that is 0
 abbrev pub TellsOf : Words → (source : List ℕ) → PlayFault → List ℕ → Type 0
-TellsOf words source fault text = TellsRefusal source (file_in words) (refusal_in fault) (Some text)
+TellsOf words source fault text = TellsRefusal source (file_in words) (refusal_in fault) (Some text) ⊎ (IsTrue (list_any (λ b. b == 0) source) × (text ≡ no_text (file_in words)))
 
 -- why standard output was not written, or an explanation
 abbrev pub TellsWhy : Words → (source : List ℕ) → Reason → PlayFault → List ℕ → Type 0

@@ -11,9 +11,11 @@ use crate::drawing::draw;
 use crate::explaining::explain;
 use crate::exploring::explore_words;
 use crate::looking::look_at_words;
+use crate::reading::read_inputs;
 use crate::recording::record;
 use crate::seeding::take_seed;
 use crate::stepping::step;
+use crate::terminal::{allows_bold, explains};
 use crate::tracing::trace;
 use crate::troubles::explain_failure;
 use occ_files::{Disk, Folder, Noting, Reason, printed_name, reason_of};
@@ -21,7 +23,7 @@ use occ_play::{
     FreeGate, Options, PlayFault, Played, RunFault, play_in, play_workers_in, status_of,
 };
 use occ_play_inputs::failure::{of_arguments, of_words};
-use occ_play_inputs::{Failure, Inputs, Stream, Trouble, Words, read_inputs, read_words};
+use occ_play_inputs::{Failure, Inputs, Stream, Trouble, Words, read_words};
 use occ_shown::Counted;
 use occ_watching::play_watching;
 use std::alloc::Global;
@@ -73,7 +75,12 @@ where
         .iter()
         .map(|argument| argument.as_str())
         .collect(alloc)?;
-    let words = read_words(alloc, words.as_slice()).map_err(of_words)?;
+    if words.len() < 2 && rt.reader().is_terminal() {
+        return Err(Failure::Bare);
+    }
+    let mut words = read_words(alloc, words.as_slice()).map_err(of_words)?;
+    words.explain = explains(words.explain, words.plain, on_terminal);
+    words.bold = on_terminal && allows_bold(rt);
     Ok(do_and_tell(rt, alloc, &words, on_terminal))
 }
 
