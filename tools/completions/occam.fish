@@ -17,7 +17,7 @@ complete -c occam -l steps -r -d 'Writes a line for each turn into FILE: who was
 complete -c occam -l watch -d 'Prints each communication to standard error, as a second thread saw it'
 complete -c occam -l explain -d 'Explains a refusal, a run that did not end, or a file that failed; on a terminal it is explained unasked'
 complete -c occam -l plain -d 'Leaves the explanation out on a terminal'
-complete -c occam -l explore -d 'Tells what all schedules come to: answers are endings with what the screen got, endings stand alone, full visits every state for answers [default: answers]'
+complete -c occam -l explore -f -a 'answers endings full' -d 'Tells what all schedules come to: answers are endings with what the screen got, endings stand alone, full visits every state for answers [default: answers]'
 complete -c occam -l states -x -d 'Lets the search visit at most N states, 1 to 10000000 [default: 1000000]'
 complete -c occam -l check -d 'Says whether the source is refused, and plays nothing'
 complete -c occam -l help -d 'Prints this help'

@@ -1,8 +1,9 @@
 //! Tells more of a refusal and of an ending, where the words ask for it.
-ghost use Rattle.std.specs.Prelude.{◌≡◌, IfOk, IfSome};
+ghost use Rattle.std.specs.Prelude.{◌≡◌, ◌++◌, IfOk, IfSome, IsTrue, true};
+ghost use Rattle.occ_files.specs.Names.{printed_name};
 ghost use Rattle.occ_play_inputs.specs.Failures.{trouble};
 ghost use Rattle.occ_play_inputs.specs.declared.failure.Stream.TheVariants.{Output};
-ghost use Rattle.occ_program.specs.Explained.{Explains, ReportsRun, TellsOf, TellsWhy, file_in, no_text};
+ghost use Rattle.occ_program.specs.Explained.{Explains, ReportsRun, TellsOf, TellsWhy, file_in, has_zero, no_text};
 ghost use Rattle.occ_program.specs.Troubles.{trouble_text};
 
 use crate::program::options_of;
@@ -62,26 +63,44 @@ fn file_of<'a>(words: &Words<'a>) -> &'a str
 fn told_of(alloc: Global, words: &Words<'_>, source: &[u8], fault: &PlayFault) -> Option<Vec<u8>>
     ensures { IfSome result (λ text. TellsOf words.now source.now fault.now text.items) }
 {
+    if is_no_text(source, fault) {
+        return no_text(alloc, words);
+    }
     let file = file_of(words);
-    let told = match fault {
-        PlayFault::Text(TextFault::BadByte { .. } | TextFault::TooLong) if source.contains(&0) => {
-            no_text(alloc, file)
-        }
-        fault => explained_fault(alloc, source, file.as_bytes(), fault),
-    };
-    match told {
+    match explained_fault(alloc, source, file.as_bytes(), fault) {
         Ok(told) => told,
         Err(_) => None,
     }
 }
 
-/// What is told of a source that is no text.
-fn no_text(alloc: Global, file: &str) -> Result<Option<Vec<u8>>, AllocError>
-    ensures { IfOk result (λ told. IfSome told (λ text. text.items ≡ no_text file.now)) }
+/// Whether a source is refused for what it is, and has a byte that is 0, as no text has.
+fn is_no_text(source: &[u8], fault: &PlayFault) -> bool
+    ensures { IsTrue result → has_zero source.now ≡ true }
 {
-    let mut text = printed_name(alloc, file.as_bytes())?;
-    text.extend_from_slice(NO_TEXT)?;
-    Ok(Some(text))
+    match fault {
+        PlayFault::Text(TextFault::BadByte { .. } | TextFault::TooLong) => source.contains(&0),
+        _ => false,
+    }
+}
+
+/// What is told of a source that is no text.
+fn no_text(alloc: Global, words: &Words<'_>) -> Option<Vec<u8>>
+    ensures { IfSome result (λ text. text.items ≡ no_text (file_in words.now)) }
+{
+    let file = file_of(words);
+    match text_behind(alloc, file, NO_TEXT) {
+        Ok(text) => Some(text),
+        Err(_) => None,
+    }
+}
+
+/// A text behind a name.
+fn text_behind(alloc: Global, name: &str, text: &[u8]) -> Result<Vec<u8>, AllocError>
+    ensures { IfOk result (λ told. told.items ≡ printed_name name.now ++ text.now) }
+{
+    let mut told = printed_name(alloc, name.as_bytes())?;
+    told.extend_from_slice(text)?;
+    Ok(told)
 }
 
 /// Why standard output was not written, or the explanation of a refusal.

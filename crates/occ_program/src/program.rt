@@ -39,6 +39,9 @@ const ALLOWED: &str = "occam --help says what is allowed";
 /// How many lines are told of wrong words above that.
 const MOST_LINES: usize = 2;
 
+/// How the line of `clap` begins that says the same.
+const SAME: &str = "For more information";
+
 /// Runs the program on the arguments, the files and the streams of `rt`, and answers its exit status: 0 ended or
 /// help or a source that is not refused where that is all that is asked, 1 source refused, 2 stopped, 3 fault, 4 limit, 5 want of memory or
 /// threads that gave no answer, 6 a file or stream that couldn't be
@@ -413,11 +416,11 @@ fn tell_words<R: Eprint>(rt: &R, alloc: Global, error: &clap::Error) {
     let _ = eprintln!(rt; "{ALLOWED}");
 }
 
-/// Prints the first lines of a text that say something.
+/// Prints the first lines of a text that say something, and not what the line below them says.
 fn tell_lines<R: Eprint>(rt: &R, alloc: Global, text: &str) {
     let mut told = 0;
     for line in text.lines() {
-        if told < MOST_LINES && !line.is_empty() {
+        if told < MOST_LINES && !line.is_empty() && !line.starts_with(SAME) {
             tell_line(rt, alloc, line);
             told += 1;
         }
