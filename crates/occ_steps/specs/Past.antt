@@ -45,7 +45,7 @@ IsFirstPast p keyboard list (Some turn) = IsPastAt p keyboard list turn
 -- ---- what the code does; private contracts alone cite it
 
 -- in the middle of a run: so many turns are taken
-pub record Naming (p : Program) (keyboard : List ℕ) (turns : ℕ) (rest list : List Choice) (n : Tables) : Type 0 where
+pub record NamingSoFar (p : Program) (keyboard : List ℕ) (turns : ℕ) (rest list : List Choice) (n : Tables) : Type 0 where
   pub given : List Choice
   pub count : turns ≡ length given
   pub so_far : given ++ rest ≡ list
