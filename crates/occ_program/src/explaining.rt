@@ -1,6 +1,5 @@
 //! Tells more of a refusal and of an ending, where the words ask for it.
-ghost use Rattle.std.specs.Prelude.{◌≡◌, ◌++◌, IfOk, IfSome, IsTrue, true};
-ghost use Rattle.occ_files.specs.Names.{printed_name};
+ghost use Rattle.std.specs.Prelude.{◌≡◌, IfOk, IfSome, IsTrue, true};
 ghost use Rattle.occ_play_inputs.specs.Failures.{trouble};
 ghost use Rattle.occ_play_inputs.specs.declared.failure.Stream.TheVariants.{Output};
 ghost use Rattle.occ_program.specs.Explained.{Explains, ReportsRun, TellsOf, TellsWhy, file_in, has_zero, no_text};
@@ -16,9 +15,6 @@ use occ_play_inputs::{Inputs, Stream, Trouble, Words};
 use occ_term::Ending;
 use occ_text::TextFault;
 use std::alloc::{AllocError, Global};
-
-/// What is told of a source that is no text, behind its name.
-const NO_TEXT: &[u8] = b": this is no text, and so no occam program: some of its bytes are 0\n";
 
 /// Prints, behind the line of a refusal, where its mistake is, behind that of a failed write why it failed, and behind an ending that
 /// is not that of a whole run what each process stands at. Where memory runs out for that, nothing more is printed.
@@ -78,7 +74,9 @@ fn is_no_text(source: &[u8], fault: &PlayFault) -> bool
     ensures { IsTrue result → has_zero source.now ≡ true }
 {
     match fault {
-        PlayFault::Text(TextFault::BadByte { .. } | TextFault::TooLong) => source.contains(&0),
+        PlayFault::Text(TextFault::BadByte { .. }) | PlayFault::Text(TextFault::TooLong) => {
+            source.contains(&0)
+        }
         _ => false,
     }
 }
@@ -88,19 +86,21 @@ fn no_text(alloc: Global, words: &Words<'_>) -> Option<Vec<u8>>
     ensures { IfSome result (λ text. text.items ≡ no_text (file_in words.now)) }
 {
     let file = file_of(words);
-    match text_behind(alloc, file, NO_TEXT) {
+    match no_text_in(alloc, file) {
         Ok(text) => Some(text),
         Err(_) => None,
     }
 }
 
-/// A text behind a name.
-fn text_behind(alloc: Global, name: &str, text: &[u8]) -> Result<Vec<u8>, AllocError>
-    ensures { IfOk result (λ told. told.items ≡ printed_name name.now ++ text.now) }
+/// What is told of a file that is no text.
+fn no_text_in(alloc: Global, file: &str) -> Result<Vec<u8>, AllocError>
+    ensures { IfOk result (λ text. text.items ≡ no_text file.now) }
 {
-    let mut told = printed_name(alloc, name.as_bytes())?;
-    told.extend_from_slice(text)?;
-    Ok(told)
+    let mut text = printed_name(alloc, file.as_bytes())?;
+    text.extend_from_slice(
+        b": this is no text, and so no occam program: some of its bytes are 0\n",
+    )?;
+    Ok(text)
 }
 
 /// Why standard output was not written, or the explanation of a refusal.

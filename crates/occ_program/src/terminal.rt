@@ -7,10 +7,6 @@ use std::env;
 use std::env::VarError;
 use std::rt::Env;
 
-/// What begins bold letters, and what ends them.
-const BOLD: &[u8] = b"\x1b[1m";
-const PLAIN: &[u8] = b"\x1b[0m";
-
 /// Whether explanations are printed: where the words ask for them, and on a terminal unless they decline.
 pub(crate) fn explains(asked: bool, declined: bool, on_terminal: bool) -> bool
     ensures { result ≡ explains asked declined on_terminal }
@@ -50,9 +46,10 @@ pub(crate) fn in_bold(alloc: Global, text: &[u8]) -> Result<Vec<u8>, AllocError>
     ensures { IfOk result (λ shown. IsInBold text.now shown.items) }
 {
     let end = line_end(text);
-    let mut shown = Vec::from_slice(alloc, BOLD)?;
+    let mut shown = Vec::new(alloc);
+    shown.extend_from_slice(b"\x1b[1m")?;
     shown.extend_from_slice(&text[..end])?;
-    shown.extend_from_slice(PLAIN)?;
+    shown.extend_from_slice(b"\x1b[0m")?;
     shown.extend_from_slice(&text[end..])?;
     Ok(shown)
 }
