@@ -71,10 +71,10 @@ WAITING = """  p0 main, line 3: waits for p1 p2
   p2 main, line 11: awaits d, which p1 writes
   in a circle, each waits for the next: p1 p2
 """
-NOTICE = "type what the program is to read, then Ctrl-D on a line of its own: it runs after that\n"
-USAGE = "Usage: occam [FILE] [OPTIONS]\noccam FILE runs the program in FILE, and occam --help lists the options\n"
+NOTICE = "the program reads the keyboard: type its input, then Ctrl-D on a line of its own\n"
+USAGE = "Compiles and runs an occam 2 program.\n\nUsage: occam [FILE] [OPTIONS]\n\n`occam FILE` runs the program in FILE, `occam --help` lists the options\n"
 MISSING = "no such file or folder\n"
-NO_SOURCE = MISSING + "  it was to be the source: occam FILE runs a program, and occam --help lists the options\n"
+NO_SOURCE = MISSING + "  `occam FILE` runs the program in FILE, `occam --help` lists the options\n"
 STOPPED = '1 stopped "" by 1 choice\neach run ends after 1 turn\none answer: the program has no ALT\n'
 SHARED_TOLD = """refused 50 SharedVariable line 5 x
 x.occ:5:5: `x` is written in one branch of a PAR and used in another

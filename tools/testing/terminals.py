@@ -23,7 +23,7 @@ def bold(text):
     return f"\x1b[1m{head}\x1b[0m\n{rest[0]}"
 
 
-PAST = "past: line 2 picks none of the ready processes, so its number was counted round; this may be the schedule of another program\n"
+PAST = "past: line 2 selects past the last ready process, so its number is taken modulo how many are ready; this may be the schedule of another program\n"
 TOLD = SHARED_TOLD.split("\n", 1)[1]
 REFUSED = "refused 50 SharedVariable line 5 x\n"
 # files, words, what is typed, the streams on the terminal, variables; the status, and what the terminal and the pipes get
@@ -65,7 +65,7 @@ CASES = [
     ("choices of another program, by --explain", LETTER, ["--choices", "past", "--explain", "x.occ"], "", (), {}, (0, "", "A" + PAST)),
     ("choices of another program, unasked", LETTER, ["--choices", "past", "x.occ"], "", (), {}, (0, "", "A")),
     ("choices from a seed", LETTER, ["--choices", "seeded", "x.occ"], "", ALL, {}, (0, "A", "")),
-    ("no text", b"\x7fELF\x02\x01\0\0\0\n", ["x.occ"], "", ALL, {"NO_COLOR": "1"}, (1, "refused 2 BadByte line 1\nx.occ: this is no text, and so no occam program: some of its bytes are 0\n", "")),
+    ("no text", b"\x7fELF\x02\x01\0\0\0\n", ["x.occ"], "", ALL, {"NO_COLOR": "1"}, (1, "refused 2 BadByte line 1\nx.occ: this is not a text file: it contains NUL bytes\n", "")),
 ]
 
 # words of a command line, the last of which is completed, as bash parts them; and what it becomes

@@ -55,7 +55,7 @@ pub enum Failure {
     #[error("{0}")]
     Words(clap::Error),
     /// There are no words, and standard input is a terminal: nothing is read then.
-    #[error("Usage: occam [FILE] [OPTIONS]\noccam FILE runs the program in FILE, and occam --help lists the options")]
+    #[error("Compiles and runs an occam 2 program.\n\nUsage: occam [FILE] [OPTIONS]\n\n`occam FILE` runs the program in FILE, `occam --help` lists the options")]
     Bare,
     /// An argument is no UTF-8.
     #[error("an argument is no UTF-8")]

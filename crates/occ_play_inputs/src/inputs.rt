@@ -22,7 +22,7 @@ const MOST_SOURCE: usize = 1_048_577;
 
 /// What is told before the keyboard is read from a terminal.
 const NOTICE: &str =
-    "type what the program is to read, then Ctrl-D on a line of its own: it runs after that\n";
+    "the program reads the keyboard: type its input, then Ctrl-D on a line of its own\n";
 
 /// What the program plays.
 #[derive(Drop)]

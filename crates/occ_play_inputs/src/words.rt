@@ -388,7 +388,7 @@ fn quantum_word<'a>(alloc: Global) -> Arg<'a> {
     Arg::new(alloc, "quantum")
         .long("quantum")
         .value_name("N")
-        .help("Makes turns longer: a turn passes N ends of a loop's body, 1 to 65536 [default: 1]")
+        .help("Lets a process go through up to N loop iterations in one turn, 1 to 65536 [default: 1]")
         .value_parser(value_parser!(u32).range(1..=i64::from(MOST_QUANTUM)))
 }
 
@@ -404,7 +404,7 @@ fn workers_word<'a>(alloc: Global) -> Arg<'a> {
     Arg::new(alloc, "workers")
         .long("workers")
         .value_name("N")
-        .help("Runs the processes on N threads, 1 to 64: the threads decide who goes on")
+        .help("Runs the processes on N threads, 1 to 64; which process goes on is up to them")
         .value_parser(value_parser!(u32).range(1..=i64::from(MOST_WORKERS)))
 }
 
@@ -534,7 +534,7 @@ fn explore_word<'a>(alloc: Global) -> Result<Arg<'a>, AllocError> {
         .long("explore")
         .value_name("WHAT")
         .help(
-            "Tells what all schedules come to: answers are endings with what the screen got, endings stand alone, full visits every state for answers [default: answers]",
+            "Tells the outcomes of all schedules: answers are endings with what the screen got, endings stand alone, full visits every state for its answers [default: answers]",
         )
         .num_args(0..=1)
         .require_equals(true)

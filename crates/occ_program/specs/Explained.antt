@@ -32,7 +32,7 @@ has_zero source = list_any (λ b. nat_eq b 0) source
 
 -- what is told of a source that is no text
 abbrev pub no_text : List ℕ → List ℕ
-no_text file = printed_name file ++ codes ": this is no text, and so no occam program: some of its bytes are 0\n"
+no_text file = printed_name file ++ codes ": this is not a text file: it contains NUL bytes\n"
 
 -- an explanation of a refusal of this source, or that it is no text, where it has a byte that is 0
 abbrev pub TellsOf : Words → (source : List ℕ) → PlayFault → List ℕ → Type 0
@@ -99,7 +99,7 @@ TellsAnswers words inputs answers text = TellsFirst words inputs answers (length
 -- which line of the file picks a process that is not there
 abbrev pub past_text : List ℕ → ℕ → List ℕ
 past_text path turn =
-    printed_name path ++ codes ": line " ++ decimal turn ++ codes " picks none of the ready processes, so its number was counted round; this may be the schedule of another program\n"
+    printed_name path ++ codes ": line " ++ decimal turn ++ codes " selects past the last ready process, so its number is taken modulo how many are ready; this may be the schedule of another program\n"
 
 -- it is the first that does so, and not the first of all, as where choices are made from a seed
 pub record TellsPast (words : Words) (inputs : Inputs) (path : List ℕ) (choices : List Choice) (text : List ℕ) : Type 0 where

@@ -33,7 +33,7 @@ stream_name words Turns = path_or [] words.steps
 
 -- a source that is missing may be a word that was to be another one
 abbrev pub advice_on : Stream → Reason → List ℕ
-advice_on Source Missing = codes "  it was to be the source: occam FILE runs a program, and occam --help lists the options\n"
+advice_on Source Missing = codes "  `occam FILE` runs the program in FILE, `occam --help` lists the options\n"
 advice_on stream reason = []
 
 abbrev pub advice : Trouble → List ℕ

@@ -62,7 +62,7 @@ fn past_text(alloc: Global, path: &str, turn: u64) -> Result<Vec<u8>, AllocError
     ensures { IfOk result (λ text. text.items ≡ past_text path.now turn) }
 {
     let mut text = printed_name(alloc, path.as_bytes())?;
-    let told = format!(in alloc; ": line {turn} picks none of the ready processes, so its number was counted round; this may be the schedule of another program\n")?;
+    let told = format!(in alloc; ": line {turn} selects past the last ready process, so its number is taken modulo how many are ready; this may be the schedule of another program\n")?;
     text.extend_from_slice(told.as_bytes())?;
     Ok(text)
 }

@@ -98,7 +98,7 @@ fn no_text_in(alloc: Global, file: &str) -> Result<Vec<u8>, AllocError>
 {
     let mut text = printed_name(alloc, file.as_bytes())?;
     text.extend_from_slice(
-        b": this is no text, and so no occam program: some of its bytes are 0\n",
+        b": this is not a text file: it contains NUL bytes\n",
     )?;
     Ok(text)
 }

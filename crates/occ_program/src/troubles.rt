@@ -9,7 +9,7 @@ use occ_play_inputs::{Failure, Stream, Trouble, Words};
 use std::alloc::{AllocError, Global};
 
 /// What is told below a source that is missing.
-const ADVICE: &str = "  it was to be the source: occam FILE runs a program, and occam --help lists the options\n";
+const ADVICE: &str = "  `occam FILE` runs the program in FILE, `occam --help` lists the options\n";
 
 /// Prints, behind the line of a failure, which file or stream failed, and why. Where memory runs out for that, nothing more is printed.
 pub(crate) fn explain_failure<R: Eprint>(
