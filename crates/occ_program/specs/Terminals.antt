@@ -19,8 +19,8 @@ explains asked declined terminal = asked || (terminal && not declined)
 
 -- the first end of a line, or the end of the text where there is none
 pub record EndsLine (text : List ℕ) (end : ℕ) : Type 0 where
-  pub before : (k : ℕ) → k < end → get_or text k ≢ 10
-  pub at : (end ≡ length text) ⊎ (get_or text end ≡ 10)
+  pub before : (k : ℕ) → k < end → get_or text k 0 ≢ 10
+  pub at : (end ≡ length text) ⊎ (get_or text end 0 ≡ 10)
 
 -- the first line stands between the two sequences that begin and end bold letters
 pub record IsInBold (text shown : List ℕ) : Type 0 where
