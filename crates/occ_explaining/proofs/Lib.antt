@@ -1,2 +1,2 @@
 pub mod Refusing
-mod Keyboard
+mod NotedInputs

@@ -1,5 +1,5 @@
 use Rattle.std.proofs.Common.{◌≡◌, ◌∙◌, sym}
-use Rattle.occ_explaining.proofs.Keyboard.{is_here, none_left, not_here}
+use Rattle.occ_explaining.proofs.NotedInputs.{is_here, none_left, not_here}
 use Rattle.occ_explaining.proofs.keyboard.has_keyboard.Goals as goal
 
 pub loop-one-preserved : goal.loop-one-preserved

@@ -1,5 +1,5 @@
 use Rattle.std.proofs.Common.{◌≡◌, drop}
-use Rattle.occ_explaining.proofs.Keyboard.{among}
+use Rattle.occ_explaining.proofs.NotedInputs.{among}
 use Rattle.occ_explaining.proofs.keyboard.has_keyboard.Given as goal
 
 -- what holds of those that are left holds of all
