@@ -170,7 +170,7 @@ fn reported(alloc: Global, words: &Words<'_>, inputs: &Inputs, played: &Played) 
 
 /// Prints a text to standard error, with its first line in bold where that is wanted.
 pub(crate) fn print_text<R: Eprint>(rt: &R, alloc: Global, words: &Words<'_>, text: &[u8]) {
-    if !words.bold {
+    if !words.bold || text.is_empty() {
         print_bytes(rt, alloc, text);
     } else if let Ok(shown) = in_bold(alloc, text) {
         print_bytes(rt, alloc, shown.as_slice());
