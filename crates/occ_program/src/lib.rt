@@ -3,7 +3,6 @@
 //! [`exit_code`] tells the machine so.
 #![tactic(auto)]
 
-mod choosing;
 mod counting;
 mod drawing;
 pub mod exit;

@@ -1,2 +1,1 @@
 mod Turns
-mod PastReady
