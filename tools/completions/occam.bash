@@ -2,17 +2,26 @@
 _occam() {
   local now="${COMP_WORDS[COMP_CWORD]}" before="${COMP_WORDS[COMP_CWORD - 1]}"
   COMPREPLY=()
+  if [[ "$now" == "=" ]]; then
+    before="$before=" now=""
+  elif [[ "$before" == "=" ]]; then
+    before="${COMP_WORDS[COMP_CWORD - 2]}="
+  fi
   case "$before" in
-    --errors)
+    --errors | --errors=)
       COMPREPLY=($(compgen -W "halt stop" -- "$now"))
       return
       ;;
-    --limit|--quantum|--workers|--seed|--tries|--arrows|--last|--states)
+    --explore=)
+      COMPREPLY=($(compgen -W "answers endings full" -- "$now"))
+      return
+      ;;
+    --limit | --limit= | --quantum | --quantum= | --workers | --workers= | --seed | --seed= | --tries | --tries= | --arrows | --arrows= | --last | --last= | --states | --states=)
       return
       ;;
   esac
   if [[ "$now" == -* ]]; then
-    COMPREPLY=($(compgen -W "--limit --quantum --errors --workers --seed --tries --choices --record --chart --arrows --last --trace --trace-to --json --steps --watch --explain --explore --states --check --help --version" -- "$now"))
+    COMPREPLY=($(compgen -W "--limit --quantum --errors --workers --seed --tries --choices --record --chart --arrows --last --trace --trace-to --json --steps --watch --explain --plain --explore --states --check --help --version" -- "$now"))
   else
     COMPREPLY=($(compgen -f -- "$now"))
   fi

@@ -51,7 +51,7 @@ pub const MOST_STATES: u32 = 10_000_000;
 static TOLD: [&str; 3] = ["answers", "endings", "full"];
 
 /// How many words there are.
-const WORDS: u32 = 21;
+const WORDS: u32 = 22;
 
 /// The words that say something of one run.
 static OF_ONE_RUN: [&str; 13] = [
@@ -102,6 +102,10 @@ pub struct Words<'a> {
     /// Whether more is told behind the line of a refusal or of a failed read or write, and behind an ending that is not that of a
     /// whole run.
     pub explain: bool,
+    /// Whether that is left out on a terminal, where it is told without being asked for.
+    pub plain: bool,
+    /// Whether the first line of it is printed in bold. No word asks for it: that is up to the terminal.
+    pub bold: bool,
     /// The number from which the choices of the run are made, as many as the limit has, 0 to 1,000,000,000; none where no word
     /// says so.
     pub seed: Option<u32>,
@@ -206,6 +210,8 @@ fn words_of<'a>(matches: &ArgMatches<'a>) -> Result<Words<'a>, &'static str> {
         trace: matches.get_flag("trace"),
         watch: matches.get_flag("watch"),
         explain: matches.get_flag("explain"),
+        plain: matches.get_flag("plain"),
+        bold: false,
         seed,
         tries,
         choices,
@@ -354,9 +360,10 @@ fn word_of<'a>(alloc: Global, number: u32) -> Result<Arg<'a>, AllocError> {
         14 => Ok(steps_word(alloc)),
         15 => Ok(watch_word(alloc)),
         16 => Ok(explain_word(alloc)),
-        17 => explore_word(alloc),
-        18 => states_word(alloc),
-        19 => check_word(alloc),
+        17 => plain_word(alloc),
+        18 => explore_word(alloc),
+        19 => states_word(alloc),
+        20 => check_word(alloc),
         _ => Ok(file_word(alloc)),
     }
 }
@@ -381,7 +388,7 @@ fn quantum_word<'a>(alloc: Global) -> Arg<'a> {
     Arg::new(alloc, "quantum")
         .long("quantum")
         .value_name("N")
-        .help("Lets a turn pass N ends of a loop's body, 1 to 65536 [default: 1]")
+        .help("Lets a process go through up to N loop iterations in one turn, 1 to 65536 [default: 1]")
         .value_parser(value_parser!(u32).range(1..=i64::from(MOST_QUANTUM)))
 }
 
@@ -389,7 +396,7 @@ fn errors_word<'a>(alloc: Global) -> Arg<'a> {
     Arg::new(alloc, "errors")
         .long("errors")
         .value_name("MODE")
-        .help("Says what a fault does: halt ends the run, stop its process alone [default: halt]")
+        .help("Says what a fault does: halt ends the whole run, stop only its process [default: halt]")
         .value_parser(ValueParser::Names(MODES.as_slice()))
 }
 
@@ -397,7 +404,7 @@ fn workers_word<'a>(alloc: Global) -> Arg<'a> {
     Arg::new(alloc, "workers")
         .long("workers")
         .value_name("N")
-        .help("Lets N threads take the turns, 1 to 64")
+        .help("Runs the processes on N threads, 1 to 64; which process goes on is up to them")
         .value_parser(value_parser!(u32).range(1..=i64::from(MOST_WORKERS)))
 }
 
@@ -406,7 +413,7 @@ fn seed_word<'a>(alloc: Global) -> Result<Arg<'a>, AllocError> {
         .long("seed")
         .value_name("N")
         .help(
-            "Plays the run by choices made from the number N, 0 to 1000000000, as many as --limit has",
+            "Makes a schedule from the number N, 0 to 1000000000; the same number gives the same run",
         )
         .value_parser(value_parser!(u32).range(0..=1_000_000_000))
         .conflicts_with("choices")?
@@ -419,7 +426,7 @@ fn tries_word<'a>(alloc: Global) -> Result<Arg<'a>, AllocError> {
         .long("tries")
         .value_name("N")
         .help(
-            "Tries N seeds from that of --seed on, 1 to 1000000, until a run doesn't end [default: 1]",
+            "Tries N seeds, 1 to 1000000, from that of --seed on, until a run does not end [default: 1]",
         )
         .value_parser(value_parser!(u32).range(1..=1_000_000))
         .requires_arg("seed")
@@ -429,7 +436,7 @@ fn choices_word<'a>(alloc: Global) -> Arg<'a> {
     Arg::new(alloc, "choices")
         .long("choices")
         .value_name("FILE")
-        .help("Plays the run by the choices of FILE; --limit and --workers say nothing then")
+        .help("Plays the schedule in FILE, as --record writes it; --limit and --workers have no effect then")
 }
 
 fn record_word<'a>(alloc: Global) -> Arg<'a> {
@@ -437,7 +444,7 @@ fn record_word<'a>(alloc: Global) -> Arg<'a> {
         .long("record")
         .value_name("FILE")
         .help(
-            "Writes the choices that the run used into FILE; of a search those of answer 1 into FILE.1.choices, and so on",
+            "Writes the schedule of the run into FILE; with --explore that of answer 1 into FILE.1.choices, and so on",
         )
 }
 
@@ -445,14 +452,14 @@ fn chart_word<'a>(alloc: Global) -> Arg<'a> {
     Arg::new(alloc, "chart")
         .long("chart")
         .value_name("FILE")
-        .help("Draws the run's communications into FILE, a sequence chart in SVG")
+        .help("Draws the communications of the run into FILE, as a sequence chart in SVG")
 }
 
 fn arrows_word<'a>(alloc: Global) -> Result<Arg<'a>, AllocError> {
     Arg::new(alloc, "arrows")
         .long("arrows")
         .value_name("N")
-        .help("Draws at most the first N communications in the chart [default: 200]")
+        .help("Draws only the first N communications [default: 200]")
         .value_parser(value_parser!(u32))
         .requires_arg("chart")
 }
@@ -461,7 +468,7 @@ fn last_word<'a>(alloc: Global) -> Result<Arg<'a>, AllocError> {
     Arg::new(alloc, "last")
         .long("last")
         .value_name("N")
-        .help("Draws at most the last N communications instead")
+        .help("Draws only the last N communications")
         .value_parser(value_parser!(u32))
         .requires_arg("chart")?
         .conflicts_with("arrows")
@@ -470,7 +477,7 @@ fn last_word<'a>(alloc: Global) -> Result<Arg<'a>, AllocError> {
 fn trace_word<'a>(alloc: Global) -> Arg<'a> {
     Arg::new(alloc, "trace")
         .long("trace")
-        .help("Prints each communication after the answer")
+        .help("Prints each communication below what the screen got")
         .action(ArgAction::SetTrue)
 }
 
@@ -478,7 +485,7 @@ fn trace_to_word<'a>(alloc: Global) -> Arg<'a> {
     Arg::new(alloc, "trace-to")
         .long("trace-to")
         .value_name("FILE")
-        .help("Writes each communication and the ending into FILE")
+        .help("Writes the trace into FILE: each communication, and how the run ended")
 }
 
 fn json_word<'a>(alloc: Global) -> Result<Arg<'a>, AllocError> {
@@ -494,14 +501,14 @@ fn steps_word<'a>(alloc: Global) -> Arg<'a> {
         .long("steps")
         .value_name("FILE")
         .help(
-            "Writes a line for each turn into FILE: who was ready, who took it, what it then stands at",
+            "Writes a line for each turn into FILE: who was ready, who took the turn, and where it stopped",
         )
 }
 
 fn watch_word<'a>(alloc: Global) -> Arg<'a> {
     Arg::new(alloc, "watch")
         .long("watch")
-        .help("Prints each communication to standard error as a thread was shown it that looks on")
+        .help("Prints each communication to standard error, as a second thread saw it")
         .action(ArgAction::SetTrue)
 }
 
@@ -509,9 +516,17 @@ fn explain_word<'a>(alloc: Global) -> Arg<'a> {
     Arg::new(alloc, "explain")
         .long("explain")
         .help(
-            "Tells where the mistake of a refused source is, what each process stands at that is left, and which file failed and why",
+            "Explains a refusal, a run that did not end, or a file that failed; on a terminal it is explained unasked",
         )
         .action(ArgAction::SetTrue)
+}
+
+fn plain_word<'a>(alloc: Global) -> Result<Arg<'a>, AllocError> {
+    Arg::new(alloc, "plain")
+        .long("plain")
+        .help("Leaves the explanation out on a terminal")
+        .action(ArgAction::SetTrue)
+        .conflicts_with("explain")
 }
 
 fn explore_word<'a>(alloc: Global) -> Result<Arg<'a>, AllocError> {
@@ -519,7 +534,7 @@ fn explore_word<'a>(alloc: Global) -> Result<Arg<'a>, AllocError> {
         .long("explore")
         .value_name("WHAT")
         .help(
-            "Tells what all runs come to, with the screen for answers, without for endings; full tells answers by way of all states [default: answers]",
+            "Tells the outcomes of all schedules: answers are endings with what the screen got, endings stand alone, full visits every state for its answers [default: answers]",
         )
         .num_args(0..=1)
         .require_equals(true)
@@ -537,7 +552,7 @@ fn states_word<'a>(alloc: Global) -> Result<Arg<'a>, AllocError> {
     Arg::new(alloc, "states")
         .long("states")
         .value_name("N")
-        .help("Lets the search come to N states, 1 to 10000000 [default: 1000000]")
+        .help("Lets the search visit at most N states, 1 to 10000000 [default: 1000000]")
         .value_parser(value_parser!(u32).range(1..=10_000_000))
         .requires_arg("explore")
 }
