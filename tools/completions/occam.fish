@@ -12,7 +12,7 @@ complete -c occam -l arrows -x -d 'Draws at most the first N communications in t
 complete -c occam -l last -x -d 'Draws at most the last N communications instead'
 complete -c occam -l trace -d 'Prints each communication after the answer'
 complete -c occam -l trace-to -r -d 'Writes each communication and the ending into FILE'
-complete -c occam -l json -d 'Writes each of them as a line of JSON'
+complete -c occam -l json -d 'Writes each of them, or what --check finds, as a line of JSON'
 complete -c occam -l steps -r -d 'Writes a line for each turn into FILE: who was ready, who took it, what it then stands at'
 complete -c occam -l watch -d 'Prints each communication to standard error as a thread was shown it that looks on'
 complete -c occam -l explain -d 'Tells where the mistake of a refused source is, what each process stands at that is left, and which file failed and why'

@@ -23,20 +23,36 @@ abbrev pub exact : List ℕ → List ℕ
 exact [] = []
 exact (b ∷ bs) = exact_byte b ++ exact bs
 
+-- what a member says: a number, a text that may be no UTF-8, or one that is
+pub data Said : Type 0 where
+  number : ℕ → Said
+  text : List ℕ → Said
+  exactly : List ℕ → Said
+
 -- a number, or a text between quotes
-abbrev pub value_json : Value → List ℕ
-value_json (Number n) = decimal n
-value_json (Text bytes) = quoted bytes.now
-value_json (Exact text) = 34 ∷ exact text.now ++ 34 ∷ []
+abbrev pub said_json : Said → List ℕ
+said_json (number n) = decimal n
+said_json (text bytes) = quoted bytes
+said_json (exactly bytes) = 34 ∷ exact bytes ++ 34 ∷ []
 
 -- a name and what it says, behind a comma
-unfoldable pub member_json : Member → List ℕ
-member_json m = codes ",\"" ++ m.name.now ++ codes "\":" ++ value_json m.value
+unfoldable pub member_json : List ℕ × Said → List ℕ
+member_json m = codes ",\"" ++ m.0 ++ codes "\":" ++ said_json m.1
 
-abbrev pub members_json : List Member → List ℕ
+abbrev pub members_json : List (List ℕ × Said) → List ℕ
 members_json [] = []
 members_json (m ∷ ms) = member_json m ++ members_json ms
 
 -- the kind, and the members
-unfoldable pub object_json : (kind : List ℕ) → List Member → List ℕ
+unfoldable pub object_json : (kind : List ℕ) → List (List ℕ × Said) → List ℕ
 object_json kind ms = codes "{\"kind\":\"" ++ kind ++ codes "\"" ++ members_json ms ++ codes "}\n"
+
+-- ---- as the code has them
+
+abbrev pub said_of : Value → Said
+said_of (Number n) = number n
+said_of (Text bytes) = text bytes.now
+said_of (Exact bytes) = exactly bytes.now
+
+abbrev pub member_of : Member → List ℕ × Said
+member_of m = (m.name.now, said_of m.value)

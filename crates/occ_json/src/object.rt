@@ -1,6 +1,6 @@
 //! An object on a line, for what is told of a source.
-ghost use Rattle.std.specs.Prelude.{◌≡◌, ◌++◌, ◌<◌, IfOk, OnOk};
-ghost use Rattle.occ_json.specs.Objects.{digit, exact_byte, exact, member_json, members_json, object_json, value_json};
+ghost use Rattle.std.specs.Prelude.{◌≡◌, ◌++◌, ◌<◌, IfOk, OnOk, map};
+ghost use Rattle.occ_json.specs.Objects.{digit, exact_byte, exact, member_json, member_of, members_json, object_json, said_json, said_of};
 
 use crate::values::{write_number, write_quoted};
 use std::alloc::{AllocError, Global};
@@ -60,7 +60,7 @@ fn write_exact(out: &mut Vec<u8>, bytes: &[u8]) -> Result<(), AllocError>
 }
 
 fn write_value(alloc: Global, out: &mut Vec<u8>, value: Value<'_>) -> Result<(), AllocError>
-    ensures { OnOk result (out.new.items ≡ out.old.items ++ value_json value.entry) }
+    ensures { OnOk result (out.new.items ≡ out.old.items ++ said_json (said_of value.entry)) }
 {
     match value {
         Value::Number(number) => write_number(alloc, out, number),
@@ -75,8 +75,9 @@ fn write_value(alloc: Global, out: &mut Vec<u8>, value: Value<'_>) -> Result<(),
 }
 
 /// A member, behind a comma.
+#[tactic(auto, unfolding(crate::specs::Objects::member_json))]
 fn write_member(alloc: Global, out: &mut Vec<u8>, member: &Member<'_>) -> Result<(), AllocError>
-    ensures { OnOk result (out.new.items ≡ out.old.items ++ member_json member.now) }
+    ensures { OnOk result (out.new.items ≡ out.old.items ++ member_json (member_of member.now)) }
 {
     out.extend_from_slice(b",\"")?;
     out.extend_from_slice(member.name.as_bytes())?;
@@ -89,7 +90,7 @@ fn write_members(
     out: &mut Vec<u8>,
     members: &[Member<'_>],
 ) -> Result<(), AllocError>
-    ensures { OnOk result (out.new.items ≡ out.old.items ++ members_json members.now) }
+    ensures { OnOk result (out.new.items ≡ out.old.items ++ members_json (map member_of members.now)) }
 {
     for member in members {
         write_member(alloc, out, member)?;
@@ -102,12 +103,13 @@ fn write_members(
 /// # Errors
 ///
 /// A refused growth.
+#[tactic(auto, unfolding(crate::specs::Objects::object_json))]
 pub fn object_line(
     alloc: Global,
     kind: &'static str,
     members: &[Member<'_>],
 ) -> Result<Vec<u8>, AllocError>
-    ensures { IfOk result (λ bytes. bytes.items ≡ object_json kind.entry.now members.now) }
+    ensures { IfOk result (λ bytes. bytes.items ≡ object_json kind.now (map member_of members.now)) }
 {
     let mut bytes = Vec::new(alloc);
     bytes.extend_from_slice(b"{\"kind\":\"")?;

@@ -4,3 +4,4 @@ pub mod Lines
 pub mod Troubles
 pub mod Explained
 pub mod Trying
+pub mod Looked
