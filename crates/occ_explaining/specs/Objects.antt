@@ -4,6 +4,7 @@ use Rattle.std.specs.Prelude.{Bool, List, None, Option, Some, Vec, [], codes, dr
 use Rattle.occ_explaining.specs.Explaining.{NumberAndLine, IsTold, refusal_in}
 use Rattle.occ_explaining.specs.declared.refusal_names.TheConstants.{NAMES}
 use Rattle.occ_explain.specs.Places.{line_numbered}
+use Rattle.occ_explain.specs.declared.explaining.Explanation.{Explanation}
 use Rattle.occ_json.specs.Objects.{number, text, exactly, object_json}
 use Rattle.occ_play.specs.declared.fault.PlayFault.{PlayFault}
 
@@ -42,6 +43,10 @@ refusal_json file n line column shown wrong hint = object_json (codes "refused")
     (codes "file", exactly file) ∷ (codes "line", number line) ∷ (codes "column", number column)
     ∷ (codes "end", number (end_of shown column)) ∷ (codes "number", number n) ∷ (codes "name", text (refusal_name n))
     ∷ (codes "text", text wrong) ∷ (codes "hint", text hint) ∷ [])
+
+-- of an explanation
+abbrev pub object_told : (file : List ℕ) → (n : ℕ) → Explanation → List ℕ
+object_told file n e = refusal_json file n e.line e.column e.source.now e.wrong.items e.hint.items
 
 -- such an object for each refusal of a text, and nothing for all else
 abbrev pub TellsObjectOf : (source file : List ℕ) → Option NumberAndLine → Option (List ℕ) → Type 0

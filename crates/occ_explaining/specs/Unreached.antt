@@ -3,18 +3,18 @@
 use Rattle.std.specs.Prelude.{Bool, List, [], codes, false, true, ℕ, ◌++◌, ◌+◌, ◌*◌, ◌∷◌, ◌≡◌}
 use Rattle.std.specs.Fmt.{decimal}
 use Rattle.occ_json.specs.Objects.{number, text, exactly, object_json}
-use Rattle.occ_reach.specs.Reach.{AreUnreached, Head}
+use Rattle.occ_reach.specs.Reach.{AreUnreached, FirstLine}
 use Rattle.occ_text.specs.Lines.{LinesOf}
 use Rattle.occ_text.specs.Words.{LogicalLine}
 
 -- in words, and as an object of JSON whose place is the word PROC
-abbrev pub told_line : (file : List ℕ) → (json : Bool) → Head → List ℕ
+abbrev pub told_line : (file : List ℕ) → (json : Bool) → FirstLine → List ℕ
 told_line file false h = codes "not checked: " ++ h.name ++ codes ", line " ++ decimal h.line ++ codes ": no call reaches it\n"
 told_line file true h = object_json (codes "unchecked") (
     (codes "file", exactly file) ∷ (codes "line", number h.line) ∷ (codes "column", number (2 * h.level + 1))
     ∷ (codes "end", number (2 * h.level + 1 + 4)) ∷ (codes "name", text h.name) ∷ (codes "text", text (codes "no call reaches it")) ∷ [])
 
-abbrev pub told_lines : (file : List ℕ) → (json : Bool) → List Head → List ℕ
+abbrev pub told_lines : (file : List ℕ) → (json : Bool) → List FirstLine → List ℕ
 told_lines file json [] = []
 told_lines file json (h ∷ hs) = told_line file json h ++ told_lines file json hs
 
@@ -22,6 +22,6 @@ told_lines file json (h ∷ hs) = told_line file json h ++ told_lines file json 
 pub record TellsUnreached (source file : List ℕ) (json : Bool) (told : List ℕ) : Type 0 where
   pub lines : List LogicalLine
   pub reads : LinesOf source lines
-  pub heads : List Head
+  pub heads : List FirstLine
   pub are : AreUnreached lines heads
   pub is : told ≡ told_lines file json heads

@@ -1,6 +1,6 @@
 //! A refusal as an object of JSON.
 ghost use Rattle.std.specs.Prelude.{◌≡◌, ◌≤◌, IfOk, drop, length, map};
-ghost use Rattle.occ_explaining.specs.Objects.{TellsObject, end_of, is_name_byte, name_length, refusal_json, refusal_name, refusal_name_in};
+ghost use Rattle.occ_explaining.specs.Objects.{TellsObject, end_of, is_name_byte, name_length, object_told, refusal_name, refusal_name_in};
 
 use crate::refusal_names::NAMES;
 use crate::refused::refusal_of;
@@ -71,9 +71,7 @@ fn object_of(
     number: u32,
     explanation: &Explanation<'_>,
 ) -> Result<Vec<u8>, AllocError>
-    ensures { IfOk result (λ text. text.items ≡ refusal_json file.now number
-        explanation.now.line explanation.now.column explanation.now.source.now
-        explanation.now.wrong.items explanation.now.hint.items) }
+    ensures { IfOk result (λ text. text.items ≡ object_told file.now number explanation.now) }
 {
     let (line, column) = (u64::from(explanation.line), explanation.column);
     let end = end_of(explanation.source, column);

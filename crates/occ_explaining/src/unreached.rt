@@ -2,7 +2,7 @@
 ghost use Rattle.std.specs.Prelude.{◌≡◌, ◌++◌, IfErr, IfOk, OnOk, map};
 ghost use Rattle.occ_explaining.specs.Unreached.{TellsUnreached, told_line, told_lines};
 ghost use Rattle.occ_play.specs.Playing.{RefusesText};
-ghost use Rattle.occ_reach.specs.Reach.{head_of};
+ghost use Rattle.occ_reach.specs.Reach.{unchecked_head};
 
 use crate::objects::member;
 use crate::reported::lines_of;
@@ -41,7 +41,7 @@ fn told_line(
     json: bool,
     proc: &Unchecked<'_>,
 ) -> Result<Vec<u8>, AllocError>
-    ensures { IfOk result (λ text. text.items ≡ told_line file.now json (head_of proc.now)) }
+    ensures { IfOk result (λ text. text.items ≡ told_line file.now json (unchecked_head proc.now)) }
 {
     if json {
         as_object(alloc, file, proc)
@@ -57,7 +57,7 @@ fn told_lines(
     json: bool,
     procs: &[Unchecked<'_>],
 ) -> Result<Vec<u8>, AllocError>
-    ensures { IfOk result (λ text. text.items ≡ told_lines file.now json (map head_of procs.now)) }
+    ensures { IfOk result (λ text. text.items ≡ told_lines file.now json (map unchecked_head procs.now)) }
 {
     let mut text = Vec::new(alloc);
     for proc in procs {

@@ -8,15 +8,15 @@ use Rattle.occ_json.specs.declared.object.Value.TheVariants.{Number, Text, Exact
 use Rattle.occ_json.specs.declared.object.Member.{Member}
 
 -- a hexadecimal digit
-abbrev pub digit : ℕ → ℕ
-digit n = if nat_lt n 10 then 48 + n else 87 + n
+abbrev pub hex_digit : ℕ → ℕ
+hex_digit n = if nat_lt n 10 then 48 + n else 87 + n
 
 -- a quote and a backslash stand behind a backslash, and a byte below 32 is `\u` and four digits
 abbrev pub exact_byte : ℕ → List ℕ
 exact_byte b =
     if b == 34 then codes "\\\"" else
     if b == 92 then codes "\\\\" else
-    if nat_lt b 32 then codes "\\u00" ++ digit (b / 16) ∷ digit (b % 16) ∷ [] else b ∷ []
+    if nat_lt b 32 then codes "\\u00" ++ hex_digit (b / 16) ∷ hex_digit (b % 16) ∷ [] else b ∷ []
 
 -- each byte of a text
 abbrev pub exact : List ℕ → List ℕ

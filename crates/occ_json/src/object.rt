@@ -1,6 +1,6 @@
 //! An object on a line, for what is told of a source.
 ghost use Rattle.std.specs.Prelude.{◌≡◌, ◌++◌, ◌<◌, IfOk, OnOk, map};
-ghost use Rattle.occ_json.specs.Objects.{digit, exact_byte, exact, member_json, member_of, members_json, object_json, said_json, said_of};
+ghost use Rattle.occ_json.specs.Objects.{hex_digit, exact_byte, exact, member_json, member_of, members_json, object_json, said_json, said_of};
 
 use crate::values::{write_number, write_quoted};
 use std::alloc::{AllocError, Global};
@@ -24,9 +24,9 @@ pub struct Member<'a> {
 }
 
 /// A hexadecimal digit.
-fn digit(value: u8) -> u8
+fn hex_digit(value: u8) -> u8
     requires { value < 16 }
-    ensures { result ≡ digit value }
+    ensures { result ≡ hex_digit value }
 {
     if value < 10 { b'0' + value } else { 87 + value }
 }
@@ -42,8 +42,8 @@ fn write_exact_byte(out: &mut Vec<u8>, byte: u8) -> Result<(), AllocError>
             b'u',
             b'0',
             b'0',
-            digit(byte / 16),
-            digit(byte % 16),
+            hex_digit(byte / 16),
+            hex_digit(byte % 16),
         ]),
         _ => out.extend_from_slice(&[byte]),
     }

@@ -1,47 +1,64 @@
 -- Which PROCs of a source the last one never reaches by calls. PROCs of one name count as one.
 -- Manual: procedures; scope. That what is never called is not looked at: (own).
-use Rattle.std.specs.Prelude.{Bool, List, None, Option, Some, [], false, if◌then◌else◌, true, ℕ, ◌++◌, ◌==◌, ◌∷◌, ◌≡◌}
-use Rattle.std.specs.List.{All}
-use Rattle.occ_text.specs.Words.{LogicalLine, logical_line}
-use Rattle.occ_reach.specs.Calls.{Name, begun, calls_in, or_else}
+use Rattle.std.specs.Prelude.{Bool, List, None, Option, Some, [], bytes_eq, if◌then◌else◌, true, ℕ, ⊤, ◌++◌, ◌==◌, ◌∷◌, ◌≡◌}
+use Rattle.std.specs.List.{list_any}
+use Rattle.occ_text.specs.Reading.{or_else}
+use Rattle.occ_text.specs.Words.{LogicalLine, Word, logical_line}
+use Rattle.occ_reach.specs.Calls.{Called, calls_in, proc_begun}
 use Rattle.occ_reach.specs.declared.unchecked.Unchecked.{Unchecked}
 
 -- the last PROC at the left margin
-abbrev pub main_of : List LogicalLine → Option Name
+abbrev pub top_begun : (level : ℕ) → List Word → Option Called
+top_begun level ws = if level == 0 then proc_begun ws else None
+
+abbrev pub main_of : List LogicalLine → Option Called
 main_of [] = None
-main_of (logical_line n l ws ∷ ls) = or_else (main_of ls) (if l == 0 then begun ws else None)
+main_of (logical_line n l ws ∷ ls) = or_else (main_of ls) (top_begun l ws)
 
--- a call that leads from outside of a set into it
-abbrev pub Enters : (Name → Bool) → Name × Name → Type 0
-Enters set call = (set call.0 ≡ false) × (set call.1 ≡ true)
+-- a set has the main PROC, where there is one
+abbrev pub HasMain : Option Called → (Called → Bool) → Type 0
+HasMain main set = (f : Called) → main ≡ Some f → set f ≡ true
 
--- A set of names that the last PROC is not in, and that no call enters.
-pub record IsShutOff (lines : List LogicalLine) (set : Name → Bool) : Type 0 where
-  pub main : (f : Name) → main_of lines ≡ Some f → set f ≡ false
-  pub calls : All (λ call. Enters set call → ⊥) (calls_in lines)
+-- with a PROC it has those that it calls
+abbrev pub IsClosed : (Called → Bool) → List (Called × Called) → Type 0
+IsClosed set [] = ⊤
+IsClosed set (call ∷ calls) = (set call.0 ≡ true → set call.1 ≡ true) × IsClosed set calls
+
+-- The PROCs that calls reach: the least set that has the main PROC and with a PROC those that it calls.
+pub record IsReach (main : Option Called) (calls : List (Called × Called)) (set : Called → Bool) : Type 0 where
+  pub main : HasMain main set
+  pub closed : IsClosed set calls
+  pub least : (other : Called → Bool) → HasMain main other → IsClosed other calls → (f : Called) → set f ≡ true → other f ≡ true
 
 -- the first line of a PROC: its number, its level and the name
-pub record Head : Type 0 where
+pub record FirstLine : Type 0 where
   pub line : ℕ
   pub level : ℕ
-  pub name : Name
+  pub name : Called
 
-abbrev pub head_in : (Name → Bool) → (n l : ℕ) → Option Name → List Head
-head_in set n l None = []
-head_in set n l (Some f) = if set f then record { line = n; level = l; name = f } ∷ [] else []
+-- where the name is not in a set
+abbrev pub first_beyond : (Called → Bool) → (n l : ℕ) → Option Called → List FirstLine
+first_beyond set n l None = []
+first_beyond set n l (Some f) = if set f then [] else record { line = n; level = l; name = f } ∷ []
 
--- those whose names are in a set
-abbrev pub heads_in : (Name → Bool) → List LogicalLine → List Head
-heads_in set [] = []
-heads_in set (logical_line n l ws ∷ ls) = head_in set n l (begun ws) ++ heads_in set ls
+abbrev pub head_beyond : (Called → Bool) → LogicalLine → List FirstLine
+head_beyond set (logical_line n l ws) = first_beyond set n l (proc_begun ws)
 
--- Those of the largest set that is shut off.
-pub record AreUnreached (lines : List LogicalLine) (heads : List Head) : Type 0 where
-  pub set : Name → Bool
-  pub shut : IsShutOff lines set
-  pub largest : (other : Name → Bool) → IsShutOff lines other → (f : Name) → other f ≡ true → set f ≡ true
-  pub are : heads ≡ heads_in set lines
+abbrev pub heads_beyond : (Called → Bool) → List LogicalLine → List FirstLine
+heads_beyond set [] = []
+heads_beyond set (l ∷ ls) = head_beyond set l ++ heads_beyond set ls
 
--- as the code has it
-abbrev pub head_of : Unchecked → Head
-head_of u = record { line = u.line; level = u.level; name = u.name.now }
+-- those of the PROCs that are not reached
+pub record AreUnreached (lines : List LogicalLine) (heads : List FirstLine) : Type 0 where
+  pub reached : Called → Bool
+  pub reach : IsReach (main_of lines) (calls_in lines) reached
+  pub are : heads ≡ heads_beyond reached lines
+
+-- ---- as the code has them
+
+abbrev pub unchecked_head : Unchecked → FirstLine
+unchecked_head u = record { line = u.line; level = u.level; name = u.name.now }
+
+-- whether a name is one of these
+abbrev pub among : List Called → Called → Bool
+among names f = list_any (bytes_eq f) names

@@ -1,7 +1,8 @@
 //! The calls of a source: in which PROC each stands, and which PROC it names.
-ghost use Rattle.std.specs.Prelude.{◌≡◌, ◌≤◌, ◌<◌, ◌+◌, [], IfOk, OnOk, All, length, map, option_map};
-ghost use Rattle.occ_text.specs.Words.{logical_line_of, logical_lines, words};
-ghost use Rattle.occ_reach.specs.Calls.{begun, called, calls_in, owner_of, pair_of};
+ghost use Rattle.std.specs.Prelude.{◌≡◌, ◌≤◌, ◌<◌, ◌++◌, IfOk, OnOk, ℕ, length, map, option_map};
+ghost use Rattle.occ_text.specs.Reading.{or_else};
+ghost use Rattle.occ_text.specs.Words.{logical_lines, words};
+ghost use Rattle.occ_reach.specs.Calls.{call_of, calls_in, deepest, named, owner_in, pair_of, proc_begun, proc_called};
 
 use occ_held::letters::Letters;
 use occ_text::{Key, Line, Sym, Token};
@@ -15,8 +16,8 @@ pub(crate) struct Call<'a> {
 }
 
 /// The PROC that a line begins.
-pub(crate) fn begun(line: &Line) -> Option<&Letters>
-    ensures { option_map (λ name. name.now) result ≡ begun (words line.now.words.items) }
+pub(crate) fn proc_begun(line: &Line) -> Option<&Letters>
+    ensures { named result ≡ proc_begun (words line.now.words.items) }
 {
     match line.words.as_slice() {
         [Token::Key(Key::Proc), Token::Name(name), ..] => Some(name),
@@ -25,8 +26,8 @@ pub(crate) fn begun(line: &Line) -> Option<&Letters>
 }
 
 /// The PROC that a line calls.
-fn called(line: &Line) -> Option<&Letters>
-    ensures { option_map (λ name. name.now) result ≡ called (words line.now.words.items) }
+fn proc_called(line: &Line) -> Option<&Letters>
+    ensures { named result ≡ proc_called (words line.now.words.items) }
 {
     match line.words.as_slice() {
         [Token::Name(name), Token::Sym(Sym::OpenParen), ..] => Some(name),
@@ -35,42 +36,79 @@ fn called(line: &Line) -> Option<&Letters>
 }
 
 /// The greatest level.
-fn deepest(lines: &[Line]) -> usize {
+fn deepest(mut lines: &[Line]) -> u32
+    ensures { result ≡ deepest (logical_lines lines.entry.now) }
+{
     let mut most = 0;
-    for line in lines {
-        most = most.max(line.level as usize);
+    while let [line, rest @ ..] = lines {
+        most = most.max(line.level);
+        lines = rest;
     }
     most
+}
+
+/// The PROC in which a line of this level stands.
+fn owner_at<'a>(owners: &[Option<&'a Letters>], level: usize) -> Option<&'a Letters>
+    requires { level < length owners.now }
+    ensures { named result ≡ owner_in owners.now level }
+{
+    owners[level]
+}
+
+/// The PROC that a line begins, or else the one that it stands in.
+fn begun_or<'a>(line: &'a Line, owner: Option<&'a Letters>) -> Option<&'a Letters>
+    ensures { named result ≡ or_else (proc_begun (words line.now.words.items)) (named owner.entry) }
+{
+    match proc_begun(line) {
+        Some(name) => Some(name),
+        None => owner,
+    }
+}
+
+/// Deeper lines stand in this PROC.
+fn set_below<'a>(owners: &mut [Option<&'a Letters>], level: usize, owner: Option<&'a Letters>)
+    requires { level < length owners.old }
+    ensures above { (k : ℕ) → k ≤ level → owner_in owners.new k ≡ owner_in owners.old k }
+    ensures below { (k : ℕ) → level < k → k < length owners.old
+        → owner_in owners.new k ≡ named owner.entry }
+{
+    for deeper in level + 1..owners.len() {
+        owners[deeper] = owner;
+    }
+}
+
+/// Adds a call, where a line has one and stands in a PROC.
+fn add_call<'a>(
+    calls: &mut Vec<Call<'a>>,
+    from: Option<&'a Letters>,
+    to: Option<&'a Letters>,
+) -> Result<(), AllocError>
+    ensures { OnOk result (map pair_of calls.new.items
+        ≡ map pair_of calls.old.items ++ call_of (named from.entry) (named to.entry)) }
+{
+    if let (Some(from), Some(to)) = (from, to) {
+        calls.push(Call { from, to })?;
+    }
+    Ok(())
 }
 
 /// All calls, in the order of the source.
 pub(crate) fn calls_of<'a>(
     alloc: Global,
-    lines: &'a [Line],
-) -> Result<Vec<Call<'a>>, AllocError> {
+    mut lines: &'a [Line],
+) -> Result<Vec<Call<'a>>, AllocError>
+    ensures { IfOk result (λ calls.
+        map pair_of calls.items ≡ calls_in (logical_lines lines.entry.now)) }
+{
     // in which PROC a next line would stand, by its level
-    let mut owners: Vec<Option<&'a Letters>> = vec![in alloc; None; deepest(lines) + 1]?;
+    let mut owners: Vec<Option<&'a Letters>> = vec![in alloc; None; deepest(lines) as usize + 1]?;
     let mut calls = Vec::new(alloc);
-    for line in lines {
+    while let [line, rest @ ..] = lines {
         let level = line.level as usize;
         let owner = owner_at(owners.as_slice(), level);
-        if let (Some(from), Some(to)) = (owner, called(line)) {
-            calls.push(Call { from, to })?;
-        }
-        let under = match begun(line) {
-            Some(name) => Some(name),
-            None => owner,
-        };
-        for deeper in level + 1..owners.len() {
-            owners[deeper] = under;
-        }
+        add_call(&mut calls, owner, proc_called(line))?;
+        set_below(owners.as_mut_slice(), level, begun_or(line, owner));
+        lines = rest;
     }
     Ok(calls)
-}
-
-fn owner_at<'a>(owners: &[Option<&'a Letters>], level: usize) -> Option<&'a Letters> {
-    match owners.get(level) {
-        Some(owner) => *owner,
-        None => None,
-    }
 }

@@ -1,6 +1,13 @@
 //! The PROCs that nothing reaches.
-use crate::calls::{begun, calls_of};
+ghost use Rattle.std.specs.Prelude.{◌≡◌, ◌++◌, IfOk, OnOk, map};
+ghost use Rattle.occ_text.specs.Reading.{or_else};
+ghost use Rattle.occ_text.specs.Words.{logical_line_of, logical_lines, words};
+ghost use Rattle.occ_reach.specs.Calls.{named};
+ghost use Rattle.occ_reach.specs.Reach.{AreUnreached, among, head_beyond, heads_beyond, main_of, top_begun, unchecked_head};
+
+use crate::calls::{calls_of, proc_begun};
 use crate::reached::{is_reached, reached_from};
+use indexmap::IndexSet;
 use occ_held::letters::Letters;
 use occ_text::Line;
 use std::alloc::{AllocError, Global};
@@ -16,17 +23,62 @@ pub struct Unchecked<'a> {
     pub name: &'a Letters,
 }
 
+/// The PROC that a line at the left margin begins, or else this one.
+fn top_or<'a>(line: &'a Line, main: Option<&'a Letters>) -> Option<&'a Letters>
+    ensures { named result ≡ or_else (top_begun line.now.level (words line.now.words.items))
+        (named main.entry) }
+{
+    match proc_begun(line) {
+        Some(name) if line.level == 0 => Some(name),
+        _ => main,
+    }
+}
+
 /// The last PROC at the left margin.
-fn main_of(lines: &[Line]) -> Option<&Letters> {
+fn main_of(mut lines: &[Line]) -> Option<&Letters>
+    ensures { named result ≡ main_of (logical_lines lines.entry.now) }
+{
     let mut main = None;
-    for line in lines {
-        if line.level == 0
-            && let Some(name) = begun(line)
-        {
-            main = Some(name);
-        }
+    while let [line, rest @ ..] = lines {
+        main = top_or(line, main);
+        lines = rest;
     }
     main
+}
+
+/// Adds the first line of a PROC that is not reached.
+fn add_head<'a>(
+    found: &mut Vec<Unchecked<'a>>,
+    reached: &IndexSet<Letters>,
+    line: &'a Line,
+) -> Result<(), AllocError>
+    ensures { OnOk result (map unchecked_head found.new.items ≡ map unchecked_head found.old.items
+        ++ head_beyond (among reached.now.keys) (logical_line_of line.now)) }
+{
+    if let Some(name) = proc_begun(line)
+        && !is_reached(reached, name)
+    {
+        let (line, level) = (line.number, line.level);
+        found.push(Unchecked { line, level, name })?;
+    }
+    Ok(())
+}
+
+/// The first lines of the PROCs that are not reached.
+fn heads_beyond<'a>(
+    alloc: Global,
+    reached: &IndexSet<Letters>,
+    mut lines: &'a [Line],
+) -> Result<Vec<Unchecked<'a>>, AllocError>
+    ensures { IfOk result (λ found. map unchecked_head found.items
+        ≡ heads_beyond (among reached.now.keys) (logical_lines lines.entry.now)) }
+{
+    let mut found = Vec::new(alloc);
+    while let [line, rest @ ..] = lines {
+        add_head(&mut found, reached, line)?;
+        lines = rest;
+    }
+    Ok(found)
 }
 
 /// The PROCs of an accepted source, by its logical lines, that the last one never reaches by calls, in their order. PROCs of one name
@@ -38,20 +90,11 @@ fn main_of(lines: &[Line]) -> Option<&Letters> {
 pub fn unchecked_procs<'a>(
     alloc: Global,
     lines: &'a [Line],
-) -> Result<Vec<Unchecked<'a>>, AllocError> {
+) -> Result<Vec<Unchecked<'a>>, AllocError>
+    ensures { IfOk result (λ found.
+        AreUnreached (logical_lines lines.now) (map unchecked_head found.items)) }
+{
     let calls = calls_of(alloc, lines)?;
     let reached = reached_from(alloc, main_of(lines), calls)?;
-    let mut found = Vec::new(alloc);
-    for line in lines {
-        if let Some(name) = begun(line)
-            && !is_reached(&reached, name)
-        {
-            found.push(Unchecked {
-                line: line.number,
-                level: line.level,
-                name,
-            })?;
-        }
-    }
-    Ok(found)
+    heads_beyond(alloc, &reached, lines)
 }
