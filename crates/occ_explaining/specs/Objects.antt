@@ -1,7 +1,7 @@
 -- A refusal as an object of JSON.
 -- Manual: nothing; this is (own).
 use Rattle.std.specs.Prelude.{Bool, List, None, Option, Some, Vec, [], codes, drop, if◌then◌else◌, length, map, max, min, nat_le, option_map, suc, ℕ, ◌&&◌, ◌-◌, ◌+◌, ◌==◌, ◌||◌, ◌∷◌, ◌≡◌}
-use Rattle.occ_explaining.specs.Explaining.{NumberAndLine, IsTold, refusal_in}
+use Rattle.occ_explaining.specs.Explaining.{NumberAndLine, IsToldAs, refusal_in}
 use Rattle.occ_explaining.specs.declared.refusal_names.TheConstants.{NAMES}
 use Rattle.occ_explain.specs.Places.{line_numbered}
 use Rattle.occ_explain.specs.declared.explaining.Explanation.{Explanation}
@@ -22,8 +22,8 @@ name_length (b ∷ bytes) = if is_name_byte b then suc (name_length bytes) else 
 
 -- The column behind the word that stands in a column: behind its letters, or behind the one byte that is none; in the column itself,
 -- where that is behind the last byte of the line.
-abbrev pub end_of : (line : List ℕ) → (column : ℕ) → ℕ
-end_of line column =
+abbrev pub word_end : (line : List ℕ) → (column : ℕ) → ℕ
+word_end line column =
     let before = min (column - 1) (length line) in
     before + max (name_length (drop before line)) (min (length line - before) 1) + 1
 
@@ -41,7 +41,7 @@ refusal_name n = refusal_name_in (map (λ row. (row.0, row.1.now)) NAMES) n
 abbrev pub refusal_json : (file : List ℕ) → (n line column : ℕ) → (shown wrong hint : List ℕ) → List ℕ
 refusal_json file n line column shown wrong hint = object_json (codes "refused") (
     (codes "file", exactly file) ∷ (codes "line", number line) ∷ (codes "column", number column)
-    ∷ (codes "end", number (end_of shown column)) ∷ (codes "number", number n) ∷ (codes "name", text (refusal_name n))
+    ∷ (codes "end", number (word_end shown column)) ∷ (codes "number", number n) ∷ (codes "name", text (refusal_name n))
     ∷ (codes "text", text wrong) ∷ (codes "hint", text hint) ∷ [])
 
 -- of an explanation
@@ -53,7 +53,7 @@ abbrev pub TellsObjectOf : (source file : List ℕ) → Option NumberAndLine →
 TellsObjectOf source file None told = told ≡ None
 TellsObjectOf source file (Some refusal) None = Some refusal ≡ None
 TellsObjectOf source file (Some refusal) (Some bytes) =
-    IsTold (λ line column wrong hint. refusal_json file refusal.0 line column (line_numbered source line) wrong hint) source refusal.0 refusal.1 bytes
+    IsToldAs (λ line column wrong hint. refusal_json file refusal.0 line column (line_numbered source line) wrong hint) source refusal.0 refusal.1 bytes
 
 abbrev pub TellsObject : {A : Type 0} → (source file : List ℕ) → PlayFault → Option (Vec ℕ A) → Type 0
 TellsObject source file fault told = TellsObjectOf source file (refusal_in fault) (option_map (λ v. v.items) told)

@@ -1,6 +1,6 @@
 //! A refusal as an object of JSON.
 ghost use Rattle.std.specs.Prelude.{◌≡◌, ◌≤◌, IfOk, drop, length, map};
-ghost use Rattle.occ_explaining.specs.Objects.{TellsObject, end_of, is_name_byte, name_length, object_told, refusal_name, refusal_name_in};
+ghost use Rattle.occ_explaining.specs.Objects.{TellsObject, word_end, is_name_byte, name_length, object_told, refusal_name, refusal_name_in};
 
 use crate::refusal_names::NAMES;
 use crate::refused::refusal_of;
@@ -33,8 +33,8 @@ fn name_length(mut bytes: &[u8]) -> usize
 }
 
 /// The column behind the word that stands in a column of a line.
-fn end_of(line: &[u8], column: usize) -> usize
-    ensures { result ≡ end_of line.now column }
+fn word_end(line: &[u8], column: usize) -> usize
+    ensures { result ≡ word_end line.now column }
 {
     let before = column.saturating_sub(1).min(line.len());
     let rest = &line[before..];
@@ -74,7 +74,7 @@ fn object_of(
     ensures { IfOk result (λ text. text.items ≡ object_told file.now number explanation.now) }
 {
     let (line, column) = (u64::from(explanation.line), explanation.column);
-    let end = end_of(explanation.source, column);
+    let end = word_end(explanation.source, column);
     let members = [
         member("file", Value::Exact(file)),
         member("line", Value::Number(line)),

@@ -49,10 +49,10 @@ object_json kind ms = codes "{\"kind\":\"" ++ kind ++ codes "\"" ++ members_json
 
 -- ---- as the code has them
 
-abbrev pub said_of : Value → Said
-said_of (Number n) = number n
-said_of (Text bytes) = text bytes.now
-said_of (Exact bytes) = exactly bytes.now
+abbrev pub value_said : Value → Said
+value_said (Number n) = number n
+value_said (Text bytes) = text bytes.now
+value_said (Exact bytes) = exactly bytes.now
 
 abbrev pub member_of : Member → List ℕ × Said
-member_of m = (m.name.now, said_of m.value)
+member_of m = (m.name.now, value_said m.value)

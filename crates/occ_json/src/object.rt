@@ -1,6 +1,6 @@
 //! An object on a line, for what is told of a source.
 ghost use Rattle.std.specs.Prelude.{◌≡◌, ◌++◌, ◌<◌, IfOk, OnOk, map};
-ghost use Rattle.occ_json.specs.Objects.{hex_digit, exact_byte, exact, member_json, member_of, members_json, object_json, said_json, said_of};
+ghost use Rattle.occ_json.specs.Objects.{hex_digit, exact_byte, exact, member_json, member_of, members_json, object_json, said_json, value_said};
 
 use crate::values::{write_number, write_quoted};
 use std::alloc::{AllocError, Global};
@@ -60,7 +60,7 @@ fn write_exact(out: &mut Vec<u8>, bytes: &[u8]) -> Result<(), AllocError>
 }
 
 fn write_value(alloc: Global, out: &mut Vec<u8>, value: Value<'_>) -> Result<(), AllocError>
-    ensures { OnOk result (out.new.items ≡ out.old.items ++ said_json (said_of value.entry)) }
+    ensures { OnOk result (out.new.items ≡ out.old.items ++ said_json (value_said value.entry)) }
 {
     match value {
         Value::Number(number) => write_number(alloc, out, number),

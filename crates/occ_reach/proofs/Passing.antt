@@ -2,8 +2,8 @@
 use Rattle.std.proofs.Common.{◌≡◌, ◌∙◌, ◌⊎◌, sym, ap, subst, refl, ℕ, suc, ◌+◌, ◌<◌, ◌≤◌, List, [], ◌∷◌, ◌++◌, length, length-append, map, drop, get_or, Bool, true, false, arith}
 use Rattle.std.proofs.Math.Bool.{true≢false}
 use Rattle.std.proofs.Math.Seq.{drop-cons}
-use Rattle.occ_reach.specs.Calls.{Called, pair_of}
-use Rattle.occ_reach.specs.Reach.{IsClosed, among}
+use Rattle.occ_reach.specs.Calls.{Called, call_pair}
+use Rattle.occ_reach.specs.Reach.{KeepsCalls, among}
 use Rattle.occ_reach.specs.Passes.{AreClosed, AreWithin, IsPass}
 use Rattle.occ_reach.specs.declared.calls.Call.{Call}
 

@@ -1,6 +1,6 @@
 -- Passes one after the other.
 use Rattle.std.proofs.Common.{◌≡◌, ℕ, List, Option, Bool, true, length, map}
-use Rattle.occ_reach.specs.Calls.{Called, pair_of}
+use Rattle.occ_reach.specs.Calls.{Called, call_pair}
 use Rattle.occ_reach.specs.Reach.{HasMain, IsReach, among}
 use Rattle.occ_reach.specs.Passes.{AreClosed, AreWithin, Begins, IsPass}
 use Rattle.occ_reach.specs.declared.calls.Call.{Call}
@@ -29,7 +29,7 @@ next_round main all old new left others r p = record {
 }
 
 pub last_round : (main : Option Called) (all : List Call) (old new : List Called) (left others : List Call) → Round main all old left → IsPass left old new others → length others ≡ length left
-    → IsReach main (map pair_of all) (among new)
+    → IsReach main (map call_pair all) (among new)
 last_round main all old new left others r p e =
     let next = next_round main all old new left others r p in
     record {

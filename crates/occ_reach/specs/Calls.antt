@@ -1,6 +1,6 @@
 -- The calls of a source, by its logical lines.
 -- Manual: procedures; scope.
-use Rattle.std.specs.Prelude.{List, None, Option, Some, [], get_or, if◌then◌else◌, max, nat_lt, option_map, ℕ, ◌++◌, ◌∷◌}
+use Rattle.std.specs.Prelude.{List, None, Option, Some, [], get_or, if◌then◌else◌, length, map, max, nat_lt, option_map, ℕ, ◌++◌, ◌<◌, ◌≤◌, ◌∷◌, ◌≡◌}
 use Rattle.std.specs.Borrow.{Bor}
 use Rattle.occ_text.specs.Reading.{or_else}
 use Rattle.occ_text.specs.Words.{LogicalLine, Word, key, logical_line, mark, name}
@@ -53,5 +53,15 @@ named name = option_map (λ f. f.now) name
 abbrev pub owner_in : List (Option (Bor Called)) → ℕ → Option Called
 owner_in owners level = named (get_or owners level None)
 
-abbrev pub pair_of : Call → Called × Called
-pair_of c = (c.from.now, c.to.now)
+-- deeper lines alone stand in another PROC
+abbrev pub SetsBelow : (level : ℕ) → (old new : List (Option (Bor Called))) → Option (Bor Called) → Type 0
+SetsBelow level old new owner =
+    ((k : ℕ) → k ≤ level → owner_in new k ≡ owner_in old k)
+    × ((k : ℕ) → level < k → k < length old → owner_in new k ≡ named owner)
+
+abbrev pub call_pair : Call → Called × Called
+call_pair c = (c.from.now, c.to.now)
+
+-- a call more, where a line has one and stands in a PROC
+abbrev pub AddsCall : (old new : List Call) → (from to : Option (Bor Called)) → Type 0
+AddsCall old new from to = map call_pair new ≡ map call_pair old ++ call_of (named from) (named to)

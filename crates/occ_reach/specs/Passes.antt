@@ -1,8 +1,9 @@
 -- Passes through calls; private contracts alone cite this.
 -- Manual: nothing; this is (own).
-use Rattle.std.specs.Prelude.{Bool, List, Option, length, map, true, ℕ, ◌≡◌, ◌≤◌}
-use Rattle.occ_reach.specs.Calls.{Called, pair_of}
-use Rattle.occ_reach.specs.Reach.{HasMain, IsClosed, among}
+use Rattle.std.specs.Prelude.{Bool, List, Option, length, map, true, ℕ, ◌≡◌, ◌≤◌, ◌⊎◌}
+use Rattle.std.specs.Borrow.{Bor}
+use Rattle.occ_reach.specs.Calls.{Called, named, call_pair}
+use Rattle.occ_reach.specs.Reach.{HasMain, IsReach, KeepsCalls, among}
 use Rattle.occ_reach.specs.declared.calls.Call.{Call}
 
 -- each of these names is in a set
@@ -10,7 +11,18 @@ abbrev pub AreWithin : List Called → (Called → Bool) → Type 0
 AreWithin names set = (f : Called) → among names f ≡ true → set f ≡ true
 
 abbrev pub AreClosed : (Called → Bool) → List Call → Type 0
-AreClosed set calls = IsClosed set (map pair_of calls)
+AreClosed set calls = KeepsCalls set (map call_pair calls)
+
+-- one name more
+abbrev pub AddsName : (old new : List Called) → Called → Type 0
+AddsName old new name =
+    (among new name ≡ true)
+    × ((f : Called) → among old f ≡ true → among new f ≡ true)
+    × ((f : Called) → among new f ≡ true → (among old f ≡ true) ⊎ (f ≡ name))
+
+-- the names that calls reach
+abbrev pub Reaches : Option (Bor Called) → List Call → List Called → Type 0
+Reaches main calls names = IsReach (named main) (map call_pair calls) (among names)
 
 -- the main PROC alone
 pub record Begins (main : Option Called) (names : List Called) : Type 0 where

@@ -1,34 +1,34 @@
 -- Which PROCs of a source the last one never reaches by calls. PROCs of one name count as one.
 -- Manual: procedures; scope. That what is never called is not looked at: (own).
-use Rattle.std.specs.Prelude.{Bool, List, None, Option, Some, [], bytes_eq, if◌then◌else◌, true, ℕ, ⊤, ◌++◌, ◌==◌, ◌∷◌, ◌≡◌}
+use Rattle.std.specs.Prelude.{Bool, List, None, Option, Some, [], bytes_eq, if◌then◌else◌, map, true, ℕ, ⊤, ◌++◌, ◌==◌, ◌∷◌, ◌≡◌}
 use Rattle.std.specs.List.{list_any}
 use Rattle.occ_text.specs.Reading.{or_else}
-use Rattle.occ_text.specs.Words.{LogicalLine, Word, logical_line}
+use Rattle.occ_text.specs.Words.{LogicalLine, logical_line}
 use Rattle.occ_reach.specs.Calls.{Called, calls_in, proc_begun}
 use Rattle.occ_reach.specs.declared.unchecked.Unchecked.{Unchecked}
 
 -- the last PROC at the left margin
-abbrev pub top_begun : (level : ℕ) → List Word → Option Called
-top_begun level ws = if level == 0 then proc_begun ws else None
+abbrev pub top_of : LogicalLine → Option Called
+top_of (logical_line n level ws) = if level == 0 then proc_begun ws else None
 
-abbrev pub main_of : List LogicalLine → Option Called
-main_of [] = None
-main_of (logical_line n l ws ∷ ls) = or_else (main_of ls) (top_begun l ws)
+abbrev pub last_proc : List LogicalLine → Option Called
+last_proc [] = None
+last_proc (l ∷ ls) = or_else (last_proc ls) (top_of l)
 
 -- a set has the main PROC, where there is one
 abbrev pub HasMain : Option Called → (Called → Bool) → Type 0
 HasMain main set = (f : Called) → main ≡ Some f → set f ≡ true
 
 -- with a PROC it has those that it calls
-abbrev pub IsClosed : (Called → Bool) → List (Called × Called) → Type 0
-IsClosed set [] = ⊤
-IsClosed set (call ∷ calls) = (set call.0 ≡ true → set call.1 ≡ true) × IsClosed set calls
+abbrev pub KeepsCalls : (Called → Bool) → List (Called × Called) → Type 0
+KeepsCalls set [] = ⊤
+KeepsCalls set (call ∷ calls) = (set call.0 ≡ true → set call.1 ≡ true) × KeepsCalls set calls
 
 -- The PROCs that calls reach: the least set that has the main PROC and with a PROC those that it calls.
 pub record IsReach (main : Option Called) (calls : List (Called × Called)) (set : Called → Bool) : Type 0 where
   pub main : HasMain main set
-  pub closed : IsClosed set calls
-  pub least : (other : Called → Bool) → HasMain main other → IsClosed other calls → (f : Called) → set f ≡ true → other f ≡ true
+  pub closed : KeepsCalls set calls
+  pub least : (other : Called → Bool) → HasMain main other → KeepsCalls other calls → (f : Called) → set f ≡ true → other f ≡ true
 
 -- the first line of a PROC: its number, its level and the name
 pub record FirstLine : Type 0 where
@@ -51,7 +51,7 @@ heads_beyond set (l ∷ ls) = head_beyond set l ++ heads_beyond set ls
 -- those of the PROCs that are not reached
 pub record AreUnreached (lines : List LogicalLine) (heads : List FirstLine) : Type 0 where
   pub reached : Called → Bool
-  pub reach : IsReach (main_of lines) (calls_in lines) reached
+  pub reach : IsReach (last_proc lines) (calls_in lines) reached
   pub are : heads ≡ heads_beyond reached lines
 
 -- ---- as the code has them
@@ -62,3 +62,7 @@ unchecked_head u = record { line = u.line; level = u.level; name = u.name.now }
 -- whether a name is one of these
 abbrev pub among : List Called → Called → Bool
 among names f = list_any (bytes_eq f) names
+
+-- the first lines of these PROCs are found, behind others
+abbrev pub FindsBehind : (names : List Called) → List LogicalLine → (old new : List Unchecked) → Type 0
+FindsBehind names lines old new = map unchecked_head new ≡ map unchecked_head old ++ heads_beyond (among names) lines

@@ -1,8 +1,8 @@
 //! The calls of a source: in which PROC each stands, and which PROC it names.
-ghost use Rattle.std.specs.Prelude.{◌≡◌, ◌≤◌, ◌<◌, ◌++◌, IfOk, OnOk, ℕ, length, map, option_map};
+ghost use Rattle.std.specs.Prelude.{◌≡◌, ◌<◌, IfOk, OnOk, length, map};
 ghost use Rattle.occ_text.specs.Reading.{or_else};
 ghost use Rattle.occ_text.specs.Words.{logical_lines, words};
-ghost use Rattle.occ_reach.specs.Calls.{call_of, calls_in, deepest, named, owner_in, pair_of, proc_begun, proc_called};
+ghost use Rattle.occ_reach.specs.Calls.{AddsCall, SetsBelow, calls_in, deepest, named, owner_in, call_pair, proc_begun, proc_called};
 
 use occ_held::letters::Letters;
 use occ_text::{Key, Line, Sym, Token};
@@ -68,9 +68,7 @@ fn begun_or<'a>(line: &'a Line, owner: Option<&'a Letters>) -> Option<&'a Letter
 /// Deeper lines stand in this PROC.
 fn set_below<'a>(owners: &mut [Option<&'a Letters>], level: usize, owner: Option<&'a Letters>)
     requires { level < length owners.old }
-    ensures above { (k : ℕ) → k ≤ level → owner_in owners.new k ≡ owner_in owners.old k }
-    ensures below { (k : ℕ) → level < k → k < length owners.old
-        → owner_in owners.new k ≡ named owner.entry }
+    ensures { SetsBelow level owners.old owners.new owner.entry }
 {
     for deeper in level + 1..owners.len() {
         owners[deeper] = owner;
@@ -83,8 +81,7 @@ fn add_call<'a>(
     from: Option<&'a Letters>,
     to: Option<&'a Letters>,
 ) -> Result<(), AllocError>
-    ensures { OnOk result (map pair_of calls.new.items
-        ≡ map pair_of calls.old.items ++ call_of (named from.entry) (named to.entry)) }
+    ensures { OnOk result (AddsCall calls.old.items calls.new.items from.entry to.entry) }
 {
     if let (Some(from), Some(to)) = (from, to) {
         calls.push(Call { from, to })?;
@@ -98,7 +95,7 @@ pub(crate) fn calls_of<'a>(
     mut lines: &'a [Line],
 ) -> Result<Vec<Call<'a>>, AllocError>
     ensures { IfOk result (λ calls.
-        map pair_of calls.items ≡ calls_in (logical_lines lines.entry.now)) }
+        map call_pair calls.items ≡ calls_in (logical_lines lines.entry.now)) }
 {
     // in which PROC a next line would stand, by its level
     let mut owners: Vec<Option<&'a Letters>> = vec![in alloc; None; deepest(lines) as usize + 1]?;

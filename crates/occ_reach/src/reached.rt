@@ -1,8 +1,8 @@
 //! The PROCs that calls reach, by their names.
-ghost use Rattle.std.specs.Prelude.{◌≡◌, ◌⊎◌, IfOk, OnOk, List, true, map, ℕ};
-ghost use Rattle.occ_reach.specs.Calls.{named, pair_of};
-ghost use Rattle.occ_reach.specs.Reach.{IsReach, among};
-ghost use Rattle.occ_reach.specs.Passes.{IsPass, Begins};
+ghost use Rattle.std.specs.Prelude.{◌≡◌, IfOk, OnOk};
+ghost use Rattle.occ_reach.specs.Calls.{named};
+ghost use Rattle.occ_reach.specs.Passes.{AddsName, Begins, IsPass, Reaches};
+ghost use Rattle.occ_reach.specs.Reach.{among};
 
 use crate::calls::Call;
 use indexmap::IndexSet;
@@ -18,11 +18,7 @@ pub(crate) fn is_reached(reached: &IndexSet<Letters>, name: &Letters) -> bool
 
 /// Adds a name to those that are reached.
 fn reach(reached: &mut IndexSet<Letters>, name: &Letters) -> Result<(), AllocError>
-    ensures has { OnOk result (among reached.new.keys name.now ≡ true) }
-    ensures keeps { OnOk result ((x : List ℕ) → among reached.old.keys x ≡ true
-        → among reached.new.keys x ≡ true) }
-    ensures only { OnOk result ((x : List ℕ) → among reached.new.keys x ≡ true
-        → (among reached.old.keys x ≡ true) ⊎ (x ≡ name.now)) }
+    ensures { OnOk result (AddsName reached.old.keys reached.new.keys name.now) }
 {
     reached.insert(name.copy()?)?;
     Ok(())
@@ -69,8 +65,7 @@ pub(crate) fn reached_from(
     main: Option<&Letters>,
     calls: Vec<Call<'_>>,
 ) -> Result<IndexSet<Letters>, AllocError>
-    ensures { IfOk result (λ reached.
-        IsReach (named main.entry) (map pair_of calls.entry.items) (among reached.keys)) }
+    ensures { IfOk result (λ reached. Reaches main.entry calls.entry.items reached.keys) }
 {
     let mut reached = set_of(alloc, main)?;
     let mut left = calls;

@@ -1,9 +1,9 @@
 //! The PROCs that nothing reaches.
-ghost use Rattle.std.specs.Prelude.{◌≡◌, ◌++◌, IfOk, OnOk, map};
+ghost use Rattle.std.specs.Prelude.{[], ◌≡◌, ◌∷◌, IfOk, OnOk, map};
 ghost use Rattle.occ_text.specs.Reading.{or_else};
-ghost use Rattle.occ_text.specs.Words.{logical_line_of, logical_lines, words};
+ghost use Rattle.occ_text.specs.Words.{logical_line_of, logical_lines};
 ghost use Rattle.occ_reach.specs.Calls.{named};
-ghost use Rattle.occ_reach.specs.Reach.{AreUnreached, among, head_beyond, heads_beyond, main_of, top_begun, unchecked_head};
+ghost use Rattle.occ_reach.specs.Reach.{AreUnreached, FindsBehind, last_proc, top_of, unchecked_head};
 
 use crate::calls::{calls_of, proc_begun};
 use crate::reached::{is_reached, reached_from};
@@ -25,8 +25,7 @@ pub struct Unchecked<'a> {
 
 /// The PROC that a line at the left margin begins, or else this one.
 fn top_or<'a>(line: &'a Line, main: Option<&'a Letters>) -> Option<&'a Letters>
-    ensures { named result ≡ or_else (top_begun line.now.level (words line.now.words.items))
-        (named main.entry) }
+    ensures { named result ≡ or_else (top_of (logical_line_of line.now)) (named main.entry) }
 {
     match proc_begun(line) {
         Some(name) if line.level == 0 => Some(name),
@@ -35,8 +34,8 @@ fn top_or<'a>(line: &'a Line, main: Option<&'a Letters>) -> Option<&'a Letters>
 }
 
 /// The last PROC at the left margin.
-fn main_of(mut lines: &[Line]) -> Option<&Letters>
-    ensures { named result ≡ main_of (logical_lines lines.entry.now) }
+fn last_proc(mut lines: &[Line]) -> Option<&Letters>
+    ensures { named result ≡ last_proc (logical_lines lines.entry.now) }
 {
     let mut main = None;
     while let [line, rest @ ..] = lines {
@@ -52,8 +51,8 @@ fn add_head<'a>(
     reached: &IndexSet<Letters>,
     line: &'a Line,
 ) -> Result<(), AllocError>
-    ensures { OnOk result (map unchecked_head found.new.items ≡ map unchecked_head found.old.items
-        ++ head_beyond (among reached.now.keys) (logical_line_of line.now)) }
+    ensures { OnOk result (FindsBehind reached.now.keys (logical_line_of line.now ∷ [])
+        found.old.items found.new.items) }
 {
     if let Some(name) = proc_begun(line)
         && !is_reached(reached, name)
@@ -70,8 +69,8 @@ fn heads_beyond<'a>(
     reached: &IndexSet<Letters>,
     mut lines: &'a [Line],
 ) -> Result<Vec<Unchecked<'a>>, AllocError>
-    ensures { IfOk result (λ found. map unchecked_head found.items
-        ≡ heads_beyond (among reached.now.keys) (logical_lines lines.entry.now)) }
+    ensures { IfOk result (λ found.
+        FindsBehind reached.now.keys (logical_lines lines.entry.now) [] found.items) }
 {
     let mut found = Vec::new(alloc);
     while let [line, rest @ ..] = lines {
@@ -95,6 +94,6 @@ pub fn unchecked_procs<'a>(
         AreUnreached (logical_lines lines.now) (map unchecked_head found.items)) }
 {
     let calls = calls_of(alloc, lines)?;
-    let reached = reached_from(alloc, main_of(lines), calls)?;
+    let reached = reached_from(alloc, last_proc(lines), calls)?;
     heads_beyond(alloc, &reached, lines)
 }
