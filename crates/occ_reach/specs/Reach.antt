@@ -1,10 +1,11 @@
 -- Which PROCs of a source the last one never reaches by calls. PROCs of one name count as one.
 -- Manual: procedures; scope. That what is never called is not looked at: (own).
 use Rattle.std.specs.Prelude.{Bool, List, None, Option, Some, [], bytes_eq, if◌then◌else◌, map, true, ℕ, ⊤, ◌++◌, ◌==◌, ◌∷◌, ◌≡◌}
+use Rattle.std.specs.Borrow.{Bor}
 use Rattle.std.specs.List.{list_any}
 use Rattle.occ_text.specs.Reading.{or_else}
 use Rattle.occ_text.specs.Words.{LogicalLine, logical_line}
-use Rattle.occ_reach.specs.Calls.{Called, calls_in, proc_begun}
+use Rattle.occ_reach.specs.Calls.{Called, calls_in, named, proc_begun}
 use Rattle.occ_reach.specs.declared.unchecked.Unchecked.{Unchecked}
 
 -- the last PROC at the left margin
@@ -55,6 +56,9 @@ pub record AreUnreached (lines : List LogicalLine) (heads : List FirstLine) : Ty
   pub are : heads ≡ heads_beyond reached lines
 
 -- ---- as the code has them
+
+abbrev pub top_or : LogicalLine → Option (Bor Called) → Option Called
+top_or l other = or_else (top_of l) (named other)
 
 abbrev pub unchecked_head : Unchecked → FirstLine
 unchecked_head u = record { line = u.line; level = u.level; name = u.name.now }

@@ -1,9 +1,8 @@
 //! The PROCs that nothing reaches.
 ghost use Rattle.std.specs.Prelude.{[], ◌≡◌, ◌∷◌, IfOk, OnOk, map};
-ghost use Rattle.occ_text.specs.Reading.{or_else};
 ghost use Rattle.occ_text.specs.Words.{logical_line_of, logical_lines};
 ghost use Rattle.occ_reach.specs.Calls.{named};
-ghost use Rattle.occ_reach.specs.Reach.{AreUnreached, FindsBehind, last_proc, top_of, unchecked_head};
+ghost use Rattle.occ_reach.specs.Reach.{AreUnreached, FindsBehind, last_proc, top_or, unchecked_head};
 
 use crate::calls::{calls_of, proc_begun};
 use crate::reached::{is_reached, reached_from};
@@ -25,7 +24,7 @@ pub struct Unchecked<'a> {
 
 /// The PROC that a line at the left margin begins, or else this one.
 fn top_or<'a>(line: &'a Line, main: Option<&'a Letters>) -> Option<&'a Letters>
-    ensures { named result ≡ or_else (top_of (logical_line_of line.now)) (named main.entry) }
+    ensures { named result ≡ top_or (logical_line_of line.now) main.entry }
 {
     match proc_begun(line) {
         Some(name) if line.level == 0 => Some(name),
@@ -47,18 +46,18 @@ fn last_proc(mut lines: &[Line]) -> Option<&Letters>
 
 /// Adds the first line of a PROC that is not reached.
 fn add_head<'a>(
-    found: &mut Vec<Unchecked<'a>>,
-    reached: &IndexSet<Letters>,
+    out: &mut Vec<Unchecked<'a>>,
+    names: &IndexSet<Letters>,
     line: &'a Line,
 ) -> Result<(), AllocError>
-    ensures { OnOk result (FindsBehind reached.now.keys (logical_line_of line.now ∷ [])
-        found.old.items found.new.items) }
+    ensures { OnOk result (FindsBehind names.now.keys (logical_line_of line.now ∷ [])
+        out.old.items out.new.items) }
 {
     if let Some(name) = proc_begun(line)
-        && !is_reached(reached, name)
+        && !is_reached(names, name)
     {
         let (line, level) = (line.number, line.level);
-        found.push(Unchecked { line, level, name })?;
+        out.push(Unchecked { line, level, name })?;
     }
     Ok(())
 }
