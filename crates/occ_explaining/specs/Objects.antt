@@ -1,24 +1,20 @@
 -- A refusal as an object of JSON.
 -- Manual: nothing; this is (own).
-use Rattle.std.specs.Prelude.{Bool, List, None, Option, Some, Vec, [], codes, drop, if◌then◌else◌, length, map, max, min, nat_le, option_map, suc, ℕ, ◌&&◌, ◌-◌, ◌+◌, ◌==◌, ◌||◌, ◌∷◌, ◌≡◌}
+use Rattle.std.specs.Prelude.{List, None, Option, Some, Vec, [], codes, drop, if◌then◌else◌, length, map, max, min, option_map, suc, ℕ, ◌-◌, ◌+◌, ◌==◌, ◌∷◌, ◌≡◌}
 use Rattle.occ_explaining.specs.Explaining.{NumberAndLine, IsToldAs, refusal_in}
 use Rattle.occ_explaining.specs.declared.refusal_names.TheConstants.{NAMES}
 use Rattle.occ_explain.specs.Places.{line_numbered}
 use Rattle.occ_explain.specs.declared.explaining.Explanation.{Explanation}
 use Rattle.occ_json.specs.Objects.{number, text, exactly, object_json}
 use Rattle.occ_play.specs.declared.fault.PlayFault.{PlayFault}
+use Rattle.occ_text.specs.Spelling.{is_name_part}
 
 -- ---- a word
 
--- a letter, a digit or a dot
-abbrev pub is_name_byte : ℕ → Bool
-is_name_byte b =
-    (nat_le 48 b && nat_le b 57) || (nat_le 65 b && nat_le b 90) || (nat_le 97 b && nat_le b 122) || b == 46
-
--- how many of these a text begins with
+-- how many letters, digits and dots a text begins with
 abbrev pub name_length : List ℕ → ℕ
 name_length [] = 0
-name_length (b ∷ bytes) = if is_name_byte b then suc (name_length bytes) else 0
+name_length (b ∷ bytes) = if is_name_part b then suc (name_length bytes) else 0
 
 -- The column behind the word that stands in a column: behind its letters, or behind the one byte that is none; in the column itself,
 -- where that is behind the last byte of the line.

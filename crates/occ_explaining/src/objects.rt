@@ -1,6 +1,7 @@
 //! A refusal as an object of JSON.
 ghost use Rattle.std.specs.Prelude.{◌≡◌, ◌≤◌, IfOk, drop, length, map};
-ghost use Rattle.occ_explaining.specs.Objects.{TellsObject, word_end, is_name_byte, name_length, object_told, refusal_name, refusal_name_in};
+ghost use Rattle.occ_text.specs.Spelling.{is_name_part};
+ghost use Rattle.occ_explaining.specs.Objects.{TellsObject, word_end, name_length, object_told, refusal_name, refusal_name_in};
 
 use crate::refusal_names::NAMES;
 use crate::refused::refusal_of;
@@ -10,8 +11,8 @@ use occ_play::PlayFault;
 use std::alloc::{AllocError, Global};
 
 /// Whether a name may have this byte.
-fn is_name_byte(byte: u8) -> bool
-    ensures { result ≡ is_name_byte byte }
+fn is_name_part(byte: u8) -> bool
+    ensures { result ≡ is_name_part byte }
 {
     byte.is_ascii_alphanumeric() || byte == b'.'
 }
@@ -23,7 +24,7 @@ fn name_length(mut bytes: &[u8]) -> usize
 {
     let mut count = 0;
     while let [byte, rest @ ..] = bytes {
-        if !is_name_byte(*byte) {
+        if !is_name_part(*byte) {
             break;
         }
         count += 1;

@@ -104,7 +104,7 @@ pub(crate) fn calls_of<'a>(
         let level = line.level as usize;
         let owner = owner_at(owners.as_slice(), level);
         add_call(&mut calls, owner, proc_called(line))?;
-        set_below(owners.as_mut_slice(), level, begun_or(line, owner));
+        set_below(&mut owners, level, begun_or(line, owner));
         lines = rest;
     }
     Ok(calls)
