@@ -1,6 +1,6 @@
 -- Each run of the source is that of some choices.
 use Rattle.std.proofs.Common.{◌≡◌, ◌∙◌, refl, sym, ap, subst, Bool, true, false, IsTrue, ℕ, zero, suc, ◌+◌, ◌<◌, ◌≤◌, ◌^◌, ◌⊎◌, inl, inr, List, [], ◌∷◌, ◌++◌, Option, Some, None, length, arith, append-nil, append_assoc, length-append}
-use Rattle.std.specs.Prelude.{All, slice_get}
+use Rattle.std.specs.Prelude.{All, slice_get, ◌-◌}
 use Rattle.std.proofs.Math.Nat.{mod-eq_of_lt}
 use Rattle.std.proofs.lemmas.Option.{slice_get_within}
 use Rattle.std.proofs.lemmas.Bool.{cases_lt}
@@ -229,6 +229,15 @@ module _ (d : Declared) (p : Program) (procs : List Numbered) (protocol : d.prot
 
 -- ---- the whole run
 
+-- as many turns as there are events, and some to spare
+abbrev with_spare : List Event → ℕ → ℕ
+with_spare [] spare = spare
+with_spare (e ∷ es) spare = suc (with_spare es spare)
+
+spared : (es : List Event) (spare : ℕ) → with_spare es spare ≡ length es + spare
+spared [] spare = omega arith
+spared (e ∷ es) spare = let same = spared es spare in omega (arith, same)
+
 module _ (u : UnfoldedProgram) (p : Program) (quantum : ℕ) (kb : List ℕ) (w : IsWellFormed u) (lawful : Lawful u) (from : IsCompiledFrom u quantum p) (bytes : AreBytes kb) where
   abbrev pub Followed_to : ℕ → Net → Type 0
   Followed_to k net = AllFollowed u p quantum kb w lawful from bytes k net
@@ -254,22 +263,29 @@ module _ (u : UnfoldedProgram) (p : Program) (quantum : ℕ) (kb : List ℕ) (w 
   abbrev run_of : (k : ℕ) (net : Net) → Followed_to k net → Followed u kb quantum p.errors net
   run_of k net x = followed_by u p quantum kb w lawful from bytes k net x
 
-  along : {now last : System} {es : List Event} → Run p.errors quantum now es last → (cs : List Choice) (net : Net) (x : Followed_to (length es) net) → x.now ≡ now → Replays p kb cs net → (before : List System) → Accompanies u p quantum kb cs net x.events before x.now → length cs ≡ length x.events → IsOfChoices u p quantum kb (x.events ++ es) last
-  along no_turn cs net x q replays before a many =
-      record { choices = cs; net = net; replays = replays; one = record { follows = run_of 0 net x; before = before; accompanies = a }; same = sym (append-nil x.events); here = q; as_many = many ∙ ap length (sym (append-nil x.events)) }
-  along {last = last} (goes {n = n} {x = met} {b = between} {c = after} {es = es} turn meets rest) cs net x q replays before a many =
+  along : {now last : System} {es : List Event} → Run p.errors quantum now es last → (spare : ℕ) (cs : List Choice) (net : Net) (x : Followed_to (with_spare es spare) net) → x.now ≡ now → Replays p kb cs net
+      → (before : List System) → Accompanies u p quantum kb cs net x.events before x.now → length cs ≡ length x.events → with_spare es spare + length x.events + 1 ≡ 2 ^ 64 → IsOfChoices u p quantum kb (x.events ++ es) last
+  along no_turn spare cs net x q replays before a many exact =
+      record { choices = cs; net = net; replays = replays; one = record { follows = run_of spare net x; before = before; accompanies = a }; same = sym (append-nil x.events); here = q; as_many = many ∙ ap length (sym (append-nil x.events)) }
+  along {last = last} (goes {n = n} {x = met} {b = between} {c = after} {es = es} turn meets rest) spare cs net x q replays before a many exact =
       let its_turn : SystemTurn p.errors quantum n x.now between = subst (λ z. SystemTurn p.errors quantum n z between) (sym q) turn in
-      let t = takes (declared u) p (processes_of (meaning u)) (keyboard_protocol u w) quantum from.quanta (belongs u p quantum kb w lawful from bytes) (length es) n net x.now between after met x.follows its_turn meets in
-      let y : Followed_to (length es) t.next = further (length es) n net t.next x met between after its_turn meets t.comes in
-      let more = after_turn (event n met) a t.turn (goes its_turn meets no_turn) (is_moment u p quantum kb w lawful from bytes (length es) t.next y) in
-      let as_many : length (cs ++ t.choice ∷ []) ≡ length (x.events ++ event n met ∷ []) = length-append cs (t.choice ∷ []) ∙ ap (λ (i : ℕ). i + 1) many ∙ sym (length-append x.events (event n met ∷ [])) in
-      subst (λ l. IsOfChoices u p quantum kb l last) (append_assoc x.events (event n met ∷ []) es) (along rest (cs ++ t.choice ∷ []) t.next y refl (replays_on replays t.ending t.turn) (before ++ x.now ∷ []) more as_many)
+      let t = takes (declared u) p (processes_of (meaning u)) (keyboard_protocol u w) quantum from.quanta (belongs u p quantum kb w lawful from bytes) (with_spare es spare) n net x.now between after met x.follows its_turn meets in
+      let y : Followed_to (with_spare es spare) t.next = further (with_spare es spare) n net t.next x met between after its_turn meets t.comes in
+      let one_more : length (x.events ++ event n met ∷ []) ≡ length x.events + 1 = length-append x.events (event n met ∷ []) in
+      let exactly : with_spare es spare + length (x.events ++ event n met ∷ []) + 1 ≡ 2 ^ 64 = omega (arith, exact, one_more) in
+      let more = after_turn (event n met) a t.turn (goes its_turn meets no_turn) (is_moment u p quantum kb w lawful from bytes (with_spare es spare) t.next y exactly) in
+      let as_many : length (cs ++ t.choice ∷ []) ≡ length (x.events ++ event n met ∷ []) = length-append cs (t.choice ∷ []) ∙ ap (λ (i : ℕ). i + 1) many ∙ sym one_more in
+      subst (λ l. IsOfChoices u p quantum kb l last) (append_assoc x.events (event n met ∷ []) es) (along rest spare (cs ++ t.choice ∷ []) t.next y refl (replays_on replays t.ending t.turn) (before ++ x.now ∷ []) more as_many exactly)
 
 pub runs_are_replays : RunsAreReplays
 runs_are_replays u p quantum kb events last w lawful from bytes few run =
-    let x = first_followed u p quantum kb w lawful from bytes (length events) few in
-    along u p quantum kb w lawful from bytes run [] (first_net p kb) x refl begins []
-    (at_start (is_moment u p quantum kb w lawful from bytes (length events) (first_net p kb) x)) refl
+    let spare : ℕ = 2 ^ 64 - 1 - length events in
+    let same = spared events spare in
+    let all : with_spare events spare + 0 + 1 ≡ 2 ^ 64 = omega (arith, few, same) in
+    let within : with_spare events spare < 2 ^ 64 = omega (arith, few, same) in
+    let x = first_followed u p quantum kb w lawful from bytes (with_spare events spare) within in
+    along u p quantum kb w lawful from bytes run spare [] (first_net p kb) x refl begins []
+    (at_start (is_moment u p quantum kb w lawful from bytes (with_spare events spare) (first_net p kb) x all)) refl all
 
 -- ---- what of all lists of choices is so of all runs
 

@@ -1,5 +1,5 @@
 -- What is alike for more turns is alike for fewer.
-use Rattle.std.proofs.Common.{ℕ, zero, suc, List, [], ◌∷◌}
+use Rattle.std.proofs.Common.{◌≡◌, subst, ℕ, zero, suc, ◌+◌, List, [], ◌∷◌, arith}
 use Rattle.occ_term.specs.TermTyping.{Declared}
 use Rattle.occ_term.specs.Selecting.{Enabled, SkipArm, InputArm}
 use Rattle.occ_term.specs.Steps.{Context, Left}
@@ -38,6 +38,16 @@ alike_less zero d body t r h = tt
 alike_less (suc k) d body t r h = λ s ag.
     let a = h s ag in
     record { after = a.after; rest = a.rest; store = a.store; stops = a.stops; turn = a.turn; agrees = a.agrees; same = stop_map d (Alike (suc k) d body) (Alike k d body) (alike_less k d body) a.after a.rest a.after.wait a.same }
+
+pub alike_at_most : (i k : ℕ) (d : Declared) (body : Body) (t : Task) (r : Left) → Alike (i + k) d body t r → Alike k d body t r
+alike_at_most zero k d body t r h = subst (λ n. Alike n d body t r) none h
+  where
+    none : 0 + k ≡ k
+    none = omega arith
+alike_at_most (suc i) k d body t r h = alike_at_most i k d body t r (alike_less (i + k) d body t r (subst (λ n. Alike n d body t r) one h))
+  where
+    one : suc i + k ≡ suc (i + k)
+    one = omega arith
 
 -- as many turns, or one less
 pub data Fewer : ℕ → ℕ → Type 0 where

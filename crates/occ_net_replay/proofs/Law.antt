@@ -1,7 +1,9 @@
 -- Each replay of the code of a program is followed by a run of the program.
 use Rattle.std.proofs.Common.{◌≡◌, ◌∙◌, refl, sym, ap, subst, IsTrue, ℕ, zero, suc, ◌+◌, ◌<◌, ◌^◌, List, [], ◌∷◌, ◌++◌, Some, None, length, map, arith, length-append}
+use Rattle.std.proofs.lemmas.List.{length-map}
 use Rattle.std.specs.Prelude.{slice_get, ◌-◌}
 use Rattle.std.proofs.Math.Bridge.{le_prop}
+use Rattle.std.proofs.Math.Nat.{ℕ_set}
 use mathlib.Core.Bool.{true≢false}
 use Rattle.occ_term.specs.declared.primitive.Primitive.TheVariants.{Byte}
 use Rattle.occ_term.specs.declared.protocol.Protocol.TheVariants.{Simple}
@@ -20,10 +22,11 @@ use Rattle.occ_machine.specs.declared.task.Wait.TheVariants.{Joins}
 use Rattle.occ_net_replay.specs.declared.choice.Choice.{Choice}
 use Rattle.occ_net_replay.specs.Following.{AreBytes, Followed, NotedNeverEnd, OneNeverForks, ReplaysAreRuns, ReadyTasksStop, or_limit, process_in}
 use Rattle.occ_net_replay.specs.Replay.{Net, HasTask, OneTurn, ending_of, may_go, Replays, begins, first_net, goes_on as replays_on}
-use Rattle.occ_net_replay.specs.Moments.{StandAlike, IsMoment, IsOneRun, Accompanies, OneFurther, OneRunForAll, ReplaysAreOneRun, RunsOfAll, at_start, after_turn, keyboard_in, main_process}
-use Rattle.occ_net_replay.proofs.Moments.{stand_alike}
+use Rattle.occ_net_replay.specs.Moments.{At, DoesAhead, StandAlike, IsMoment, IsOneRun, Accompanies, OneFurther, OneRunForAll, ReplaysAreOneRun, RunsOfAll, at_start, after_turn, keyboard_in, main_process}
+use Rattle.occ_net_replay.proofs.Moments.{goes_ahead, stand_alike}
 use Rattle.occ_net_replay.proofs.Beginning.{first_follows, ends_as}
 use Rattle.occ_net_replay.proofs.EndedRuns.{ended_clean}
+use Rattle.occ_net_replay.proofs.Fewer.{alike_at_most}
 use Rattle.occ_net_replay.proofs.Holding.{AgreesBut, agrees_all, Belongs, Stands, one_term}
 use Rattle.occ_net_replay.proofs.Runs.{listed, run_more, met_more, turns_more, on-append, FitAll, fit_append, fit_on}
 use Rattle.occ_net_replay.proofs.Settling.{Follows}
@@ -128,9 +131,23 @@ module _ (u : UnfoldedProgram) (p : Program) (quantum : ℕ) (kb : List ℕ) (w 
   shared : (cs : List Choice) (net : Net) → length cs < 2 ^ 64 → Replays p kb cs net → (f : Followed u kb quantum p.errors net) × SharesStore p net f.system
   shared cs net small r = let x = from_start cs net small r in (followed_by 0 net x, shares_store d p procs (keyboard_protocol u w) quantum belongs 0 net x.now x.follows)
 
-  pub is_moment : (k : ℕ) (net : Net) (x : AllFollowed k net) → IsMoment p net x.now
-  is_moment k net x =
+  -- the turns of the replay are those of the run
+  turns_counted : (k : ℕ) (net : Net) (x : AllFollowed k net) → length net.turns ≡ length x.events
+  turns_counted k net x = ap length (sym x.turns) ∙ length-map x.events process_in
+
+  -- as many turns as can be counted, and each number of turns below
+  ahead : (k : ℕ) (net : Net) (x : AllFollowed k net) → k + length x.events + 1 ≡ 2 ^ 64 → DoesAhead u p net x.now
+  ahead k net x exact n own next ps body t turns at g code there may few =
+      let counted = turns_counted k net x in
+      let all : k ≡ (k - turns) + turns = omega (arith, exact, counted, few) in
+      let place = subst (λ z. At n own ps (main_process z)) x.follows.is at in
+      alike_at_most (k - turns) turns d body t next
+      (subst (λ j. Alike j d body t next) all (goes_ahead d p procs k net.tasks x.follows.proc x.follows.store x.follows.state n own next ps body t place g code there may))
+
+  pub is_moment : (k : ℕ) (net : Net) (x : AllFollowed k net) → k + length x.events + 1 ≡ 2 ^ 64 → IsMoment u p net x.now
+  is_moment k net x exact =
       record {
+        ahead = ahead k net x exact;
         alike = subst (λ z. StandAlike net.tasks (main_process z)) (sym x.follows.is) (stand_alike d p procs k net.tasks x.follows.proc x.follows.store x.follows.state);
         shares = shares_store d p procs (keyboard_protocol u w) quantum belongs k net x.now x.follows;
         keyboard = ap keyboard_in x.follows.is;
@@ -138,23 +155,38 @@ module _ (u : UnfoldedProgram) (p : Program) (quantum : ℕ) (kb : List ℕ) (w 
         quiet = x.follows.quiet;
       }
 
-  accompanied : (cs : List Choice) (net : Net) (k : ℕ) (small : k + length cs < 2 ^ 64) (r : Replays p kb cs net)
-      → (before : List System) × Accompanies u p quantum kb cs net (all_followed cs net k small r).events before (all_followed cs net k small r).now
+  -- a turn for each choice
+  events_counted : (cs : List Choice) (net : Net) (k : ℕ) (small : k + length cs < 2 ^ 64) (r : Replays p kb cs net) → length (all_followed cs net k small r).events ≡ length cs
   unfolding all_followed
-  accompanied cs net k small begins =
-      ([], at_start (is_moment k (first_net p kb) (all_followed [] (first_net p kb) k small begins)))
-  accompanied cs net k small (replays_on {cs = ds} {c = c} {a = a} r e o) =
+  events_counted cs net k small begins = refl
+  events_counted cs net k small (replays_on {cs = ds} {c = c} {a = a} r e o) =
       let bound : suc k + length ds < 2 ^ 64 = for_one_more k ds c small in
       let before = all_followed ds a (suc k) bound r in
       let x = one_turn d p procs (keyboard_protocol u w) quantum from.quanta belongs k c a net before.now before.follows e o in
-      let y = accompanied ds a (suc k) bound r in
-      (y.0 ++ before.now ∷ [], after_turn (event o.number x.met) y.1 o (goes x.turn x.meets_at no_turn) (is_moment k net (all_followed cs net k small (replays_on r e o))))
+      length-append before.events (event o.number x.met ∷ []) ∙ ap (λ (n : ℕ). n + 1) (events_counted ds a (suc k) bound r) ∙ sym (length-append ds (c ∷ []))
 
-  abbrev one_run : (cs : List Choice) (net : Net) (k : ℕ) → k + length cs < 2 ^ 64 → Replays p kb cs net → IsOneRun u p quantum kb cs net
-  one_run cs net k small r = record { follows = followed_by k net (all_followed cs net k small r); before = (accompanied cs net k small r).0; accompanies = (accompanied cs net k small r).1 }
+  exactly : (cs : List Choice) (net : Net) (k : ℕ) (small : k + length cs < 2 ^ 64) (r : Replays p kb cs net) → k + length cs + 1 ≡ 2 ^ 64 → k + length (all_followed cs net k small r).events + 1 ≡ 2 ^ 64
+  exactly cs net k small r exact = subst (λ (n : ℕ). k + n + 1 ≡ 2 ^ 64) (sym (events_counted cs net k small r)) exact
 
-  first_run : (cs : List Choice) (net : Net) → length cs < 2 ^ 64 → Replays p kb cs net → IsOneRun u p quantum kb cs net
-  first_run cs net small r = let bound : 0 + length cs < 2 ^ 64 = omega (arith, small) in one_run cs net 0 bound r
+  -- the turn of the last choice is one of those that can be counted
+  one_earlier : (k : ℕ) (cs : List Choice) (c : Choice) → k + length (cs ++ c ∷ []) + 1 ≡ 2 ^ 64 → suc k + length cs + 1 ≡ 2 ^ 64
+  one_earlier k cs c exact = omega (arith, exact, length-append cs (c ∷ []))
+
+  accompanied : (cs : List Choice) (net : Net) (k : ℕ) (small : k + length cs < 2 ^ 64) (r : Replays p kb cs net) → k + length cs + 1 ≡ 2 ^ 64
+      → (before : List System) × Accompanies u p quantum kb cs net (all_followed cs net k small r).events before (all_followed cs net k small r).now
+  unfolding all_followed
+  accompanied cs net k small begins exact =
+      ([], at_start (is_moment k (first_net p kb) (all_followed [] (first_net p kb) k small begins) exact))
+  accompanied cs net k small (replays_on {cs = ds} {c = c} {a = a} r e o) exact =
+      let bound : suc k + length ds < 2 ^ 64 = for_one_more k ds c small in
+      let before = all_followed ds a (suc k) bound r in
+      let x = one_turn d p procs (keyboard_protocol u w) quantum from.quanta belongs k c a net before.now before.follows e o in
+      let y = accompanied ds a (suc k) bound r (one_earlier k ds c exact) in
+      let moment = is_moment k net (all_followed cs net k small (replays_on r e o)) (exactly cs net k small (replays_on r e o) exact) in
+      (y.0 ++ before.now ∷ [], after_turn (event o.number x.met) y.1 o (goes x.turn x.meets_at no_turn) moment)
+
+  abbrev one_run : (cs : List Choice) (net : Net) (k : ℕ) → k + length cs < 2 ^ 64 → k + length cs + 1 ≡ 2 ^ 64 → Replays p kb cs net → IsOneRun u p quantum kb cs net
+  one_run cs net k small exact r = record { follows = followed_by k net (all_followed cs net k small r); before = (accompanied cs net k small r exact).0; accompanies = (accompanied cs net k small r exact).1 }
 
   -- ---- a run for each replay: the turns that it may still take are all that can be counted
 
@@ -164,21 +196,26 @@ module _ (u : UnfoldedProgram) (p : Program) (quantum : ℕ) (kb : List ℕ) (w 
   room : (cs : List Choice) → length cs < 2 ^ 64 → left_over cs + length cs < 2 ^ 64
   room cs few = omega (arith, few)
 
+  all_room : (cs : List Choice) → length cs < 2 ^ 64 → left_over cs + length cs + 1 ≡ 2 ^ 64
+  all_room cs few = omega (arith, few)
+
   abbrev run_at : (cs : List Choice) (net : Net) → length cs < 2 ^ 64 → Replays p kb cs net → IsOneRun u p quantum kb cs net
-  run_at cs net few r = one_run cs net (left_over cs) (room cs few) r
+  run_at cs net few r = one_run cs net (left_over cs) (room cs few) (all_room cs few) r
 
   abbrev Further : {cs ds : List Choice} {a b : Net} → IsOneRun u p quantum kb cs a → IsOneRun u p quantum kb ds b → Type 0
   Further f g = OneFurther u p quantum kb f g
 
-  next_run : (cs : List Choice) (c : Choice) (a b : Net) (k : ℕ) (s : suc k + length cs < 2 ^ 64) (t : k + length (cs ++ c ∷ []) < 2 ^ 64) (r : Replays p kb cs a) (g : ending_of p.errors a ≡ None) (o : OneTurn p c a b)
-      → Further (one_run cs a (suc k) s r) (one_run (cs ++ c ∷ []) b k t (replays_on r g o))
+  next_run : (cs : List Choice) (c : Choice) (a b : Net) (k : ℕ) (s : suc k + length cs < 2 ^ 64) (x : suc k + length cs + 1 ≡ 2 ^ 64) (t : k + length (cs ++ c ∷ []) < 2 ^ 64) (y : k + length (cs ++ c ∷ []) + 1 ≡ 2 ^ 64)
+      (r : Replays p kb cs a) (g : ending_of p.errors a ≡ None) (o : OneTurn p c a b) → Further (one_run cs a (suc k) s x r) (one_run (cs ++ c ∷ []) b k t y (replays_on r g o))
   unfolding all_followed accompanied
-  next_run cs c a b k s t r g o =
+  next_run cs c a b k s x t y r g o =
       let bound : suc k + length cs < 2 ^ 64 = for_one_more k cs c t in
+      let exact : suc k + length cs + 1 ≡ 2 ^ 64 = one_earlier k cs c y in
       let before = all_followed cs a (suc k) bound r in
-      let x = one_turn d p procs (keyboard_protocol u w) quantum from.quanta belongs k c a b before.now before.follows g o in
-      subst (λ z. Further (one_run cs a (suc k) z r) (one_run (cs ++ c ∷ []) b k t (replays_on r g o))) (le_prop bound s)
-      (record { event = event o.number x.met; events = refl; systems = refl; turn = goes x.turn x.meets_at no_turn })
+      let z = one_turn d p procs (keyboard_protocol u w) quantum from.quanta belongs k c a b before.now before.follows g o in
+      subst (λ i. Further (one_run cs a (suc k) i x r) (one_run (cs ++ c ∷ []) b k t y (replays_on r g o))) (le_prop bound s)
+      (subst (λ i. Further (one_run cs a (suc k) bound i r) (one_run (cs ++ c ∷ []) b k t y (replays_on r g o))) (ℕ_set (suc k + length cs + 1) (2 ^ 64) exact x)
+      (record { event = event o.number z.met; events = refl; systems = refl; turn = goes z.turn z.meets_at no_turn }))
 
   one_less : (cs : List Choice) (c : Choice) → length (cs ++ c ∷ []) < 2 ^ 64 → left_over cs ≡ suc (left_over (cs ++ c ∷ []))
   one_less cs c more = omega (arith, more, length-append cs (c ∷ []))
@@ -186,8 +223,8 @@ module _ (u : UnfoldedProgram) (p : Program) (quantum : ℕ) (kb : List ℕ) (w 
   further : (cs : List Choice) (c : Choice) (a b : Net) (few : length cs < 2 ^ 64) (more : length (cs ++ c ∷ []) < 2 ^ 64) (r : Replays p kb cs a) (g : ending_of p.errors a ≡ None) (o : OneTurn p c a b)
       → Further (run_at cs a few r) (run_at (cs ++ c ∷ []) b more (replays_on r g o))
   further cs c a b few more r g o =
-      subst (λ j. (s : j + length cs < 2 ^ 64) → Further (one_run cs a j s r) (run_at (cs ++ c ∷ []) b more (replays_on r g o))) (sym (one_less cs c more))
-      (λ s. next_run cs c a b (left_over (cs ++ c ∷ [])) s (room (cs ++ c ∷ []) more) r g o) (room cs few)
+      subst (λ j. (s : j + length cs < 2 ^ 64) (x : j + length cs + 1 ≡ 2 ^ 64) → Further (one_run cs a j s x r) (run_at (cs ++ c ∷ []) b more (replays_on r g o))) (sym (one_less cs c more))
+      (λ s x. next_run cs c a b (left_over (cs ++ c ∷ [])) s x (room (cs ++ c ∷ []) more) (all_room (cs ++ c ∷ []) more) r g o) (room cs few) (all_room cs few)
 
   runs_of_all : RunsOfAll u p quantum kb
   runs_of_all = record { run_of = run_at; further = further }
@@ -253,7 +290,7 @@ pub replays_share_store : ReplaysShareStore
 replays_share_store u p quantum kb cs net w lawful from bytes small r = shared u p quantum kb w lawful from bytes cs net small r
 
 pub replays_are_one_run : ReplaysAreOneRun
-replays_are_one_run u p quantum kb cs net w lawful from bytes small r = first_run u p quantum kb w lawful from bytes cs net small r
+replays_are_one_run u p quantum kb cs net w lawful from bytes small r = run_at u p quantum kb w lawful from bytes cs net small r
 
 pub one_run_for_all : OneRunForAll
 one_run_for_all u p quantum kb w lawful from bytes = runs_of_all u p quantum kb w lawful from bytes

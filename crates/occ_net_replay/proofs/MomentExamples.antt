@@ -1,21 +1,28 @@
 -- Stops that are alike and stops that are not.
 use Rattle.std.specs.Prelude.{pos}
-use Rattle.std.proofs.Common.{◌≡◌, refl, sym, ap, Bool, true, false, ℕ, ◌⊎◌, inl, inr, ℤ, List, [], ◌∷◌, Option, None, arith}
+use Rattle.std.proofs.Common.{◌≡◌, ◌∙◌, ◌<◌, ◌+◌, ◌^◌, refl, sym, ap, subst, Bool, true, false, ℕ, zero, suc, ◌⊎◌, inl, inr, ℤ, List, [], ◌∷◌, Option, None, arith}
 use mathlib.Core.Bool.{true≢false}
 use Rattle.occ_term.specs.declared.fault.Fault.{Fault}
 use Rattle.occ_term.specs.declared.message.Message.{Message}
 use Rattle.occ_term.specs.Selecting.{Enabled, Setting}
-use Rattle.occ_term.specs.Steps.{Do, Offering, Awaiting, Choosing, Forking, Halted, Faulted, Done, Left, left, Taken, SkipTaken, Taking}
+use Rattle.occ_term.specs.Steps.{Do, Offering, Awaiting, Choosing, Forking, Halted, Faulted, Done, Context, Left, left, Taken, SkipTaken, Taking, stop, take_in}
 use Rattle.occ_term.specs.Runs.{meets_skip}
 use Rattle.occ_term.specs.System.{Processes, arm_skips, change_here, no_processes, passes_skip, process}
 use Rattle.occ_term.specs.Terms.{Branches, Reception, Skip, Stop, Term}
-use Rattle.occ_machine.specs.SameStop.{indices_in, numbers_of}
+use Rattle.occ_term.specs.Turns.{Turn, more, none, single_turn, stops}
+use Rattle.occ_term.specs.UnfoldedProgram.{declared}
+use Rattle.occ_term.specs.Values.{Store}
+use Rattle.occ_term.proofs.OneResult.{one_turn}
+use Rattle.occ_machine.specs.Alike.{Alike}
+use Rattle.occ_machine.specs.SameStop.{SameStop, indices_in, numbers_of}
 use Rattle.occ_machine.specs.declared.task.Arm.{Arm}
+use Rattle.occ_machine.specs.declared.task.Task.{Task}
 use Rattle.occ_machine.specs.declared.task.Wait.{Wait}
 use Rattle.occ_machine.specs.declared.task.Wait.TheVariants as W
 use Rattle.occ_net_replay.specs.Examples.{whole_number}
-use Rattle.occ_net_replay.specs.MomentExamples.{AtStop, EitherArmRows, OtherStoreRows, SameStopRows, OtherStopRows, MissingRows, UnquietRows}
-use Rattle.occ_net_replay.specs.Moments.{At, Among, here, below, OnSameChannels, ProceedsBy, by_term, by_taking, message_taken, both_go, both_offer, both_await, both_choose, both_fork, both_fail}
+use Rattle.occ_net_replay.specs.MomentExamples.{AtStop, EitherArmRows, OtherArmRow, OtherStoreRows, SameStopRows, OtherStopRows, MissingRows, UnquietRows, has_taken_skip}
+use Rattle.occ_net_replay.specs.Moments.{At, Among, here, below, OnSameChannels, ProceedsBy, by_term, by_taking, message_taken, both_go, both_offer, both_await, both_choose, both_fork, both_fail, is_going}
+use Rattle.occ_net_replay.proofs.OneStop.{stopping_once}
 
 pub same_stop_rows : SameStopRows
 same_stop_rows = (both_go by_term, both_offer, both_await, both_choose (refl, (refl, tt)), both_fork refl, both_go by_taking, both_go by_taking)
@@ -118,8 +125,8 @@ unquiet_rows = (
 
 pub other_store_rows : OtherStoreRows
 other_store_rows = (
-  λ p b e h m. let x : pos 1 ≡ pos 2 = m.shares.frames 0 b _ 7 e refl (λ q. absurd cc) h (λ ns q. absurd cc) in let y = pos_same x in omega (arith, y),
-  λ p m. true≢false (sym (m.shares.same_offers 3)),
+  λ u p b e h m. let x : pos 1 ≡ pos 2 = m.shares.frames 0 b _ 7 e refl (λ q. absurd cc) h (λ ns q. absurd cc) in let y = pos_same x in omega (arith, y),
+  λ u p m. true≢false (sym (m.shares.same_offers 3)),
 )
   where
     pos_same : {a b : ℕ} → pos a ≡ pos b → a ≡ b
@@ -127,3 +134,20 @@ other_store_rows = (
 
 pub either_arm_rows : EitherArmRows
 either_arm_rows = (meets_skip refl (passes_skip (change_here (arm_skips 0 refl))), meets_skip refl (passes_skip (change_here (arm_skips 1 refl))))
+
+-- ---- the code ahead
+
+halts_next : {q : ℕ} {rest : Left} {s s' : Store} → Turn q (left (Taking [] (SkipTaken Stop)) []) s rest s' → rest ≡ left Halted []
+halts_next {q = zero} t = elim t [ ]
+halts_next {q = suc q} t = (one_turn _ _ _ _ _ _ _ t (stops (single_turn (more (take_in refl) refl none) stop refl) (inr refl))).0
+
+pub other_arm_row : OtherArmRow
+other_arm_row u p b s t code agrees turn ends m =
+    let few : 1 + 0 < 2 ^ 64 = omega arith in
+    let y = m.ahead 0 _ _ no_processes b has_taken_skip 1 here (is_going refl) code refl refl few s agrees in
+    let once : y.after ≡ t = stopping_once b has_taken_skip y.after t y.stops turn in
+    let x : SameStop (declared u) (Alike 0 (declared u) b) y.after y.rest W.Done = subst (SameStop (declared u) (Alike 0 (declared u) b) y.after y.rest) (ap (λ (z : Task). z.wait) once ∙ ends) y.same in
+    not_both (sym x.1 ∙ halts_next y.turn)
+  where
+    not_both : {k : List Context} → left Done k ≡ left Halted [] → ⊥
+    not_both e = let same : Done ≡ Halted = cc in absurd cc

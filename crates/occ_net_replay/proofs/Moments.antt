@@ -1,5 +1,7 @@
 -- Between two turns each process stands at the same stop in the network and in the system.
-use Rattle.std.proofs.Common.{◌≡◌, sym, ap, subst, IsTrue, ℕ, ◌⊎◌, inl, inr, List, [], ◌∷◌}
+use Rattle.std.proofs.Common.{◌≡◌, ◌∙◌, sym, ap, subst, IsTrue, ℕ, ◌⊎◌, inl, inr, List, [], ◌∷◌, Some}
+use Rattle.std.specs.Prelude.{slice_get}
+use mathlib.Core.Bool.{true≢false}
 use Rattle.occ_term.specs.Processes.{Numbered}
 use Rattle.occ_term.specs.Selecting.{Enabled, SkipArm, InputArm}
 use Rattle.occ_term.specs.Steps.{Context, Left}
@@ -14,11 +16,13 @@ use Rattle.occ_machine.specs.Machine.{Body}
 use Rattle.occ_machine.specs.declared.task.Arm.{Arm}
 use Rattle.occ_machine.specs.declared.task.Task.{Task}
 use Rattle.occ_machine.specs.declared.task.Wait.TheVariants as W
-use Rattle.occ_net_replay.specs.Replay.{Tasks, HasTask, is_done}
-use Rattle.occ_net_replay.specs.Moments.{At, OnSameChannels, StopsAlike, both_go, both_join, both_offer, both_await, both_choose, both_fork, both_halt, both_fail, both_done, StandAlike}
+use Rattle.occ_net_replay.specs.Replay.{Tasks, HasTask, is_done, may_go}
+use Rattle.occ_net_replay.specs.Moments.{At, GoesOnWith, is_going, is_joining, OnSameChannels, StopsAlike, both_go, both_join, both_offer, both_await, both_choose, both_fork, both_halt, both_fail, both_done, StandAlike}
 use Rattle.occ_net_replay.proofs.Holding.{Stands, may_turn, may_join, offers, awaits, chooses, waits, is_halted, has_failed, has_ended}
 use Rattle.occ_net_replay.proofs.Putting.{In, mine}
 use Rattle.occ_net_replay.proofs.States.{State}
+use Rattle.occ_net_replay.proofs.Tables.{task_once}
+use Rattle.occ_net_replay.proofs.TakingTurns.{Begins, begins_alone, begins_joined, begins_as}
 
 on_same : (d : Declared) (Go : Task → Left → Type 0) (t : Task) (k : List Context) (arms : List Arm) (es : List Enabled) → SameArms d Go t k arms es → OnSameChannels arms es
 on_same d Go t k [] [] h = tt
@@ -50,3 +54,23 @@ module _ (d : Declared) (p : Program) (procs : List Numbered) where
       by : (n : ℕ) (t : Task) → In n proc ⊎ (t.wait ≡ W.Done) → ((own : Left) × (ps : Processes) × At n own ps proc) ⊎ IsTrue (is_done t.wait)
       by n t (inl x) = inl (x.own, x.branches, x.at)
       by n t (inr e) = inr (ap is_done e)
+
+  -- ---- the same code ahead
+
+  ahead_of : (k : ℕ) (body : Body) (t : Task) (own next : Left) (ps : Processes) (but : Numbers) → Begins d p procs k body t own ps but → GoesOnWith own ps next → Alike k d body t next
+  ahead_of k body t own next ps but (begins_alone g a) (is_going h) = a
+  ahead_of k body t own next ps but (begins_alone g a) (is_joining e) = absurd (true≢false (sym g))
+  ahead_of k body t own next ps but (begins_joined e a) (is_going h) = absurd (true≢false (sym h))
+  ahead_of k body t own next ps but (begins_joined e a) (is_joining h) = a
+
+  pub goes_ahead : (k : ℕ) (tasks : Tasks) (proc : Process) (s : Store) → State d p procs k tasks proc s
+      → (n : ℕ) (own next : Left) (ps : Processes) (body : Body) (t : Task) → At n own ps proc → GoesOnWith own ps next → slice_get p.bodies n ≡ Some body → HasTask tasks n t → IsTrue (may_go t.wait) → Alike k d body t next
+  goes_ahead k tasks proc s st n own next ps body t at g code there may =
+      let y = (mine d p procs k s tasks at st.holds).0 in
+      let same : y.task ≡ t = task_once tasks n y.has_task there in
+      let same_body : y.belongs.body ≡ body = one_body (sym y.belongs.code ∙ code) in
+      let stands = subst (λ z. Stands d p procs k y.belongs.body z own ps y.but) same y.stands in
+      subst (λ b. Alike k d b t next) same_body (ahead_of k y.belongs.body t own next ps y.but (begins_as d p procs k y.belongs.body t own ps y.but stands may) g)
+    where
+      one_body : {a b : Body} → Some a ≡ Some b → a ≡ b
+      one_body e = cc

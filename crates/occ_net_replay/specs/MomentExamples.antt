@@ -11,8 +11,12 @@ use Rattle.occ_term.specs.Selecting.{Enabled, IndexTo, SkipArm}
 use Rattle.occ_term.specs.Steps.{Doing, Do, Offering, Awaiting, Choosing, Forking, Halted, Faulted, Done, MessageTaken, SkipTaken, Taking, left}
 use Rattle.occ_term.specs.System.{System, process, no_processes, system}
 use Rattle.occ_term.specs.Terms.{Skip, Stop, Plain, and_branch, no_branches}
+use Rattle.occ_term.specs.UnfoldedProgram.{UnfoldedProgram, declared}
+use Rattle.occ_term.specs.Values.{Store}
 use Rattle.occ_machine.specs.Compiled.{Program}
-use Rattle.occ_machine.specs.Machine.{Body}
+use Rattle.occ_machine.specs.Machine.{Body, Stopping}
+use Rattle.occ_machine.specs.SameStop.{Agrees}
+use Rattle.occ_machine.specs.declared.task.Task.{Task}
 use Rattle.occ_machine.specs.declared.task.Wait.{Wait}
 use Rattle.occ_machine.specs.declared.task.Wait.TheVariants as W
 use Rattle.occ_net_replay.specs.Examples.{after, arm, both_stand, branches, choosing, net_of, or_skip, task, variables, waiting, whole_number}
@@ -80,8 +84,8 @@ alone_at x v = system [] (process 0 (left x []) no_processes) (λ c. pos v) []
 -- alone.
 abbrev pub OtherStoreRows : Type 0
 OtherStoreRows =
-    ((p : Program) (b : Body) → slice_get p.bodies 0 ≡ Some b → IsTrue (is_held b.cells 7) → IsMoment p (net_of [] (after 0 2 (variables (7 ∷ []) (1 ∷ []) []) W.Ready ∷ [])) (alone_at (Do Skip) 2) → ⊥)
-    × ((p : Program) → IsMoment p (net_of [] (task 0 W.Ready ∷ [])) (alone_at (Offering 3 (whole_number 5)) 0) → ⊥)
+    ((u : UnfoldedProgram) (p : Program) (b : Body) → slice_get p.bodies 0 ≡ Some b → IsTrue (is_held b.cells 7) → IsMoment u p (net_of [] (after 0 2 (variables (7 ∷ []) (1 ∷ []) []) W.Ready ∷ [])) (alone_at (Do Skip) 2) → ⊥)
+    × ((u : UnfoldedProgram) (p : Program) → IsMoment u p (net_of [] (task 0 W.Ready ∷ [])) (alone_at (Offering 3 (whole_number 5)) 0) → ⊥)
 
 abbrev pub two_skips : List Enabled
 two_skips = SkipArm [] Stop ∷ SkipArm [] Skip ∷ []
@@ -91,3 +95,14 @@ abbrev pub EitherArmRows : Type 0
 EitherArmRows =
     MeetsAtMost on_fault.Halt 0 (alone_at (Choosing false two_skips) 0) None (alone_at (Taking [] (SkipTaken Stop)) 0)
     × MeetsAtMost on_fault.Halt 0 (alone_at (Choosing false two_skips) 0) None (alone_at (Taking [] (SkipTaken Skip)) 0)
+
+-- a task that has taken an arm with SKIP
+abbrev pub has_taken_skip : Task
+has_taken_skip = record { number = 0; turns = 2; pc = 6; frame = variables [] [] []; wait = W.Took 20 [] None }
+
+-- The code goes to the end of the process from the arm that the task has taken, and the process has taken an arm with STOP.
+abbrev pub OtherArmRow : Type 0
+OtherArmRow =
+    (u : UnfoldedProgram) (p : Program) (b : Body) (s : Store) (t : Task)
+    → slice_get p.bodies 0 ≡ Some b → Agrees (declared u) b.cells has_taken_skip.frame s → Stopping b has_taken_skip t → t.wait ≡ W.Done
+    → IsMoment u p (net_of [] (Some has_taken_skip ∷ [])) (alone_at (Taking [] (SkipTaken Stop)) 0) → ⊥

@@ -1,6 +1,6 @@
 -- The run that a replay is followed by, at every moment: between two turns each process stands at the same stop in both.
 -- Manual: nothing; this is (own).
-use Rattle.std.specs.Prelude.{Bool, IsTrue, List, None, Option, Some, [], false, length, nat_eq, ℕ, ⊤, ◌<◌, ◌^◌, ◌++◌, ◌||◌, ◌∷◌, ◌≡◌, ◌⊎◌}
+use Rattle.std.specs.Prelude.{Bool, IsTrue, List, None, Option, Some, [], false, length, nat_eq, slice_get, ℕ, ◌+◌, ⊤, ◌<◌, ◌^◌, ◌++◌, ◌||◌, ◌∷◌, ◌≡◌, ◌⊎◌}
 use Rattle.occ_term.specs.declared.fault.Fault.{Fault}
 use Rattle.occ_term.specs.declared.message.Message.{Message}
 use Rattle.occ_term.specs.Going.{IsGoing}
@@ -8,10 +8,12 @@ use Rattle.occ_term.specs.Runs.{Event, Run}
 use Rattle.occ_term.specs.Selecting.{Enabled, Setting, is_ready_on, waits_for}
 use Rattle.occ_term.specs.Steps.{Doing, Do, Again, Offering, Awaiting, Choosing, Taken, SkipTaken, MessageTaken, Taking, Forking, Halted, Faulted, Done, Loop, Context, Left, left}
 use Rattle.occ_term.specs.System.{Process, process, Processes, no_processes, and_process, System, system, start, AllEnded, noted_in}
-use Rattle.occ_term.specs.Terms.{Branches, Reception, Term}
-use Rattle.occ_term.specs.UnfoldedProgram.{UnfoldedProgram, IsWellFormed, Lawful, meaning}
+use Rattle.occ_term.specs.Terms.{Branches, Reception, Skip, Term}
+use Rattle.occ_term.specs.UnfoldedProgram.{UnfoldedProgram, IsWellFormed, Lawful, declared, meaning}
+use Rattle.occ_machine.specs.Alike.{Alike}
 use Rattle.occ_machine.specs.SameStop.{indices_in, numbers_of}
 use Rattle.occ_machine.specs.Compiled.{Program, IsCompiledFrom}
+use Rattle.occ_machine.specs.Machine.{Body}
 use Rattle.occ_machine.specs.declared.task.Arm.{Arm}
 use Rattle.occ_machine.specs.declared.task.Task.{Task}
 use Rattle.occ_machine.specs.declared.task.Wait.{Wait}
@@ -79,6 +81,21 @@ pub record StandAlike (tasks : Tasks) (main : Process) : Type 0 where
   pub each : (n : ℕ) (own : Left) (ps : Processes) → At n own ps main → (t : Task) × HasTask tasks n t × StopsAlike t.wait own ps
   pub others : (n : ℕ) (t : Task) → HasTask tasks n t → ((own : Left) × (ps : Processes) × At n own ps main) ⊎ IsTrue (is_done t.wait)
 
+-- ---- the same code ahead
+
+-- what a process goes on with in a turn: what is left of it, or what stands behind its branches once all of them have ended
+pub data GoesOnWith : Left → Processes → Left → Type 0 where
+  is_going : {x : Doing} {k : List Context} → IsGoing x → GoesOnWith (left x k) no_processes (left x k)
+  is_joining : {bs : Branches} {k : List Context} {ps : Processes} → AllEnded ps → GoesOnWith (left (Forking bs) k) ps (left (Do Skip) k)
+
+-- The code of a process that may go on does from here what the process goes on with, for all turns that can still be counted. So
+-- the arm that a run has taken is one that does what the code does.
+abbrev pub DoesAhead : UnfoldedProgram → Program → Net → System → Type 0
+DoesAhead u p net now =
+    (n : ℕ) (own next : Left) (ps : Processes) (body : Body) (t : Task) (turns : ℕ)
+    → At n own ps (main_process now) → GoesOnWith own ps next → slice_get p.bodies n ≡ Some body → HasTask net.tasks n t → IsTrue (may_go t.wait)
+    → turns + length net.turns < 2 ^ 64 → Alike turns (declared u) body t next
+
 -- ---- nothing is possible that needs no turn
 
 -- whether an end beside the processes always takes what is offered on a channel
@@ -100,10 +117,11 @@ pub record Quiet (net : Net) : Type 0 where
 
 -- ---- one run at every moment
 
--- The system has the replay's processes at its stops, its one store is what their frames share, the same bytes are left of the
--- keyboard and the same faults noted, and nothing is possible that needs no turn.
-pub record IsMoment (p : Program) (net : Net) (now : System) : Type 0 where
+-- The system has the replay's processes at its stops, with the same code ahead; its one store is what their frames share, the same
+-- bytes are left of the keyboard and the same faults noted, and nothing is possible that needs no turn.
+pub record IsMoment (u : UnfoldedProgram) (p : Program) (net : Net) (now : System) : Type 0 where
   pub alike : StandAlike net.tasks (main_process now)
+  pub ahead : DoesAhead u p net now
   pub shares : SharesStore p net now
   pub keyboard : keyboard_in now ≡ net.keyboard
   pub noted : noted_in now ≡ net.noted
@@ -112,9 +130,9 @@ pub record IsMoment (p : Program) (net : Net) (now : System) : Type 0 where
 -- The systems of a run beside a replay, one more than the choices: those before, and the one that it has come to. It begins with the
 -- source's start; each turn leads from the last system to the next one; and each system stands where the replay stands by then.
 pub data Accompanies (u : UnfoldedProgram) (p : Program) (quantum : ℕ) (keyboard : List ℕ) : List Choice → Net → List Event → (before : List System) → (now : System) → Type 0 where
-  at_start : IsMoment p (first_net p keyboard) (start (meaning u) keyboard) → Accompanies u p quantum keyboard [] (first_net p keyboard) [] [] (start (meaning u) keyboard)
+  at_start : IsMoment u p (first_net p keyboard) (start (meaning u) keyboard) → Accompanies u p quantum keyboard [] (first_net p keyboard) [] [] (start (meaning u) keyboard)
   after_turn : {cs : List Choice} {c : Choice} {a b : Net} {es : List Event} {before : List System} {now next : System} (e : Event)
-      → Accompanies u p quantum keyboard cs a es before now → OneTurn p c a b → Run p.errors quantum now (e ∷ []) next → IsMoment p b next
+      → Accompanies u p quantum keyboard cs a es before now → OneTurn p c a b → Run p.errors quantum now (e ∷ []) next → IsMoment u p b next
       → Accompanies u p quantum keyboard (cs ++ c ∷ []) b (es ++ e ∷ []) (before ++ now ∷ []) next
 
 -- The one run of a replay: it has the replay's turns, communications, faults and ending, and stands where the replay stands at every moment.
@@ -150,13 +168,9 @@ OneRunForAll =
     (u : UnfoldedProgram) (p : Program) (quantum : ℕ) (keyboard : List ℕ)
     → IsWellFormed u → Lawful u → IsCompiledFrom u quantum p → AreBytes keyboard → RunsOfAll u p quantum keyboard
 
--- what a process goes on with in a turn: its own part, or behind its branches, which have all ended
-pub data GoesOnWith : Left → Processes → Type 0 where
-  is_going : {x : Doing} {k : List Context} → IsGoing x → GoesOnWith (left x k) no_processes
-  is_joining : {bs : Branches} {k : List Context} {ps : Processes} → AllEnded ps → GoesOnWith (left (Forking bs) k) ps
-
 -- a process that the replay may select is one that goes on in the run
 abbrev pub ReadyGoOn : Type 0
 ReadyGoOn =
-    (p : Program) (net : Net) (now : System) (n : ℕ) (t : Task)
-    → IsMoment p net now → HasTask net.tasks n t → IsTrue (may_go t.wait) → (own : Left) × (ps : Processes) × At n own ps (main_process now) × GoesOnWith own ps
+    (u : UnfoldedProgram) (p : Program) (net : Net) (now : System) (n : ℕ) (t : Task)
+    → IsMoment u p net now → HasTask net.tasks n t → IsTrue (may_go t.wait)
+    → (own : Left) × (ps : Processes) × At n own ps (main_process now) × (next : Left) × GoesOnWith own ps next

@@ -7,7 +7,7 @@ ghost use Rattle.occ_net_replay.specs.StepConverse.{EndedStepRunsAreRuns, StepRu
 ghost use Rattle.occ_net_replay.specs.Choosing.{ChoicesTakeReadyArms, OffersReachChoices};
 ghost use Rattle.occ_net_replay.specs.Examples.{ChoiceRows, ClosedRows, EndingRows, ForkRows, LateOfferRows, ListenRows, MeetingRows, NotedRows, FirstWithPriority, SkipRows, StopRows, TurnRows};
 ghost use Rattle.occ_net_replay.specs.Following.{NotedNeverEnd, OneNeverForks, ReadyTasksStop, ReplaysAreRuns};
-ghost use Rattle.occ_net_replay.specs.MomentExamples.{EitherArmRows, MissingRows, OtherStopRows, OtherStoreRows, SameStopRows, UnquietRows};
+ghost use Rattle.occ_net_replay.specs.MomentExamples.{EitherArmRows, MissingRows, OtherArmRow, OtherStopRows, OtherStoreRows, SameStopRows, UnquietRows};
 ghost use Rattle.occ_net_replay.specs.Moments.{OneRunForAll, ReadyGoOn, ReplaysAreOneRun};
 ghost use Rattle.occ_net_replay.specs.OneReplay.{OneReplay};
 ghost use Rattle.occ_net_replay.specs.Sharing.{ReplaysShareStore};
@@ -56,7 +56,7 @@ pub fn small_choices()
 {}
 
 /// Stops that are alike and stops that are not, networks in which something is possible that needs no
-/// turn, and a store that is not the replay's.
+/// turn, a store that is not the replay's, and an arm that is not the one of the code.
 pub fn small_moments()
     ensures same { SameStopRows }
     ensures other { OtherStopRows }
@@ -64,6 +64,7 @@ pub fn small_moments()
     ensures unquiet { UnquietRows }
     ensures store { OtherStoreRows }
     ensures either { EitherArmRows }
+    ensures arm { OtherArmRow }
 {}
 
 /// A process that comes to a choice takes a ready arm at once, by the number of its turn.
