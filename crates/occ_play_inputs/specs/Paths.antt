@@ -1,6 +1,6 @@
 -- Which paths of the words may be one.
 -- Manual: nothing; this is (own).
-use Rattle.std.specs.Prelude.{List, None, Option, Some, codes, ℕ, ◌≡◌, ◌≢◌}
+use Rattle.std.specs.Prelude.{List, None, Option, Some, codes, ℕ, ◌≡◌, ◌≢◌, ◌⊎◌}
 use Rattle.std.specs.Borrow.{Bor}
 
 -- they do not both name one path
@@ -23,7 +23,6 @@ abbrev pub AreApart : (file choices written drawn traced turns : Option (Bor (Li
 AreApart file choices written drawn traced turns = AreTextsApart file choices written drawn traced × IsNoneOf turns file choices written drawn traced
 
 -- the path of the source is the one that was given, and none for a hyphen
-abbrev pub IsSourcePath : Option (Bor (List ℕ)) → Option (Bor (List ℕ)) → Type 0
-IsSourcePath None path = path ≡ None
-IsSourcePath (Some given) None = given.now ≡ codes "-"
-IsSourcePath (Some given) (Some path) = (given.now ≢ codes "-") × (path.now ≡ given.now)
+abbrev pub IsSourcePath : Option (List ℕ) → Option (List ℕ) → Type 0
+IsSourcePath given None = (given ≡ None) ⊎ (given ≡ Some (codes "-"))
+IsSourcePath given (Some path) = (given ≡ Some path) × (given ≢ Some (codes "-"))

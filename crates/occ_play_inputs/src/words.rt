@@ -168,7 +168,7 @@ fn read_by<'a>(command: &mut Command<'a>, words: &'a [&'a str]) -> Result<Words<
 
 /// The path of the source, where the words gave this one or none: a hyphen is standard input.
 fn file_of<'a>(given: Option<&'a str>) -> Option<&'a str>
-    ensures { IsSourcePath given.entry result }
+    ensures { IsSourcePath (option_copied given.entry) (option_copied result) }
 {
     match given {
         Some("-") => None,
