@@ -7,12 +7,19 @@ use Rattle.occ_reach.specs.Reach.{AreUnreached, FirstLine}
 use Rattle.occ_text.specs.Lines.{LinesOf}
 use Rattle.occ_text.specs.Words.{LogicalLine}
 
--- in words, and as an object of JSON whose place is the word PROC
-abbrev pub told_line : (file : List ℕ) → (json : Bool) → FirstLine → List ℕ
-told_line file false h = codes "not checked: " ++ h.name ++ codes ", line " ++ decimal h.line ++ codes ": no call reaches it\n"
-told_line file true h = object_json (codes "unchecked") (
+-- in words
+abbrev pub in_words : FirstLine → List ℕ
+in_words h = codes "not checked: " ++ h.name ++ (codes ", line " ++ decimal h.line ++ codes ": no call reaches it\n")
+
+-- as an object of JSON, whose place is the word PROC
+abbrev pub as_object : (file : List ℕ) → FirstLine → List ℕ
+as_object file h = object_json (codes "unchecked") (
     (codes "file", exactly file) ∷ (codes "line", number h.line) ∷ (codes "column", number (2 * h.level + 1))
     ∷ (codes "end", number (2 * h.level + 1 + 4)) ∷ (codes "name", text h.name) ∷ (codes "text", text (codes "no call reaches it")) ∷ [])
+
+abbrev pub told_line : (file : List ℕ) → (json : Bool) → FirstLine → List ℕ
+told_line file false h = in_words h
+told_line file true h = as_object file h
 
 abbrev pub told_lines : (file : List ℕ) → (json : Bool) → List FirstLine → List ℕ
 told_lines file json [] = []

@@ -1,6 +1,6 @@
 //! The PROCs that no call reaches, as they are told.
-ghost use Rattle.std.specs.Prelude.{◌≡◌, ◌++◌, IfErr, IfOk, OnOk, map};
-ghost use Rattle.occ_explaining.specs.Unreached.{TellsUnreached, told_line, told_lines};
+ghost use Rattle.std.specs.Prelude.{◌≡◌, IfErr, IfOk, map};
+ghost use Rattle.occ_explaining.specs.Unreached.{TellsUnreached, as_object, in_words, told_line, told_lines};
 ghost use Rattle.occ_play.specs.Playing.{RefusesText};
 ghost use Rattle.occ_reach.specs.Reach.{unchecked_head};
 
@@ -12,7 +12,9 @@ use occ_reach::{Unchecked, unchecked_procs};
 use std::alloc::{AllocError, Global};
 
 /// A PROC that no call reaches, in words.
-fn in_words(alloc: Global, proc: &Unchecked<'_>) -> Result<Vec<u8>, AllocError> {
+fn in_words(alloc: Global, proc: &Unchecked<'_>) -> Result<Vec<u8>, AllocError>
+    ensures { IfOk result (λ text. text.items ≡ in_words (unchecked_head proc.now)) }
+{
     let mut text = Vec::from_slice(alloc, b"not checked: ")?;
     text.extend_from_slice(proc.name.as_slice())?;
     let rest = format!(in alloc; ", line {}: no call reaches it\n", proc.line)?;
@@ -21,7 +23,9 @@ fn in_words(alloc: Global, proc: &Unchecked<'_>) -> Result<Vec<u8>, AllocError> 
 }
 
 /// The same as an object of JSON. The line begins with `PROC`, behind two spaces for each level.
-fn as_object(alloc: Global, file: &str, proc: &Unchecked<'_>) -> Result<Vec<u8>, AllocError> {
+fn as_object(alloc: Global, file: &str, proc: &Unchecked<'_>) -> Result<Vec<u8>, AllocError>
+    ensures { IfOk result (λ text. text.items ≡ as_object file.now (unchecked_head proc.now)) }
+{
     let column = 2 * u64::from(proc.level) + 1;
     let members = [
         member("file", Value::Exact(file)),
