@@ -48,7 +48,7 @@ deepest (logical_line n l ws ∷ ls) = max l (deepest ls)
 
 -- a name, as the code has it
 abbrev pub named : Option (Bor Called) → Option Called
-named name = option_map (λ f. f.now) name
+named known = option_map (λ f. f.now) known
 
 abbrev pub owner_in : List (Option (Bor Called)) → ℕ → Option Called
 owner_in owners level = named (get_or owners level None)
