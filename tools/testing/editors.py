@@ -13,7 +13,7 @@ import subprocess
 
 from .explained import MISTAKES, ODD
 from .running import TOP, Job, room, run, run_text
-from .statuses import LETTER, SHARED
+from .statuses import LETTER, SHARED, SHARED_TOLD
 
 KEYS = ["kind", "file", "line", "column", "end", "number", "name", "text", "hint"]
 SHARED_OBJECT = {
@@ -184,7 +184,7 @@ def jobs():
         ("a hyphen", says, ["-"], {}, LETTER, (0, "A", "")),
         ("a hyphen, and words", says, ["--trace", "-", "--quantum=2"], {}, LETTER, (0, "A\n1 c1 screen p0>screen 65\nended\n", "")),
         ("a hyphen, searched", says, ["-", "--explore=endings"], {}, LETTER, (0, "1 ended by 2 choices\neach run ends after 2 turns\none answer: the program has no ALT\n", "")),
-        ("a hyphen, explained", says, ["-", "--explain"], {}, "PROC main ()\n:\n", (1, "", "refused 20 Unexpected line 2\n-:2:1: `:` where a process is wanted\n")),
+        ("a hyphen, explained", says, ["-", "--explain"], {}, SHARED, (1, "", SHARED_TOLD.replace("x.occ", "-"))),
     ]
     for title, test, *given in tried:
         yield Job(f"editors: {title}", lambda program, test=test, given=given: test(program, *given))
