@@ -1,5 +1,5 @@
 -- What a pass through calls keeps, from call to call.
-use Rattle.std.proofs.Common.{◌≡◌, ◌∙◌, ◌⊎◌, sym, ap, subst, refl, ℕ, suc, ◌+◌, ◌<◌, ◌≤◌, List, [], ◌∷◌, ◌++◌, length, length-append, map, drop, get_or, Bool, true, false, arith}
+use Rattle.std.proofs.Common.{◌≡◌, ◌∙◌, ◌⊎◌, inl, inr, sym, ap, subst, refl, ℕ, zero, suc, ◌+◌, ◌<◌, ◌≤◌, List, [], ◌∷◌, ◌++◌, length, length-append, map, drop, get_or, Bool, true, false, arith}
 use Rattle.std.proofs.Math.Bool.{true≢false}
 use Rattle.std.proofs.Math.Seq.{drop-cons}
 use Rattle.occ_reach.specs.Calls.{Called, call_pair}
@@ -28,7 +28,7 @@ pub closed_at : (set : Called → Bool) (cs : List Call) (n : ℕ) (c : Call) (l
 closed_at set cs n c left e all = (subst (AreClosed set) e (closed_drop set cs n all)).0
   where
     closed_drop : (set : Called → Bool) (cs : List Call) (n : ℕ) → AreClosed set cs → AreClosed set (drop n cs)
-    closed_drop set cs 0 all = all
+    closed_drop set cs zero all = all
     closed_drop set [] (suc n) all = tt
     closed_drop set (d ∷ cs) (suc n) all = closed_drop set cs n all.1
 

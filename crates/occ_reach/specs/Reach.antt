@@ -27,7 +27,7 @@ KeepsCalls set (call ∷ calls) = (set call.0 ≡ true → set call.1 ≡ true) 
 
 -- The PROCs that calls reach: the least set that has the main PROC and with a PROC those that it calls.
 pub record IsReach (main : Option Called) (calls : List (Called × Called)) (set : Called → Bool) : Type 0 where
-  pub main : HasMain main set
+  pub begins : HasMain main set
   pub closed : KeepsCalls set calls
   pub least : (other : Called → Bool) → HasMain main other → KeepsCalls other calls → (f : Called) → set f ≡ true → other f ≡ true
 
