@@ -1,8 +1,10 @@
 -- In which PROC lines stand, from line to line.
-use Rattle.std.proofs.Common.{◌≡◌, ◌∙◌, sym, ap, subst, refl, ℕ, ◌<◌, ◌≤◌, List, [], ◌∷◌, ◌++◌, append_assoc, length, max, Bool, true, false, Option, None, Some, get_or, if◌then◌else◌, nat_lt, arith}
+use Rattle.std.proofs.Common.{◌≡◌, ◌∙◌, sym, ap, subst, refl, ℕ, suc, ◌+◌, ◌<◌, ◌≤◌, List, [], ◌∷◌, ◌++◌, append_assoc, drop, length, max, Bool, true, false, Option, None, Some, get_or, if◌then◌else◌, nat_lt, arith}
 use Rattle.occ_text.specs.Reading.{or_else}
 use Rattle.occ_text.specs.Words.{LogicalLine, Word, logical_line}
 use Rattle.std.specs.Borrow.{Bor}
+use Rattle.std.proofs.Math.Seq.{drop-cons}
+use Rattle.occ_text.specs.declared.token.Line.{Line}
 use Rattle.occ_reach.specs.Calls.{Called, call_of, calls_in, calls_under, deepest, owner_in, owner_of, proc_begun, proc_called}
 
 -- what holds when some lines are left
@@ -36,3 +38,9 @@ gone_on all n l ws left old new calls more owner under g is begun long higher de
     by : (k : ℕ) → k < length new → (b : Bool) → nat_lt l k ≡ b → owner_in new k ≡ (if b then or_else (proc_begun ws) (owner_of g.above l) else owner_of g.above k)
     by k h true e = deeper k (search (arith, e)) (omega (arith, h, long)) ∙ begun ∙ ap (or_else (proc_begun ws)) owned
     by k h false e = higher k (search (arith, e)) ∙ g.owns k (omega (arith, h, long))
+
+-- the line in a place, and those behind it
+pub cut_line : (xs : List Line) (i : ℕ) (x : Line) → i < length xs → x ≡ get_or xs i x → drop i xs ≡ x ∷ drop (i + 1) xs
+cut_line xs i x h e =
+    let next : i + 1 ≡ suc i = omega arith in
+    drop-cons xs i x h ∙ ap (λ y. y ∷ drop (suc i) xs) (sym e) ∙ ap (λ n. x ∷ drop n xs) (sym next)

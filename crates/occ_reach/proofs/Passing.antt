@@ -1,5 +1,5 @@
 -- What a pass through calls keeps, from call to call.
-use Rattle.std.proofs.Common.{◌≡◌, ◌∙◌, ◌⊎◌, inl, inr, sym, ap, subst, refl, ℕ, zero, suc, ◌+◌, ◌<◌, ◌≤◌, List, [], ◌∷◌, ◌++◌, length, length-append, map, drop, get_or, Bool, true, false, arith}
+use Rattle.std.proofs.Common.{◌≡◌, ◌∙◌, ◌⊎◌, inl, inr, sym, ap, subst, refl, ℕ, zero, suc, ◌+◌, ◌-◌, ◌<◌, ◌≤◌, List, [], ◌∷◌, ◌++◌, length, length-append, map, drop, get_or, Bool, true, false, arith}
 use Rattle.std.proofs.Math.Bool.{true≢false}
 use Rattle.std.proofs.Math.Seq.{drop-cons}
 use Rattle.occ_reach.specs.Calls.{Called, call_pair}
@@ -112,3 +112,14 @@ passed calls old new others p = record {
   few = omega (arith, p.few);
   same = λ h. outside_closed new others (p.same (omega (arith, h)));
 }
+
+-- the call in a place, and those behind it
+pub cut_call : (cs : List Call) (i : ℕ) (c : Call) → i < length cs → c ≡ get_or cs i c → drop i cs ≡ c ∷ drop (suc i) cs
+cut_call cs i c h e = drop-cons cs i c h ∙ ap (λ d. d ∷ drop (suc i) cs) (sym e)
+
+-- the place behind
+pub behind : {calls : List Call} {old new : List Called} {others : List Call} (at : ℕ) → 0 < at → Passing calls old new others at → Passing calls old new others (suc (at - 1))
+behind {calls} {old} {new} {others} at h p = subst (Passing calls old new others) (omega (arith, h)) p
+
+pub at_end : {calls : List Call} {old new : List Called} {others : List Call} (at : ℕ) → at ≤ 0 → Passing calls old new others at → Passing calls old new others 0
+at_end {calls} {old} {new} {others} at h p = subst (Passing calls old new others) (omega (arith, h)) p

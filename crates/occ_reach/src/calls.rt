@@ -75,6 +75,15 @@ fn set_below<'a>(owners: &mut [Option<&'a Letters>], level: usize, owner: Option
     }
 }
 
+/// The same of a list that owns them.
+fn set_deeper<'a>(owners: &mut Vec<Option<&'a Letters>>, level: usize, owner: Option<&'a Letters>)
+    requires { level < length owners.old.items }
+    ensures set { SetsBelow level owners.old.items owners.new.items owner.entry }
+    ensures len { length owners.new.items ≡ length owners.old.items }
+{
+    set_below(owners, level, owner);
+}
+
 /// Adds a call, where a line has one and stands in a PROC.
 fn add_call<'a>(
     calls: &mut Vec<Call<'a>>,
@@ -92,7 +101,7 @@ fn add_call<'a>(
 /// All calls, in the order of the source.
 pub(crate) fn calls_of<'a>(
     alloc: Global,
-    mut lines: &'a [Line],
+    lines: &'a [Line],
 ) -> Result<Vec<Call<'a>>, AllocError>
     ensures { IfOk result (λ calls.
         map call_pair calls.items ≡ calls_in (logical_lines lines.entry.now)) }
@@ -100,12 +109,11 @@ pub(crate) fn calls_of<'a>(
     // in which PROC a next line would stand, by its level
     let mut owners: Vec<Option<&'a Letters>> = vec![in alloc; None; deepest(lines) as usize + 1]?;
     let mut calls = Vec::new(alloc);
-    while let [line, rest @ ..] = lines {
+    for line in lines {
         let level = line.level as usize;
         let owner = owner_at(owners.as_slice(), level);
         add_call(&mut calls, owner, proc_called(line))?;
-        set_below(&mut owners, level, begun_or(line, owner));
-        lines = rest;
+        set_deeper(&mut owners, level, begun_or(line, owner));
     }
     Ok(calls)
 }
