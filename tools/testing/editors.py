@@ -21,7 +21,7 @@ SHARED_OBJECT = {
     "text": "`x` is written in one branch of a PAR and used in another",
     "hint": "another branch uses it in line 4: give each branch a variable of its own, or send the value over a channel",
 }
-# a PROC of its own in `used`, `left` and what it calls, one that calls the other, and a second PROC of a name that is reached
+# `left` and `unused` are not called; what `left` has in it bears a name that is reached, so that and what it calls are not told
 UNREACHED = """PROC deep ()
   SKIP
 :
@@ -48,7 +48,7 @@ PROC main (CHAN OF BYTE keyboard, screen)
     used (screen)
 :
 """
-UNREACHED_LINES = [("deep", 1, 1), ("left", 4, 1), ("unused", 20, 3)]
+UNREACHED_LINES = [("left", 4, 1), ("unused", 20, 3)]
 # PROCs in the order of their calls, the last one first, each in a line of its own
 CHAIN = "PROC p0 ()\n  SKIP\n:\n" + "".join(f"PROC p{n} ()\n  p{n - 1} ()\n:\n" for n in range(1, 400))
 NO_MAIN = "PROC main ()\n  SKIP\n:\n"
