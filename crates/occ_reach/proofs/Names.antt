@@ -1,13 +1,13 @@
 -- Names that are reached: one more, and none.
-use Rattle.std.proofs.Common.{◌≡◌, ◌∙◌, ◌⊎◌, inl, inr, sym, ap, subst, refl, ℕ, List, [], ◌∷◌, ◌++◌, length, Bool, true, false, if◌then◌else◌, Option, Some, None, arith}
+use Rattle.std.proofs.Common.{◌≡◌, ◌∙◌, ◌⊎◌, inl, inr, sym, ap, subst, refl, List, [], ◌∷◌, ◌++◌, length, Bool, true, false, if◌then◌else◌, Some, None, arith}
 use Rattle.std.specs.Prelude.{bytes_eq, ◌||◌}
 use Rattle.std.specs.List.{list_any}
 use Rattle.std.proofs.Math.Bool.{true≢false}
 use Rattle.std.proofs.lemmas.Slice.Eq.{bytes_eq-Decides}
 use Rattle.std.proofs.lemmas.List.Folds.{list_any-append, list_any_more, list_any_none}
 use Rattle.occ_reach.specs.Calls.{Called}
-use Rattle.occ_reach.specs.Reach.{HasMain, among}
-use Rattle.occ_reach.specs.Passes.{AddsName, AreWithin, Begins}
+use Rattle.occ_reach.specs.Reach.{among}
+use Rattle.occ_reach.specs.Passes.{AddsName, Begins}
 
 none_any : {X : Type 0} (p : X → Bool) → list_any p [] ≡ false
 none_any p = list_any_none p [] (λ k d h. absurd (omega arith))
@@ -38,7 +38,8 @@ name_added old new k name same is = subst (AddsName old new) same (by (list_any 
     by false e n = subst (λ ks. AddsName old ks k) (sym n) (
       among_more old k k ∙ right_true (among old k) (bytes_eq k k) ((bytes_eq-Decides k k).1 refl),
       (λ f h. among_more old k f ∙ left_true (among old f) (bytes_eq f k) h),
-      (λ f h. added f (either (among old f) (bytes_eq f k) (sym (among_more old k f) ∙ h))))
+      (λ f h. added f (either (among old f) (bytes_eq f k) (sym (among_more old k f) ∙ h))),
+    )
       where
         added : (f : Called) → (among old f ≡ true) ⊎ (bytes_eq f k ≡ true) → (among old f ≡ true) ⊎ (f ≡ k)
         added f (inl h) = inl h
@@ -67,6 +68,7 @@ begins_with old new name e added = record {
   where
     some_same : {f : Called} → Some name ≡ Some f → name ≡ f
     some_same h = cc
+
     by : (set : Called → Bool) (f : Called) → set name ≡ true → (among old f ≡ true) ⊎ (f ≡ name) → set f ≡ true
     by set f has (inl h) = absurd (true≢false (sym h ∙ none_among old e f))
     by set f has (inr h) = ap set h ∙ has

@@ -1,5 +1,5 @@
 -- In which PROC lines stand, from line to line.
-use Rattle.std.proofs.Common.{◌≡◌, ◌∙◌, sym, ap, subst, refl, ℕ, suc, ◌+◌, ◌<◌, ◌≤◌, List, [], ◌∷◌, ◌++◌, append_assoc, drop, length, max, Bool, true, false, Option, None, Some, get_or, if◌then◌else◌, nat_lt, arith}
+use Rattle.std.proofs.Common.{◌≡◌, ◌∙◌, sym, ap, refl, ℕ, suc, ◌+◌, ◌<◌, ◌≤◌, List, ◌∷◌, ◌++◌, append_assoc, drop, length, Bool, true, false, Option, get_or, if◌then◌else◌, nat_lt, arith}
 use Rattle.occ_text.specs.Reading.{or_else}
 use Rattle.occ_text.specs.Words.{LogicalLine, Word, logical_line}
 use Rattle.std.specs.Borrow.{Bor}
@@ -25,16 +25,18 @@ gone_on all n l ws left old new calls more owner under g is begun long higher de
   above = logical_line n l ws ∷ g.above;
   owns = λ k h. by k h (nat_lt l k) refl;
   found =
-    ap (λ x. x ++ calls_under (logical_line n l ws ∷ g.above) left) (made ∙ ap (λ o. calls ++ call_of o (proc_called ws)) owned)
-    ∙ append_assoc calls (call_of (owner_of g.above l) (proc_called ws)) (calls_under (logical_line n l ws ∷ g.above) left)
-    ∙ g.found;
+      ap (λ x. x ++ calls_under (logical_line n l ws ∷ g.above) left) (made ∙ ap (λ o. calls ++ call_of o (proc_called ws)) owned)
+      ∙ append_assoc calls (call_of (owner_of g.above l) (proc_called ws)) (calls_under (logical_line n l ws ∷ g.above) left)
+      ∙ g.found;
   fits = grind (arith, g.fits, long);
 }
   where
     low : l < length old
     low = grind (arith, g.fits)
+
     owned : owner ≡ owner_of g.above l
     owned = is ∙ g.owns l low
+
     by : (k : ℕ) → k < length new → (b : Bool) → nat_lt l k ≡ b → owner_in new k ≡ (if b then or_else (proc_begun ws) (owner_of g.above l) else owner_of g.above k)
     by k h true e = deeper k (search (arith, e)) (omega (arith, h, long)) ∙ begun ∙ ap (or_else (proc_begun ws)) owned
     by k h false e = higher k (search (arith, e)) ∙ g.owns k (omega (arith, h, long))

@@ -1,9 +1,9 @@
 -- What a pass through calls keeps, from call to call.
-use Rattle.std.proofs.Common.{◌≡◌, ◌∙◌, ◌⊎◌, inl, inr, sym, ap, subst, refl, ℕ, zero, suc, ◌+◌, ◌-◌, ◌<◌, ◌≤◌, List, [], ◌∷◌, ◌++◌, length, length-append, map, drop, get_or, Bool, true, false, arith}
+use Rattle.std.proofs.Common.{◌≡◌, ◌∙◌, ◌⊎◌, inl, inr, sym, ap, subst, ℕ, zero, suc, ◌+◌, ◌-◌, ◌<◌, ◌≤◌, List, [], ◌∷◌, ◌++◌, length, length-append, drop, get_or, Bool, true, false, arith}
 use Rattle.std.proofs.Math.Bool.{true≢false}
 use Rattle.std.proofs.Math.Seq.{drop-cons}
-use Rattle.occ_reach.specs.Calls.{Called, call_pair}
-use Rattle.occ_reach.specs.Reach.{KeepsCalls, among}
+use Rattle.occ_reach.specs.Calls.{Called}
+use Rattle.occ_reach.specs.Reach.{among}
 use Rattle.occ_reach.specs.Passes.{AreClosed, AreWithin, IsPass}
 use Rattle.occ_reach.specs.declared.calls.Call.{Call}
 

@@ -1,5 +1,5 @@
 -- Passes one after the other.
-use Rattle.std.proofs.Common.{◌≡◌, ℕ, List, Option, Bool, true, length, map}
+use Rattle.std.proofs.Common.{◌≡◌, List, Option, Bool, length, map}
 use Rattle.occ_reach.specs.Calls.{Called, call_pair}
 use Rattle.occ_reach.specs.Reach.{HasMain, IsReach, among}
 use Rattle.occ_reach.specs.Passes.{AreClosed, AreWithin, Begins, IsPass}

@@ -1,6 +1,6 @@
 -- Passes through calls; private contracts alone cite this.
 -- Manual: nothing; this is (own).
-use Rattle.std.specs.Prelude.{Bool, List, Option, length, map, true, ℕ, ◌≡◌, ◌≤◌, ◌⊎◌}
+use Rattle.std.specs.Prelude.{Bool, List, Option, length, map, true, ◌≡◌, ◌≤◌, ◌⊎◌}
 use Rattle.std.specs.Borrow.{Bor}
 use Rattle.occ_reach.specs.Calls.{Called, named, call_pair}
 use Rattle.occ_reach.specs.Reach.{HasMain, IsReach, KeepsCalls, among}

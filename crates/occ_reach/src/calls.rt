@@ -99,10 +99,7 @@ fn add_call<'a>(
 }
 
 /// All calls, in the order of the source.
-pub(crate) fn calls_of<'a>(
-    alloc: Global,
-    lines: &'a [Line],
-) -> Result<Vec<Call<'a>>, AllocError>
+pub(crate) fn calls_of<'a>(alloc: Global, lines: &'a [Line]) -> Result<Vec<Call<'a>>, AllocError>
     ensures { IfOk result (λ calls.
         map call_pair calls.items ≡ calls_in (logical_lines lines.entry.now)) }
 {

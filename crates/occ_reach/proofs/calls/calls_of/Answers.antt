@@ -1,4 +1,4 @@
-use Rattle.std.proofs.Common.{◌≡◌, ◌∙◌, ◌+◌, ◌++◌, ap, drop, map, subst}
+use Rattle.std.proofs.Common.{◌∙◌, ◌+◌, ◌++◌, ap, drop, map, subst}
 use Rattle.occ_text.specs.Words.{logical_lines, words}
 use Rattle.occ_reach.specs.Calls.{call_of, call_pair, named, owner_in}
 use Rattle.occ_reach.proofs.Owning.{GoneThrough, cut_line, gone_on}

@@ -1,4 +1,4 @@
-use Rattle.std.proofs.Common.{◌≡◌, ◌<◌, ◌≤◌, ℕ, length}
+use Rattle.std.proofs.Common.{◌≡◌, ◌<◌, ◌≤◌, ℕ}
 use Rattle.occ_reach.specs.Calls.{named, owner_in}
 use Rattle.occ_reach.proofs.calls.set_below.Given as goal
 
