@@ -92,8 +92,9 @@ fn write_members(
 ) -> Result<(), AllocError>
     ensures { OnOk result (out.new.items ≡ out.old.items ++ members_json (map member_of members.now)) }
 {
-    for member in members {
-        write_member(alloc, out, member)?;
+    for i in 0..members.len() {
+        let member = members[i];
+        write_member(alloc, out, &member)?;
     }
     Ok(())
 }
