@@ -4,7 +4,7 @@ ghost use Rattle.std.specs.Option.{ForSome, option_copied};
 ghost use Rattle.occ_choices.specs.Crews.{IsCrew};
 ghost use Rattle.occ_code.specs.CodeOf.{IsQuantum};
 ghost use Rattle.occ_play_inputs.specs.Modes.{IsMode};
-ghost use Rattle.occ_play_inputs.specs.Paths.{AreApart};
+ghost use Rattle.occ_play_inputs.specs.Paths.{AreApart, IsSourcePath};
 ghost use Rattle.occ_play_inputs.specs.Searches.{IsFull, IsSearch};
 
 use crate::apart::are_apart;
@@ -54,9 +54,9 @@ static TOLD: [&str; 3] = ["answers", "endings", "full"];
 const WORDS: u32 = 22;
 
 /// The words that say something of one run.
-static OF_ONE_RUN: [&str; 13] = [
-    "limit", "workers", "choices", "chart", "arrows", "last", "trace", "trace-to", "json", "steps",
-    "seed", "tries", "watch",
+static OF_ONE_RUN: [&str; 12] = [
+    "limit", "workers", "choices", "chart", "arrows", "last", "trace", "trace-to", "steps", "seed",
+    "tries", "watch",
 ];
 
 /// What has no place beside `--check` either.
@@ -124,7 +124,7 @@ pub struct Words<'a> {
     pub last: Option<u32>,
     /// The path of the file into which the trace is written.
     pub trace_to: Option<&'a str>,
-    /// Whether that file has an object of JSON for each communication.
+    /// Whether that file has an object of JSON for each communication, or `check` writes one for what it finds.
     pub json: bool,
     /// The path of the file into which a line for each turn is written.
     pub steps: Option<&'a str>,
@@ -170,6 +170,16 @@ fn read_by<'a>(command: &mut Command<'a>, words: &'a [&'a str]) -> Result<Words<
     }
 }
 
+/// The path of the source, where the words gave this one or none: a hyphen is standard input.
+fn file_of<'a>(given: Option<&'a str>) -> Option<&'a str>
+    ensures { IsSourcePath (option_copied given.entry) (option_copied result) }
+{
+    match given {
+        Some("-") => None,
+        given => given,
+    }
+}
+
 /// The error that tells this of the words.
 fn refused<'a>(command: &mut Command<'a>, told: &str) -> Error {
     match command.error(ErrorKind::ValueValidation, told) {
@@ -196,11 +206,15 @@ fn words_of<'a>(matches: &ArgMatches<'a>) -> Result<Words<'a>, &'static str> {
     }
     let tries = tries_of(matches.get_one::<u32>("tries"));
     let tries = number_in(tries, 1, MOST_TRIES, "the tries are 1 to 1000000")?;
-    let (file, choices) = (matches.get_str("FILE"), matches.get_str("choices"));
+    let (file, choices) = (file_of(matches.get_str("FILE")), matches.get_str("choices"));
     let (record, chart) = (matches.get_str("record"), matches.get_str("chart"));
     let (trace_to, steps) = (matches.get_str("trace-to"), matches.get_str("steps"));
     if !are_apart(file, choices, record, chart, trace_to, steps) {
         return Err("--record, --chart, --trace-to and --steps each write into a file of their own");
+    }
+    let (json, check) = (matches.get_flag("json"), matches.get_flag("check"));
+    if json && !check && trace_to.is_none() {
+        return Err("--json stands beside --trace-to or --check");
     }
     Ok(Words {
         limit,
@@ -220,12 +234,12 @@ fn words_of<'a>(matches: &ArgMatches<'a>) -> Result<Words<'a>, &'static str> {
         arrows: arrows_of(matches.get_one::<u32>("arrows")),
         last: matches.get_one::<u32>("last"),
         trace_to,
-        json: matches.get_flag("json"),
+        json,
         steps,
         explore: explore_of(matches.get_str("explore")),
         full: is_full(matches.get_str("explore")),
         states,
-        check: matches.get_flag("check"),
+        check,
         file,
     })
 }
@@ -356,7 +370,7 @@ fn word_of<'a>(alloc: Global, number: u32) -> Result<Arg<'a>, AllocError> {
         10 => last_word(alloc),
         11 => Ok(trace_word(alloc)),
         12 => Ok(trace_to_word(alloc)),
-        13 => json_word(alloc),
+        13 => Ok(json_word(alloc)),
         14 => Ok(steps_word(alloc)),
         15 => Ok(watch_word(alloc)),
         16 => Ok(explain_word(alloc)),
@@ -488,12 +502,11 @@ fn trace_to_word<'a>(alloc: Global) -> Arg<'a> {
         .help("Writes the trace into FILE: each communication, and how the run ended")
 }
 
-fn json_word<'a>(alloc: Global) -> Result<Arg<'a>, AllocError> {
+fn json_word<'a>(alloc: Global) -> Arg<'a> {
     Arg::new(alloc, "json")
         .long("json")
-        .help("Writes each of them as a line of JSON")
+        .help("Writes each of them, or what --check finds, as a line of JSON")
         .action(ArgAction::SetTrue)
-        .requires_arg("trace-to")
 }
 
 fn steps_word<'a>(alloc: Global) -> Arg<'a> {
@@ -540,7 +553,7 @@ fn explore_word<'a>(alloc: Global) -> Result<Arg<'a>, AllocError> {
         .require_equals(true)
         .default_missing_value("answers")
         .value_parser(ValueParser::Names(TOLD.as_slice()));
-    but_one_run(word)
+    but_one_run(word.conflicts_with("json")?)
 }
 
 /// A word beside which those that say something of one run may not stand.
@@ -572,6 +585,6 @@ fn but_a_search<'a>(word: Arg<'a>) -> Result<Arg<'a>, AllocError> {
 
 fn file_word<'a>(alloc: Global) -> Arg<'a> {
     Arg::new(alloc, "FILE").help(
-        "The source; standard input is then the keyboard. Without it, standard input is the source",
+        "The source; standard input is then the keyboard. Without it, or with - in its place, standard input is the source",
     )
 }

@@ -5,3 +5,4 @@ pub mod Troubles
 pub mod Explained
 pub mod Trying
 pub mod Terminals
+pub mod Looked

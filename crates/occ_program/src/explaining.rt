@@ -49,7 +49,7 @@ pub(crate) fn explain_fault<R: Eprint>(
 }
 
 /// What a source is called: its path, or a hyphen where standard input is the source.
-fn file_of<'a>(words: &Words<'a>) -> &'a str
+pub(crate) fn file_of<'a>(words: &Words<'a>) -> &'a str
     ensures { result.now ≡ file_in words.now }
 {
     path_or("-", words.file)

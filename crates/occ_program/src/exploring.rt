@@ -152,7 +152,7 @@ fn tell_only<R: Files + Print>(
 }
 
 /// Refuses where standard output was not written, for this reason.
-fn check_printed(printed: bool, reason: Reason) -> Result<(), Failure>
+pub(crate) fn check_printed(printed: bool, reason: Reason) -> Result<(), Failure>
     ensures printed { OnOk result (IsTrue printed) }
     ensures failed { IfErr result (λ failure.
         failure ≡ Failure.Write (trouble stream.Output reason)) }
