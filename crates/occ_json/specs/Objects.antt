@@ -1,6 +1,6 @@
 -- An object of JSON on a line, for what is told of a source.
 -- Manual: nothing; this is (own).
-use Rattle.std.specs.Prelude.{List, [], codes, if◌then◌else◌, nat_lt, ℕ, ◌++◌, ◌+◌, ◌/◌, ◌%◌, ◌==◌, ◌∷◌}
+use Rattle.std.specs.Prelude.{List, [], codes, if◌then◌else◌, map, nat_lt, ℕ, ◌++◌, ◌+◌, ◌/◌, ◌%◌, ◌==◌, ◌∷◌, ◌≡◌}
 use Rattle.std.specs.Fmt.{decimal}
 use Rattle.occ_json.specs.Json.{quoted}
 use Rattle.occ_json.specs.declared.object.Value.{Value}
@@ -56,3 +56,6 @@ value_said (Exact bytes) = exactly bytes.now
 
 abbrev pub member_of : Member → List ℕ × Said
 member_of m = (m.name.now, value_said m.value)
+
+abbrev pub AddsMembers : (old new : List ℕ) → List Member → Type 0
+AddsMembers old new members = new ≡ old ++ members_json (map member_of members)

@@ -1,6 +1,6 @@
 //! An object on a line, for what is told of a source.
 ghost use Rattle.std.specs.Prelude.{◌≡◌, ◌++◌, ◌<◌, IfOk, OnOk, map};
-ghost use Rattle.occ_json.specs.Objects.{hex_digit, exact_byte, exact, member_json, member_of, members_json, object_json, said_json, value_said};
+ghost use Rattle.occ_json.specs.Objects.{AddsMembers, hex_digit, exact_byte, exact, member_json, member_of, members_json, object_json, said_json, value_said};
 
 use crate::values::{write_number, write_quoted};
 use std::alloc::{AllocError, Global};
@@ -88,13 +88,13 @@ fn write_member(alloc: Global, out: &mut Vec<u8>, member: &Member<'_>) -> Result
 fn write_members(
     alloc: Global,
     out: &mut Vec<u8>,
-    members: &[Member<'_>],
+    mut members: &[Member<'_>],
 ) -> Result<(), AllocError>
-    ensures { OnOk result (out.new.items ≡ out.old.items ++ members_json (map member_of members.now)) }
+    ensures { OnOk result (AddsMembers out.old.items out.new.items members.entry.now) }
 {
-    for i in 0..members.len() {
-        let member = members[i];
-        write_member(alloc, out, &member)?;
+    while let [member, rest @ ..] = members {
+        write_member(alloc, out, member)?;
+        members = rest;
     }
     Ok(())
 }
