@@ -402,7 +402,9 @@ fn quantum_word<'a>(alloc: Global) -> Arg<'a> {
     Arg::new(alloc, "quantum")
         .long("quantum")
         .value_name("N")
-        .help("Lets a process go through up to N loop iterations in one turn, 1 to 65536 [default: 1]")
+        .help(
+            "Lets a process go through up to N loop iterations in one turn, 1 to 65536 [default: 1]",
+        )
         .value_parser(value_parser!(u32).range(1..=i64::from(MOST_QUANTUM)))
 }
 
@@ -410,7 +412,9 @@ fn errors_word<'a>(alloc: Global) -> Arg<'a> {
     Arg::new(alloc, "errors")
         .long("errors")
         .value_name("MODE")
-        .help("Says what a fault does: halt ends the whole run, stop only its process [default: halt]")
+        .help(
+            "Says what a fault does: halt ends the whole run, stop only its process [default: halt]",
+        )
         .value_parser(ValueParser::Names(MODES.as_slice()))
 }
 
@@ -450,7 +454,9 @@ fn choices_word<'a>(alloc: Global) -> Arg<'a> {
     Arg::new(alloc, "choices")
         .long("choices")
         .value_name("FILE")
-        .help("Plays the schedule in FILE, as --record writes it; --limit and --workers have no effect then")
+        .help(
+            "Plays the schedule in FILE, as --record writes it; --limit and --workers have no effect then",
+        )
 }
 
 fn record_word<'a>(alloc: Global) -> Arg<'a> {

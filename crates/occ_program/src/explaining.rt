@@ -97,9 +97,7 @@ fn no_text_in(alloc: Global, file: &str) -> Result<Vec<u8>, AllocError>
     ensures { IfOk result (λ text. text.items ≡ no_text file.now) }
 {
     let mut text = printed_name(alloc, file.as_bytes())?;
-    text.extend_from_slice(
-        b": this is not a text file: it contains NUL bytes\n",
-    )?;
+    text.extend_from_slice(b": this is not a text file: it contains NUL bytes\n")?;
     Ok(text)
 }
 
