@@ -34,7 +34,14 @@ const UNREAD: LiveFault = LiveFault::Read(Reason::Other(0));
 
 static ROWS: [Row; 9] = [
     Row(LETTER, b"x", NEVER, b"A", 0, Ok((Ending::Ended, true))),
-    Row(ASKING, b"ab.", NEVER, b">a>b>.", 3, Ok((Ending::Ended, true))),
+    Row(
+        ASKING,
+        b"ab.",
+        NEVER,
+        b">a>b>.",
+        3,
+        Ok((Ending::Ended, true)),
+    ),
     Row(ASKING, b"a", NEVER, b">a>", 2, Ok((Ending::Stopped, false))),
     // what the screen has is there before a read that fails
     Row(ASKING, b"ab.", 0, b">", 1, Err(UNREAD)),
