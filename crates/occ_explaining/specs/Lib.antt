@@ -1,3 +1,4 @@
+pub mod Files
 pub mod Explaining
 pub mod Objects
 pub mod Unreached

@@ -5,6 +5,7 @@
 #![tactic(auto)]
 
 pub mod charted;
+pub mod files;
 pub mod objects;
 mod refusal_names;
 pub mod refused;
@@ -13,6 +14,7 @@ pub mod stepped;
 pub mod unreached;
 
 pub use charted::named_chart;
+pub use files::Files;
 pub use objects::refusal_object;
 pub use refused::explained_fault;
 pub use reported::report_of;

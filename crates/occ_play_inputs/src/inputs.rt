@@ -1,11 +1,11 @@
 //! What the program plays: a source, the keyboard's bytes, and a plan.
-ghost use Rattle.std.specs.Prelude.{◌≡◌, ◌≤◌, ◌⊎◌, IfErr, IfOk, IfSome, List, length, take, ℕ};
+ghost use Rattle.std.specs.Prelude.{[], ◌≡◌, ◌≤◌, ◌⊎◌, IfErr, IfOk, IfSome, List, OnOk, length, suc, take, ℕ};
 ghost use Rattle.occ_choices.specs.Lines.{ChoiceLines};
 ghost use Rattle.occ_choices.specs.Plans.{choices_of};
-ghost use Rattle.occ_play_inputs.specs.Asked.{IsAskedBy, IsTyped};
-ghost use Rattle.occ_play_inputs.specs.Failures.{FailsToChoose, FailsToRead};
+ghost use Rattle.occ_play_inputs.specs.Asked.{IsAskedBy, IsJoin, IsSourceBy, IsSourceIn, IsTyped, PutsBehind, PutsSome};
+ghost use Rattle.occ_play_inputs.specs.Failures.{FailsToChoose, FailsToRead, FailsToReadSource};
 ghost use Rattle.occ_play_inputs.specs.Notices.{notice_of};
-ghost use Rattle.occ_play_inputs.specs.declared.failure.Stream.TheVariants.{Keyboard, Source};
+ghost use Rattle.occ_play_inputs.specs.declared.failure.Stream.TheVariants.{Keyboard};
 
 use crate::apart::check_files;
 use crate::failure::{Failure, Stream, of_input, of_read};
@@ -13,9 +13,10 @@ use crate::words::Words;
 use occ_choices::{Plan, read_choices};
 use occ_files::{CountedReader, read_input};
 use occ_seeds::seeded_plan;
+use occ_sources::{add_text, last_line};
 use std::alloc::Global;
 use std::fs;
-use std::io::{Input, IsTerminal, Read, empty};
+use std::io::{Input, IsTerminal, Read};
 use std::rt::Files;
 
 /// How many bytes of a source are read: one more than it may have.
@@ -24,11 +25,22 @@ const MOST_SOURCE: usize = 1_048_577;
 /// What is told before the keyboard is read from a terminal.
 const NOTICE: &str = "the keyboard is read to its end first: Ctrl-D ends it, < /dev/null is none\n";
 
+/// A source: its files, one behind the other.
+#[derive(Drop)]
+pub struct Joined {
+    /// The bytes.
+    pub bytes: Vec<u8>,
+    /// The number of the last line of each file but the last.
+    pub ends: Vec<u32>,
+}
+
 /// What the program plays.
 #[derive(Drop)]
 pub struct Inputs {
-    /// The source's bytes.
+    /// The source's bytes: its files, one behind the other.
     pub source: Vec<u8>,
+    /// The number of the last line of each of its files but the last.
+    pub ends: Vec<u32>,
     /// What is typed.
     pub keyboard: Vec<u8>,
     /// The choices of the run.
@@ -52,19 +64,25 @@ where
     R::Reader: IsTerminal,
     ensures asked { IfOk result (λ inputs. IsAskedBy words.now inputs.plan) }
     ensures source { IfOk result (λ inputs. length inputs.source.items ≤ 1048577) }
+    ensures joined { IfOk result (IsSourceIn words.now) }
     ensures typed { IfOk result (λ inputs. IsTyped words.now.file inputs.keyboard.items) }
 {
     check_files(rt, words)?;
     let (source, keyboard) = read_texts(rt, alloc, words)?;
     let plan = read_plan(rt, alloc, words)?;
+    let Joined {
+        bytes: source,
+        ends,
+    } = source;
     Ok(Inputs {
         source,
+        ends,
         keyboard,
         plan,
     })
 }
 
-/// Reads the source alone: the file that the words name, or standard input.
+/// Reads the source alone: the files that the words name, or standard input.
 ///
 /// # Errors
 ///
@@ -73,38 +91,94 @@ pub fn read_source<R: Files + Input>(
     rt: &R,
     alloc: Global,
     words: &Words<'_>,
-) -> Result<Vec<u8>, Failure>
-    ensures few { IfOk result (λ source. length source.items ≤ 1048577) }
-    ensures failed { IfErr result (FailsToRead Source) }
+) -> Result<Joined, Failure>
+    ensures few { IfOk result (λ source. length source.bytes.items ≤ 1048577) }
+    ensures joined { IfOk result (IsSourceBy words.now) }
+    ensures failed { IfErr result FailsToReadSource }
 {
     match words.file {
-        None => read_most(alloc, Stream::Source, rt.reader(), MOST_SOURCE),
-        Some(path) => {
-            let file = open(rt, Stream::Source, path)?;
-            read_most(alloc, Stream::Source, file, MOST_SOURCE)
+        None => {
+            let mut source = empty_source(alloc);
+            read_behind(alloc, &mut source, Stream::Source, rt.reader())?;
+            Ok(source)
         }
+        Some(path) => read_files(rt, alloc, path, words.more.as_slice()),
     }
 }
 
-/// The file and standard input, or standard input and an empty keyboard.
+/// A source of no file.
+fn empty_source(alloc: Global) -> Joined
+    ensures bytes { result.bytes.items ≡ [] }
+    ensures ends { result.ends.items ≡ [] }
+{
+    Joined {
+        bytes: Vec::new(alloc),
+        ends: Vec::new(alloc),
+    }
+}
+
+/// The source of these files.
+fn read_files<R: Files>(
+    rt: &R,
+    alloc: Global,
+    first: &str,
+    more: &[&str],
+) -> Result<Joined, Failure>
+    ensures few { IfOk result (λ source. length source.bytes.items ≤ 1048577) }
+    ensures joined { IfOk result (IsJoin (suc (length more.now))) }
+    ensures failed { IfErr result FailsToReadSource }
+{
+    let mut source = empty_source(alloc);
+    let file = open(rt, Stream::Source, first)?;
+    read_behind(alloc, &mut source, Stream::Source, file)?;
+    for place in 0..more.len() {
+        source.ends.push(last_line(source.bytes.as_slice()))?;
+        let file = open(rt, Stream::More(place), more[place])?;
+        read_behind(alloc, &mut source, Stream::More(place), file)?;
+    }
+    Ok(source)
+}
+
+/// Reads a file, and adds its text to those before it.
+fn read_behind<S: Read + Drop>(
+    alloc: Global,
+    source: &mut Joined,
+    stream: Stream,
+    file: S,
+) -> Result<(), Failure>
+    ensures few { OnOk result (length source.new.bytes.items ≤ 1048577) }
+    ensures joined { OnOk result (PutsSome source.old source.new) }
+    ensures text { IfSome (S.remaining file) (λ xs. OnOk result
+        (PutsBehind source.old source.new xs)) }
+    ensures ends { OnOk result (source.new.ends ≡ source.old.ends) }
+    ensures failed { IfErr result (FailsToRead stream) }
+{
+    let text = read_most(alloc, stream, file, MOST_SOURCE)?;
+    add_text(&mut source.bytes, text.as_slice(), MOST_SOURCE)?;
+    Ok(())
+}
+
+/// The files and standard input, or standard input and an empty keyboard.
 fn read_texts<R: Files + Input + Eprint>(
     rt: &R,
     alloc: Global,
     words: &Words<'_>,
-) -> Result<(Vec<u8>, Vec<u8>), Failure>
+) -> Result<(Joined, Vec<u8>), Failure>
 where
     R::Reader: IsTerminal,
-    ensures source { IfOk result (λ r. length r.0.items ≤ 1048577) }
+    ensures few { IfOk result (λ r. length r.0.bytes.items ≤ 1048577) }
+    ensures joined { IfOk result (λ r. IsSourceBy words.now r.0) }
     ensures typed { IfOk result (λ r. IsTyped words.now.file r.1.items) }
-    ensures failed { IfErr result (λ f. FailsToRead Source f ⊎ FailsToRead Keyboard f) }
+    ensures failed { IfErr result (λ f. FailsToReadSource f ⊎ FailsToRead Keyboard f) }
 {
+    let source = read_source(rt, alloc, words)?;
     match words.file {
-        None => read_both(alloc, rt.reader(), empty()),
-        Some(path) => {
-            let file = open(rt, Stream::Source, path)?;
+        None => Ok((source, Vec::new(alloc))),
+        Some(_) => {
             let keyboard = rt.reader();
             let _ = eprint!(rt; "{}", notice_of(words.file, keyboard.is_terminal()));
-            read_both(alloc, file, keyboard)
+            let keyboard = read_all(alloc, Stream::Keyboard, keyboard)?;
+            Ok((source, keyboard))
         }
     }
 }
@@ -128,23 +202,6 @@ fn open<R: Files>(rt: &R, stream: Stream, path: &str) -> Result<R::File, Failure
         Ok(file) => Ok(file),
         Err(error) => Err(of_read(stream, error)),
     }
-}
-
-/// The first bytes of a source, one more than it may have, and all that is typed.
-fn read_both<S: Read + Drop, K: Read + Drop>(
-    alloc: Global,
-    source: S,
-    keyboard: K,
-) -> Result<(Vec<u8>, Vec<u8>), Failure>
-    ensures few { IfOk result (λ r. length r.0.items ≤ 1048577) }
-    ensures source { IfSome (S.remaining source)
-        (λ xs. IfOk result (λ r. r.0.items ≡ take 1048577 xs)) }
-    ensures keyboard { IfSome (K.remaining keyboard) (λ xs. IfOk result (λ r. r.1.items ≡ xs)) }
-    ensures failed { IfErr result (λ f. FailsToRead Source f ⊎ FailsToRead Keyboard f) }
-{
-    let source = read_most(alloc, Stream::Source, source, MOST_SOURCE)?;
-    let keyboard = read_all(alloc, Stream::Keyboard, keyboard)?;
-    Ok((source, keyboard))
 }
 
 /// All bytes of a reader, or so many where there are more.

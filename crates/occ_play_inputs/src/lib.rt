@@ -8,5 +8,5 @@ pub mod inputs;
 pub mod words;
 
 pub use failure::{Failure, Stream, Trouble};
-pub use inputs::{Inputs, read_inputs, read_source};
+pub use inputs::{Inputs, Joined, read_inputs, read_source};
 pub use words::{Words, read_words};

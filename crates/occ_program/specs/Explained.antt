@@ -1,8 +1,9 @@
 -- What is told behind a refusal's line, behind an ending, and behind the answers of a search.
 -- Manual: nothing; this is (own).
-use Rattle.std.specs.Prelude.{Err, List, Ok, Result, Some, [], codes, get_or, length, suc, take, zero, ℕ, ⊤, ◌++◌, ◌<◌, ◌∷◌, ◌≡◌, ◌≢◌, ◌⊎◌}
+use Rattle.std.specs.Prelude.{Err, List, Ok, Result, Some, [], codes, get_or, length, map, suc, take, zero, ℕ, ⊤, ◌++◌, ◌<◌, ◌∷◌, ◌≡◌, ◌≢◌, ◌⊎◌}
 use Rattle.std.specs.Fmt.{decimal}
 use Rattle.occ_explaining.specs.Explaining.{ReportsOn, TellsRefusal, refusal_in}
+use Rattle.occ_explaining.specs.Files.{SourceFiles}
 use Rattle.occ_explore.specs.declared.exploration.Answer.{Answer}
 use Rattle.occ_files.specs.declared.reason.Reason.{Reason}
 use Rattle.occ_net_replay.specs.declared.choice.Choice.{Choice}
@@ -19,18 +20,18 @@ use Rattle.occ_play_inputs.specs.declared.words.Words.{Words}
 use Rattle.occ_program.specs.Coming.{options_in}
 use Rattle.occ_program.specs.Troubles.{path_or, trouble_text}
 
--- the path of the source, and a hyphen for standard input
-abbrev pub file_in : Words → List ℕ
-file_in words = path_or (codes "-") words.file
+-- the paths of the source's files, and a hyphen for standard input
+abbrev pub files_in : Words → (ends : List ℕ) → SourceFiles
+files_in words ends = record { first = path_or (codes "-") words.file; more = map (λ m. m.now) words.more.items; ends = ends }
 
 -- an explanation of a refusal of this source
-abbrev pub TellsOf : Words → (source : List ℕ) → PlayFault → List ℕ → Type 0
-TellsOf words source fault text = TellsRefusal source (file_in words) (refusal_in fault) (Some text)
+abbrev pub TellsOf : Words → (source ends : List ℕ) → PlayFault → List ℕ → Type 0
+TellsOf words source ends fault text = TellsRefusal source (files_in words ends) (refusal_in fault) (Some text)
 
 -- why standard output was not written, or an explanation
-abbrev pub TellsWhy : Words → (source : List ℕ) → Reason → PlayFault → List ℕ → Type 0
-TellsWhy words source reason (play.Write written) text = text ≡ trouble_text words (trouble Output reason)
-TellsWhy words source reason fault text = TellsOf words source fault text
+abbrev pub TellsWhy : Words → Inputs → Reason → PlayFault → List ℕ → Type 0
+TellsWhy words inputs reason (play.Write written) text = text ≡ trouble_text words (trouble Output reason)
+TellsWhy words inputs reason fault text = TellsOf words inputs.source.items inputs.ends.items fault text
 
 -- the report of the run of the inputs by these choices
 abbrev pub ReportsRun : Words → Inputs → List Choice → List ℕ → Type 0
@@ -39,7 +40,7 @@ ReportsRun words inputs choices text = ReportsOn (options_in words) inputs.sourc
 -- of a fault that, and of a run the report by its choices
 abbrev pub Explains : Words → Inputs → Reason → Result Played PlayFault → List ℕ → Type 0
 Explains words inputs reason (Ok played) text = ReportsRun words inputs played.choices.items text
-Explains words inputs reason (Err fault) text = TellsWhy words inputs.source.items reason fault text
+Explains words inputs reason (Err fault) text = TellsWhy words inputs reason fault text
 
 -- ---- the answers of a search
 
