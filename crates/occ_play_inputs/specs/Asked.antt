@@ -1,6 +1,6 @@
 -- Which choices the words of the command line ask for.
 -- Manual: nothing; this is (own).
-use Rattle.std.specs.Prelude.{List, [], None, Option, Some, length, suc, ℕ, ⊤, ◌∷◌, ◌+◌, ◌<◌, ◌≡◌}
+use Rattle.std.specs.Prelude.{List, [], None, Option, Some, length, suc, ℕ, ⊤, ◌++◌, ◌∷◌, ◌+◌, ◌<◌, ◌≡◌}
 use Rattle.occ_choices.specs.Lines.{ChoiceLines}
 use Rattle.occ_choices.specs.Plans.{choices_of}
 use Rattle.occ_choices.specs.declared.plan.Plan.{Plan}
@@ -9,7 +9,7 @@ use Rattle.occ_play_inputs.specs.declared.inputs.Inputs.{Inputs}
 use Rattle.occ_play_inputs.specs.declared.inputs.Joined.{Joined}
 use Rattle.occ_play_inputs.specs.declared.words.Words.{Words}
 use Rattle.occ_seeds.specs.Seeds.{seeded}
-use Rattle.occ_sources.specs.Sources.{joined, ends_of}
+use Rattle.occ_sources.specs.Sources.{ended, ends_of, joined, line_feeds}
 
 -- one of so many seeds, and as many choices of it as the limit has
 pub record IsSeeded (limit seed tries : ℕ) (plan : Plan) : Type 0 where
@@ -54,6 +54,10 @@ IsSourceBy words source = IsJoinFor words.file words.more.items source.bytes.ite
 -- of what is played
 abbrev pub IsSourceIn : Words → Inputs → Type 0
 IsSourceIn words inputs = IsJoinFor words.file words.more.items inputs.source.items inputs.ends.items
+
+-- where the text so far ends
+abbrev pub NotesEnd : (old new : Joined) → Type 0
+NotesEnd old new = new.ends.items ≡ old.ends.items ++ line_feeds (ended old.bytes.items) ∷ []
 
 -- this text more
 abbrev pub PutsBehind : (old new : Joined) → (text : List ℕ) → Type 0

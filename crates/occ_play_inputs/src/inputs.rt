@@ -2,7 +2,7 @@
 ghost use Rattle.std.specs.Prelude.{[], ◌≡◌, ◌≤◌, ◌⊎◌, IfErr, IfOk, IfSome, List, OnOk, length, suc, take, ℕ};
 ghost use Rattle.occ_choices.specs.Lines.{ChoiceLines};
 ghost use Rattle.occ_choices.specs.Plans.{choices_of};
-ghost use Rattle.occ_play_inputs.specs.Asked.{IsAskedBy, IsJoin, IsSourceBy, IsSourceIn, IsTyped, PutsBehind, PutsSome};
+ghost use Rattle.occ_play_inputs.specs.Asked.{IsAskedBy, IsJoin, IsSourceBy, IsSourceIn, IsTyped, NotesEnd, PutsBehind, PutsSome};
 ghost use Rattle.occ_play_inputs.specs.Failures.{FailsToChoose, FailsToRead, FailsToReadSource};
 ghost use Rattle.occ_play_inputs.specs.Notices.{notice_of};
 ghost use Rattle.occ_play_inputs.specs.declared.failure.Stream.TheVariants.{Keyboard};
@@ -14,7 +14,7 @@ use occ_choices::{Plan, read_choices};
 use occ_files::{CountedReader, read_input};
 use occ_seeds::seeded_plan;
 use occ_sources::{add_text, last_line};
-use std::alloc::Global;
+use std::alloc::{AllocError, Global};
 use std::fs;
 use std::io::{Input, IsTerminal, Read};
 use std::rt::Files;
@@ -132,11 +132,22 @@ fn read_files<R: Files>(
     let file = open(rt, Stream::Source, first)?;
     read_behind(alloc, &mut source, Stream::Source, file)?;
     for place in 0..more.len() {
-        source.ends.push(last_line(source.bytes.as_slice()))?;
+        note_end(&mut source)?;
         let file = open(rt, Stream::More(place), more[place])?;
         read_behind(alloc, &mut source, Stream::More(place), file)?;
     }
     Ok(source)
+}
+
+/// Notes the number of the last line, before another file.
+fn note_end(source: &mut Joined) -> Result<(), AllocError>
+    requires { length source.old.bytes.items ≤ 1048577 }
+    ensures noted { OnOk result (NotesEnd source.old source.new) }
+    ensures bytes { source.new.bytes ≡ source.old.bytes }
+{
+    let end = last_line(source.bytes.as_slice());
+    source.ends.push(end)?;
+    Ok(())
 }
 
 /// Reads a file, and adds its text to those before it.
