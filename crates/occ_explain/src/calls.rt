@@ -2,7 +2,7 @@
 
 use crate::class::Class;
 use crate::finding::index_of;
-use crate::mismatch::conversion;
+use crate::mismatch::{conversion, expression_count};
 use crate::scan::{Text, Word};
 use crate::scope::{
     Declared, Kind, Spec, behind_sizes, declaration_of, formal_count, formal_numbered,
@@ -26,18 +26,12 @@ struct Pair {
 
 /// How many actuals a call has.
 fn actual_count(words: &[Word<'_>], open: usize) -> usize {
-    let mut at = open.saturating_add(1);
+    let at = open.saturating_add(1);
     if class_at(words, at) == Class::CloseParen {
-        return 0;
+        0
+    } else {
+        expression_count(words, at, words.len())
     }
-    for count in 1..words.len().saturating_add(1) {
-        at = expression_end(words, at);
-        if class_at(words, at) != Class::Comma {
-            return count;
-        }
-        at = at.saturating_add(1);
-    }
-    0
 }
 
 /// The place of the actual that has so many before it.

@@ -67,6 +67,11 @@ pub(crate) fn index_of(words: &[Word<'_>], class: Class) -> usize {
     words.len()
 }
 
+/// The sign of an output or an input; the number of words where a line has none.
+pub(crate) fn sign_of(words: &[Word<'_>]) -> usize {
+    index_of(words, Class::Exclamation).min(index_of(words, Class::Question))
+}
+
 /// What is found out about a refusal of a text.
 pub(crate) fn finding_of(
     alloc: Global,
@@ -207,29 +212,17 @@ fn unexpected_finding(
 
 /// Where a refusal of types, kinds, constants or actuals points to, as far as the words tell.
 fn typed_at(words: &[Word<'_>], number: u32) -> usize {
-    let class = match number {
-        33 => Class::Assign,
-        34 | 35 => Class::For,
-        36 => Class::OpenBracket,
-        39 | 40 => Class::OpenParen,
-        37 | 38 => return sent_at(words),
-        42 => Class::Proc,
+    let sign = match number {
+        33 => index_of(words, Class::Assign),
+        34 | 35 => index_of(words, Class::For),
+        36 => index_of(words, Class::OpenBracket),
+        37 | 38 => sign_of(words),
+        39 | 40 => index_of(words, Class::OpenParen),
+        42 => index_of(words, Class::Proc),
         _ => return 0,
     };
-    let at = index_of(words, class);
-    if at < words.len() {
-        at.saturating_add(1)
-    } else {
-        0
-    }
-}
-
-/// The first item of an output or an input.
-fn sent_at(words: &[Word<'_>]) -> usize {
-    let output = index_of(words, Class::Exclamation);
-    let at = output.min(index_of(words, Class::Question));
-    if at < words.len() {
-        at.saturating_add(1)
+    if sign < words.len() {
+        sign.saturating_add(1)
     } else {
         0
     }

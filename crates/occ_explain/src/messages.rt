@@ -2,7 +2,7 @@
 
 use crate::class::Class;
 use crate::context::{parent_of, start_of};
-use crate::finding::index_of;
+use crate::finding::{index_of, sign_of};
 use crate::grammar::Part;
 use crate::mismatch::conversion;
 use crate::scan::{Text, Word};
@@ -31,12 +31,6 @@ struct Parts {
     at: usize,
     count: usize,
     is_protocol: bool,
-}
-
-/// The sign of an output or an input; the number of words where a line has none.
-fn sign_of(words: &[Word<'_>]) -> usize {
-    let output = index_of(words, Class::Exclamation);
-    output.min(index_of(words, Class::Question))
 }
 
 /// The channel that is named before the sign of a line.

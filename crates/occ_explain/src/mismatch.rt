@@ -2,7 +2,7 @@
 
 use crate::class::Class;
 use crate::context::{parent_of, start_of};
-use crate::finding::index_of;
+use crate::finding::{index_of, sign_of};
 use crate::grammar::Part;
 use crate::kinds::number_of;
 use crate::scan::{Text, Word};
@@ -418,7 +418,7 @@ fn places(text: &Text<'_>, index: usize) -> Option<Told> {
 }
 
 /// How many expressions stand between two places, with a comma between two.
-fn expressions(words: &[Word<'_>], from: usize, to: usize) -> usize {
+pub(crate) fn expression_count(words: &[Word<'_>], from: usize, to: usize) -> usize {
     let mut at = from;
     for count in 1..words.len().saturating_add(1) {
         at = expression_end(words, at);
@@ -459,8 +459,8 @@ fn sides(alloc: Global, text: &Text<'_>, index: usize) -> Result<Option<Told>, A
     if sign == words.len() {
         return Ok(None);
     }
-    let targets = expressions(words, 0, sign);
-    let values = expressions(words, sign.saturating_add(1), words.len());
+    let targets = expression_count(words, 0, sign);
+    let values = expression_count(words, sign.saturating_add(1), words.len());
     if targets != values {
         return Ok(Some(Told {
             line: index,
@@ -616,7 +616,7 @@ fn options(text: &Text<'_>, index: usize) -> Option<Told> {
 /// An array of channels in the place of one.
 fn channels(text: &Text<'_>, index: usize) -> Option<Told> {
     let words = text.words_at(index);
-    let sign = index_of(words, Class::Exclamation).min(index_of(words, Class::Question));
+    let sign = sign_of(words);
     let at = operand_begin(words, sign);
     let found = declaration_of(text, index, bytes_at(words, at))?;
     let (_, subscripts) = behind_sizes(words, at.saturating_add(1));

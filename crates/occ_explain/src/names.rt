@@ -33,10 +33,6 @@ fn name_from(words: &[Word<'_>], from: usize, name: &[u8]) -> usize {
     words.len()
 }
 
-fn has_name(words: &[Word<'_>], name: &[u8]) -> bool {
-    name_from(words, 0, name) < words.len()
-}
-
 /// A name that stands for nothing, or twice.
 pub(crate) fn name_finding(text: &Text<'_>, line: usize, refusal: &Refusal<'_>) -> Told {
     match refusal.number {
@@ -211,7 +207,8 @@ fn elsewhere(text: &Text<'_>, par: usize, branch: usize, name: &[u8]) -> Option<
         if indent == text.indent_at(branch) {
             is_own = i == branch;
         }
-        if !is_own && has_name(text.words_at(i), name) {
+        let words = text.words_at(i);
+        if !is_own && name_from(words, 0, name) < words.len() {
             return Some(i);
         }
     }
