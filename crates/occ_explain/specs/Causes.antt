@@ -34,6 +34,10 @@ is_told_closer n =
 abbrev pub IsUnderHeading : (number : ℕ) → List ℕ → Type 0
 IsUnderHeading number wrong = (1 ≤ length (heading_of number)) × IsPrefix (heading_of number) wrong × (length (heading_of number) < length wrong)
 
--- what is told of any other refusal is the cause, or stands behind the heading
+-- what is told is the cause, or stands behind the heading
+abbrev pub IsCaused : (number : ℕ) → List ℕ → Type 0
+IsCaused number wrong = (wrong ≡ cause_of number) ⊎ IsUnderHeading number wrong
+
+-- so it is of any other refusal
 abbrev pub TellsCause : (number : ℕ) → List ℕ → Type 0
-TellsCause number wrong = IsFalse (is_told_closer number) → (wrong ≡ cause_of number) ⊎ IsUnderHeading number wrong
+TellsCause number wrong = IsFalse (is_told_closer number) → IsCaused number wrong

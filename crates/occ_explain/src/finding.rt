@@ -1,7 +1,7 @@
 //! What is found out about a refusal: a place, what is wrong there, and how it is mended.
 
-ghost use Rattle.std.specs.Prelude.{◌≡◌, ◌≤◌, ◌+◌, ◌⊎◌, IfOk, length};
-ghost use Rattle.occ_explain.specs.Causes.{IsUnderHeading, TellsCause, cause_of};
+ghost use Rattle.std.specs.Prelude.{◌≡◌, ◌≤◌, ◌+◌, IfOk, length};
+ghost use Rattle.occ_explain.specs.Causes.{IsCaused, TellsCause, cause_of};
 ghost use mathlib.Core.List.{IsPrefix};
 
 use crate::breaks::break_finding;
@@ -270,8 +270,7 @@ fn headed(
     line: usize,
     refusal: &Refusal<'_>,
 ) -> Result<Finding, AllocError>
-    ensures cause { IfOk result (λ f. (f.wrong.items ≡ cause_of refusal.now.number)
-        ⊎ IsUnderHeading refusal.now.number f.wrong.items) }
+    ensures cause { IfOk result (λ f. IsCaused refusal.now.number f.wrong.items) }
     ensures some { IfOk result (λ f. 1 ≤ length f.wrong.items) }
 {
     let heading = heading_of(refusal.number);
@@ -286,8 +285,9 @@ fn headed(
 
 /// A finding behind a heading.
 fn with_heading(alloc: Global, heading: &str, found: Finding) -> Result<Finding, AllocError>
-    ensures { IfOk result (λ f. IsPrefix heading.now f.wrong.items
-        × (length heading.now + length found.wrong.items ≤ length f.wrong.items)) }
+    ensures begun { IfOk result (λ f. IsPrefix heading.now f.wrong.items) }
+    ensures longer { IfOk result (λ f. length heading.now + length found.wrong.items
+        ≤ length f.wrong.items) }
 {
     let mut wrong = Vec::from_slice(alloc, heading.as_bytes())?;
     wrong.extend_from_slice(found.wrong.as_slice())?;
