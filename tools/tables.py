@@ -89,20 +89,25 @@ def manual():
 
 
 def in_bash():
-    """The completions of bash."""
+    """The completions of bash. A value may stand behind `=`, which is a word of its own unless COMP_WORDBREAKS has been changed."""
     options = [(long, value, is_equal, one_of) for long, value, is_equal, one_of, _ in words() if long]
     all_of = " ".join(f"--{long}" for long, *_ in options)
     cases = "".join(
-        f'    --{long})\n      COMPREPLY=($(compgen -W "{" ".join(one_of)}" -- "$now"))\n      return\n      ;;\n'
+        f'    {"" if is_equal else f"--{long} | "}--{long}=)\n      COMPREPLY=($(compgen -W "{" ".join(one_of)}" -- "$now"))\n      return\n      ;;\n'
         for long, value, is_equal, one_of in options
-        if one_of and not is_equal
+        if one_of
     )
-    numbers = "|".join(f"--{long}" for long, value, *_ in options if value == "N")
+    numbers = " | ".join(f"--{long} | --{long}=" for long, value, *_ in options if value == "N")
     return (
         "# completions of occam for bash; tools/tables.py writes this file\n"
         "_occam() {\n"
         '  local now="${COMP_WORDS[COMP_CWORD]}" before="${COMP_WORDS[COMP_CWORD - 1]}"\n'
         "  COMPREPLY=()\n"
+        '  if [[ "$now" == "=" ]]; then\n'
+        '    before="$before=" now=""\n'
+        '  elif [[ "$before" == "=" ]]; then\n'
+        '    before="${COMP_WORDS[COMP_CWORD - 2]}="\n'
+        "  fi\n"
         '  case "$before" in\n'
         f"{cases}"
         f"    {numbers})\n      return\n      ;;\n"
@@ -137,7 +142,8 @@ def in_fish():
         if long is None:
             continue
         told = said.replace("\\", "\\\\").replace("'", "\\'")
-        kind = f" -x -a '{' '.join(one_of)}'" if one_of and not is_equal else " -r" if value == "FILE" else " -x" if value and not is_equal else ""
+        listed = f" -a '{' '.join(one_of)}'" if one_of else ""
+        kind = f" {'-f' if is_equal else '-x'}{listed}" if listed else " -r" if value == "FILE" else " -x" if value else ""
         lines.append(f"complete -c occam -l {long}{kind} -d '{told}'")
     return "\n".join(lines) + "\n"
 

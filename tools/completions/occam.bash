@@ -2,12 +2,21 @@
 _occam() {
   local now="${COMP_WORDS[COMP_CWORD]}" before="${COMP_WORDS[COMP_CWORD - 1]}"
   COMPREPLY=()
+  if [[ "$now" == "=" ]]; then
+    before="$before=" now=""
+  elif [[ "$before" == "=" ]]; then
+    before="${COMP_WORDS[COMP_CWORD - 2]}="
+  fi
   case "$before" in
-    --errors)
+    --errors | --errors=)
       COMPREPLY=($(compgen -W "halt stop" -- "$now"))
       return
       ;;
-    --limit|--quantum|--workers|--seed|--tries|--arrows|--last|--states)
+    --explore=)
+      COMPREPLY=($(compgen -W "answers endings full" -- "$now"))
+      return
+      ;;
+    --limit | --limit= | --quantum | --quantum= | --workers | --workers= | --seed | --seed= | --tries | --tries= | --arrows | --arrows= | --last | --last= | --states | --states=)
       return
       ;;
   esac
