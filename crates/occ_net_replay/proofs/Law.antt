@@ -13,7 +13,7 @@ use Rattle.occ_term.specs.System.{System, start, noted_in}
 use Rattle.occ_term.specs.TermTyping.{Declared}
 use Rattle.occ_term.specs.Terms.{Term, Branches, no_branches, and_branch}
 use Rattle.occ_term.specs.UnfoldedProgram.{UnfoldedProgram, IsWellFormed, Lawful, meaning, declared}
-use Rattle.occ_machine.specs.SameStop.{SameStop}
+use Rattle.occ_machine.specs.SameStop.{Agrees, SameStop}
 use Rattle.occ_machine.specs.Alike.{Alike, DoesAs}
 use Rattle.occ_machine.specs.Compiled.{Program, IsCompiledFrom, AllDo}
 use Rattle.occ_machine.specs.Machine.{Body, Stopping}
@@ -31,7 +31,7 @@ use Rattle.occ_net_replay.proofs.Holding.{AgreesBut, agrees_all, Belongs, Stands
 use Rattle.occ_net_replay.proofs.Runs.{listed, run_more, met_more, turns_more, on-append, FitAll, fit_append, fit_on}
 use Rattle.occ_net_replay.proofs.Settling.{Follows}
 use Rattle.occ_net_replay.proofs.Sharing.{shares_store}
-use Rattle.occ_net_replay.specs.Sharing.{ReplaysShareStore, SharesStore}
+use Rattle.occ_net_replay.specs.Sharing.{ReplaysShareStore, SharesStore, store_of}
 use Rattle.occ_net_replay.proofs.States.{live_at}
 use Rattle.occ_net_replay.proofs.Placed.{AreSome, BranchesPlaced, LeftPlaced, size}
 use Rattle.occ_net_replay.proofs.TakingTurns.{ran, Begins, begins_alone, begins_joined, begins_as}
@@ -141,8 +141,10 @@ module _ (u : UnfoldedProgram) (p : Program) (quantum : ℕ) (kb : List ℕ) (w 
       let counted = turns_counted k net x in
       let all : k ≡ (k - turns) + turns = omega (arith, exact, counted, few) in
       let place = subst (λ z. At n own ps (main_process z)) x.follows.is at in
-      alike_at_most (k - turns) turns d body t next
-      (subst (λ j. Alike j d body t next) all (goes_ahead d p procs k net.tasks x.follows.proc x.follows.store x.follows.state n own next ps body t place g code there may))
+      let goes = goes_ahead d p procs k net.tasks x.follows.proc x.follows.store x.follows.state n own next ps body t place g code there may in (
+        subst (λ z. Agrees d body.cells t.frame (store_of z)) (sym x.follows.is) goes.0,
+        alike_at_most (k - turns) turns d body t next (subst (λ j. Alike j d body t next) all goes.1),
+      )
 
   pub is_moment : (k : ℕ) (net : Net) (x : AllFollowed k net) → k + length x.events + 1 ≡ 2 ^ 64 → IsMoment u p net x.now
   is_moment k net x exact =

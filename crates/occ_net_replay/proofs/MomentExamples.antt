@@ -142,9 +142,10 @@ halts_next {q = zero} t = elim t [ ]
 halts_next {q = suc q} t = (one_turn _ _ _ _ _ _ _ t (stops (single_turn (more (take_in refl) refl none) stop refl) (inr refl))).0
 
 pub other_arm_row : OtherArmRow
-other_arm_row u p b s t code agrees turn ends m =
+other_arm_row u p b t code turn ends m =
     let few : 1 + 0 < 2 ^ 64 = omega arith in
-    let y = m.ahead 0 _ _ no_processes b has_taken_skip 1 here (is_going refl) code refl refl few s agrees in
+    let goes = m.ahead 0 _ _ no_processes b has_taken_skip 1 here (is_going refl) code refl refl few in
+    let y = goes.1 _ goes.0 in
     let once : y.after ≡ t = stopping_once b has_taken_skip y.after t y.stops turn in
     let x : SameStop (declared u) (Alike 0 (declared u) b) y.after y.rest W.Done = subst (SameStop (declared u) (Alike 0 (declared u) b) y.after y.rest) (ap (λ (z : Task). z.wait) once ∙ ends) y.same in
     not_both (sym x.1 ∙ halts_next y.turn)

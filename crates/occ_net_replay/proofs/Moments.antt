@@ -7,9 +7,10 @@ use Rattle.occ_term.specs.Selecting.{Enabled, SkipArm, InputArm}
 use Rattle.occ_term.specs.Steps.{Context, Left}
 use Rattle.occ_term.specs.System.{Process, Processes}
 use Rattle.occ_term.specs.TermTyping.{Declared}
+use Rattle.occ_term.specs.TypedSteps.{StoreHas}
 use Rattle.occ_term.specs.Uses.{Numbers}
 use Rattle.occ_term.specs.Values.{Store}
-use Rattle.occ_machine.specs.SameStop.{SameArms}
+use Rattle.occ_machine.specs.SameStop.{Agrees, SameArms}
 use Rattle.occ_machine.specs.Alike.{Alike}
 use Rattle.occ_machine.specs.Compiled.{Program}
 use Rattle.occ_machine.specs.Machine.{Body}
@@ -18,7 +19,7 @@ use Rattle.occ_machine.specs.declared.task.Task.{Task}
 use Rattle.occ_machine.specs.declared.task.Wait.TheVariants as W
 use Rattle.occ_net_replay.specs.Replay.{Tasks, HasTask, is_done, may_go}
 use Rattle.occ_net_replay.specs.Moments.{At, GoesOnWith, is_going, is_joining, OnSameChannels, StopsAlike, both_go, both_join, both_offer, both_await, both_choose, both_fork, both_halt, both_fail, both_done, StandAlike}
-use Rattle.occ_net_replay.proofs.Holding.{Stands, may_turn, may_join, offers, awaits, chooses, waits, is_halted, has_failed, has_ended}
+use Rattle.occ_net_replay.proofs.Holding.{AgreesBut, agrees_all, Stands, may_turn, may_join, offers, awaits, chooses, waits, is_halted, has_failed, has_ended}
 use Rattle.occ_net_replay.proofs.Putting.{In, mine}
 use Rattle.occ_net_replay.proofs.States.{State}
 use Rattle.occ_net_replay.proofs.Tables.{task_once}
@@ -63,14 +64,22 @@ module _ (d : Declared) (p : Program) (procs : List Numbered) where
   ahead_of k body t own next ps but (begins_joined e a) (is_going h) = absurd (true≢false (sym h))
   ahead_of k body t own next ps but (begins_joined e a) (is_joining h) = a
 
+  agrees_of : (k : ℕ) (body : Body) (t : Task) (own : Left) (ps : Processes) (but : Numbers) (s : Store) → Begins d p procs k body t own ps but → StoreHas d s → AgreesBut body.cells but t.frame s → Agrees d body.cells t.frame s
+  agrees_of k body t own ps but s (begins_alone g a) typed h = agrees_all d body.cells t.frame s typed h
+  agrees_of k body t own ps but s (begins_joined e a) typed h = agrees_all d body.cells t.frame s typed h
+
   pub goes_ahead : (k : ℕ) (tasks : Tasks) (proc : Process) (s : Store) → State d p procs k tasks proc s
-      → (n : ℕ) (own next : Left) (ps : Processes) (body : Body) (t : Task) → At n own ps proc → GoesOnWith own ps next → slice_get p.bodies n ≡ Some body → HasTask tasks n t → IsTrue (may_go t.wait) → Alike k d body t next
+      → (n : ℕ) (own next : Left) (ps : Processes) (body : Body) (t : Task) → At n own ps proc → GoesOnWith own ps next → slice_get p.bodies n ≡ Some body → HasTask tasks n t → IsTrue (may_go t.wait) → Agrees d body.cells t.frame s × Alike k d body t next
   goes_ahead k tasks proc s st n own next ps body t at g code there may =
       let y = (mine d p procs k s tasks at st.holds).0 in
       let same : y.task ≡ t = task_once tasks n y.has_task there in
       let same_body : y.belongs.body ≡ body = one_body (sym y.belongs.code ∙ code) in
       let stands = subst (λ z. Stands d p procs k y.belongs.body z own ps y.but) same y.stands in
-      subst (λ b. Alike k d b t next) same_body (ahead_of k y.belongs.body t own next ps y.but (begins_as d p procs k y.belongs.body t own ps y.but stands may) g)
+      let begins = begins_as d p procs k y.belongs.body t own ps y.but stands may in
+      let agrees = subst (λ z. AgreesBut y.belongs.body.cells y.but z.frame s) same y.agrees in (
+        subst (λ b. Agrees d b.cells t.frame s) same_body (agrees_of k y.belongs.body t own ps y.but s begins st.typed_store agrees),
+        subst (λ b. Alike k d b t next) same_body (ahead_of k y.belongs.body t own next ps y.but begins g),
+      )
     where
       one_body : {a b : Body} → Some a ≡ Some b → a ≡ b
       one_body e = cc

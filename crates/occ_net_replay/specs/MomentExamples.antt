@@ -12,10 +12,8 @@ use Rattle.occ_term.specs.Steps.{Doing, Do, Offering, Awaiting, Choosing, Forkin
 use Rattle.occ_term.specs.System.{System, process, no_processes, system}
 use Rattle.occ_term.specs.Terms.{Skip, Stop, Plain, and_branch, no_branches}
 use Rattle.occ_term.specs.UnfoldedProgram.{UnfoldedProgram, declared}
-use Rattle.occ_term.specs.Values.{Store}
 use Rattle.occ_machine.specs.Compiled.{Program}
 use Rattle.occ_machine.specs.Machine.{Body, Stopping}
-use Rattle.occ_machine.specs.SameStop.{Agrees}
 use Rattle.occ_machine.specs.declared.task.Task.{Task}
 use Rattle.occ_machine.specs.declared.task.Wait.{Wait}
 use Rattle.occ_machine.specs.declared.task.Wait.TheVariants as W
@@ -103,6 +101,6 @@ has_taken_skip = record { number = 0; turns = 2; pc = 6; frame = variables [] []
 -- The code goes to the end of the process from the arm that the task has taken, and the process has taken an arm with STOP.
 abbrev pub OtherArmRow : Type 0
 OtherArmRow =
-    (u : UnfoldedProgram) (p : Program) (b : Body) (s : Store) (t : Task)
-    → slice_get p.bodies 0 ≡ Some b → Agrees (declared u) b.cells has_taken_skip.frame s → Stopping b has_taken_skip t → t.wait ≡ W.Done
+    (u : UnfoldedProgram) (p : Program) (b : Body) (t : Task)
+    → slice_get p.bodies 0 ≡ Some b → Stopping b has_taken_skip t → t.wait ≡ W.Done
     → IsMoment u p (net_of [] (Some has_taken_skip ∷ [])) (alone_at (Taking [] (SkipTaken Stop)) 0) → ⊥

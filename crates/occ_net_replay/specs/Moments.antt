@@ -11,7 +11,7 @@ use Rattle.occ_term.specs.System.{Process, process, Processes, no_processes, and
 use Rattle.occ_term.specs.Terms.{Branches, Reception, Skip, Term}
 use Rattle.occ_term.specs.UnfoldedProgram.{UnfoldedProgram, IsWellFormed, Lawful, declared, meaning}
 use Rattle.occ_machine.specs.Alike.{Alike}
-use Rattle.occ_machine.specs.SameStop.{indices_in, numbers_of}
+use Rattle.occ_machine.specs.SameStop.{Agrees, indices_in, numbers_of}
 use Rattle.occ_machine.specs.Compiled.{Program, IsCompiledFrom}
 use Rattle.occ_machine.specs.Machine.{Body}
 use Rattle.occ_machine.specs.declared.task.Arm.{Arm}
@@ -21,7 +21,7 @@ use Rattle.occ_machine.specs.declared.task.Wait.TheVariants as W
 use Rattle.occ_net_replay.specs.declared.choice.Choice.{Choice}
 use Rattle.occ_net_replay.specs.Following.{AreBytes, Followed}
 use Rattle.occ_net_replay.specs.Replay.{Net, Tasks, HasTask, OneTurn, Replays, goes_on as replays_on, AreDone, ending_of, first_net, is_done, may_go, standing}
-use Rattle.occ_net_replay.specs.Sharing.{SharesStore}
+use Rattle.occ_net_replay.specs.Sharing.{SharesStore, store_of}
 
 -- ---- the processes of a system
 
@@ -88,13 +88,13 @@ pub data GoesOnWith : Left → Processes → Left → Type 0 where
   is_going : {x : Doing} {k : List Context} → IsGoing x → GoesOnWith (left x k) no_processes (left x k)
   is_joining : {bs : Branches} {k : List Context} {ps : Processes} → AllEnded ps → GoesOnWith (left (Forking bs) k) ps (left (Do Skip) k)
 
--- The code of a process that may go on does from here what the process goes on with, for all turns that can still be counted. So
--- the arm that a run has taken is one that does what the code does.
+-- The frame of a process that may go on has the store's values on the cells of its body, and the code does from here what the
+-- process goes on with, for all turns that can still be counted. So the arm that a run has taken is one that does what the code does.
 abbrev pub DoesAhead : UnfoldedProgram → Program → Net → System → Type 0
 DoesAhead u p net now =
     (n : ℕ) (own next : Left) (ps : Processes) (body : Body) (t : Task) (turns : ℕ)
     → At n own ps (main_process now) → GoesOnWith own ps next → slice_get p.bodies n ≡ Some body → HasTask net.tasks n t → IsTrue (may_go t.wait)
-    → turns + length net.turns < 2 ^ 64 → Alike turns (declared u) body t next
+    → turns + length net.turns < 2 ^ 64 → Agrees (declared u) body.cells t.frame (store_of now) × Alike turns (declared u) body t next
 
 -- ---- nothing is possible that needs no turn
 
