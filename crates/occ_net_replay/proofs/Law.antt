@@ -137,13 +137,15 @@ module _ (u : UnfoldedProgram) (p : Program) (quantum : ℕ) (kb : List ℕ) (w 
 
   -- as many turns as can be counted, and each number of turns below
   ahead : (k : ℕ) (net : Net) (x : AllFollowed k net) → k + length x.events + 1 ≡ 2 ^ 64 → DoesAhead u p net x.now
-  ahead k net x exact n own next ps body t turns at g code there may few =
+  ahead k net x exact n own next ps t turns at g there may few =
       let counted = turns_counted k net x in
       let all : k ≡ (k - turns) + turns = omega (arith, exact, counted, few) in
       let place = subst (λ z. At n own ps (main_process z)) x.follows.is at in
-      let goes = goes_ahead d p procs k net.tasks x.follows.proc x.follows.store x.follows.state n own next ps body t place g code there may in (
-        subst (λ z. Agrees d body.cells t.frame (store_of z)) (sym x.follows.is) goes.0,
-        alike_at_most (k - turns) turns d body t next (subst (λ j. Alike j d body t next) all goes.1),
+      let goes = goes_ahead d p procs k net.tasks x.follows.proc x.follows.store x.follows.state n own next ps t place g there may in (
+        goes.0,
+        goes.1,
+        subst (λ z. Agrees d goes.0.cells t.frame (store_of z)) (sym x.follows.is) goes.2,
+        alike_at_most (k - turns) turns d goes.0 t next (subst (λ j. Alike j d goes.0 t next) all goes.3),
       )
 
   pub is_moment : (k : ℕ) (net : Net) (x : AllFollowed k net) → k + length x.events + 1 ≡ 2 ^ 64 → IsMoment u p net x.now

@@ -1,6 +1,6 @@
 -- Stops that are alike and stops that are not.
-use Rattle.std.specs.Prelude.{pos}
-use Rattle.std.proofs.Common.{◌≡◌, ◌∙◌, ◌<◌, ◌+◌, ◌^◌, refl, sym, ap, subst, Bool, true, false, ℕ, zero, suc, ◌⊎◌, inl, inr, ℤ, List, [], ◌∷◌, Option, None, arith}
+use Rattle.std.specs.Prelude.{slice_get, pos}
+use Rattle.std.proofs.Common.{◌≡◌, ◌∙◌, ◌<◌, ◌+◌, ◌^◌, refl, sym, ap, subst, Bool, true, false, ℕ, zero, suc, ◌⊎◌, inl, inr, ℤ, List, [], ◌∷◌, Option, None, Some, length, arith}
 use mathlib.Core.Bool.{true≢false}
 use Rattle.occ_term.specs.declared.fault.Fault.{Fault}
 use Rattle.occ_term.specs.declared.message.Message.{Message}
@@ -10,22 +10,25 @@ use Rattle.occ_term.specs.Runs.{meets_skip}
 use Rattle.occ_term.specs.System.{Processes, arm_skips, change_here, no_processes, passes_skip, process}
 use Rattle.occ_term.specs.Terms.{Branches, Reception, Skip, Stop, Term}
 use Rattle.occ_term.specs.Turns.{Turn, more, none, single_turn, stops}
-use Rattle.occ_term.specs.UnfoldedProgram.{declared}
+use Rattle.occ_term.specs.UnfoldedProgram.{UnfoldedProgram, declared}
 use Rattle.occ_term.specs.Values.{Store}
 use Rattle.occ_term.proofs.OneResult.{one_turn}
 use Rattle.occ_machine.specs.Alike.{Alike}
-use Rattle.occ_machine.specs.SameStop.{SameStop, indices_in, numbers_of}
+use Rattle.occ_machine.specs.SameStop.{Agrees, SameStop, indices_in, numbers_of}
 use Rattle.occ_machine.specs.declared.task.Arm.{Arm}
+use Rattle.occ_machine.specs.Compiled.{Program}
+use Rattle.occ_machine.specs.Machine.{Body, Stopping}
 use Rattle.occ_machine.specs.declared.task.Task.{Task}
 use Rattle.occ_machine.specs.declared.task.Wait.{Wait}
 use Rattle.occ_machine.specs.declared.task.Wait.TheVariants as W
-use Rattle.occ_net_replay.specs.Examples.{whole_number}
-use Rattle.occ_net_replay.specs.MomentExamples.{AtStop, EitherArmRows, OtherArmRow, OtherStoreRows, SameStopRows, OtherStopRows, MissingRows, UnquietRows, has_taken_skip}
-use Rattle.occ_net_replay.specs.Moments.{At, Among, here, below, OnSameChannels, ProceedsBy, by_term, by_taking, message_taken, both_go, both_offer, both_await, both_choose, both_fork, both_fail, is_going}
+use Rattle.occ_net_replay.specs.Examples.{net_of, whole_number}
+use Rattle.occ_net_replay.specs.MomentExamples.{AtStop, EitherArmRows, OtherArmRows, OtherStoreRows, SameStopRows, OtherStopRows, MissingRows, UnquietRows, alone_at, has_taken_skip}
+use Rattle.occ_net_replay.specs.Moments.{At, Among, here, below, OnSameChannels, ProceedsBy, by_term, by_taking, message_taken, both_go, both_offer, both_await, both_choose, both_fork, both_fail, is_going, numbers_in, IsMoment, StopsAlike}
+use Rattle.occ_net_replay.specs.Sharing.{store_of}
 use Rattle.occ_net_replay.proofs.OneStop.{stopping_once}
 
 pub same_stop_rows : SameStopRows
-same_stop_rows = (both_go by_term, both_offer, both_await, both_choose (refl, (refl, tt)), both_fork refl, both_go by_taking, both_go by_taking)
+same_stop_rows = (both_go by_term, both_offer, both_await, both_choose (refl, (refl, tt)), both_fork refl refl, both_go by_taking, both_go by_taking)
 
 -- ---- what stops alike has in common
 
@@ -41,9 +44,9 @@ at_choice : {pri b : Bool} {arms : List Arm} {es : List Enabled} → AtStop (W.C
 at_choice (both_go x) = elim x [ ]
 at_choice (both_choose h) = (refl, h)
 
-at_fork : {ns : List ℕ} {bs : Branches} → AtStop (W.Joins ns) (Forking bs) → numbers_of bs ≡ ns
+at_fork : {ns : List ℕ} {bs : Branches} {k : List Context} {ps : Processes} → StopsAlike (W.Joins ns) (left (Forking bs) k) ps → (numbers_of bs ≡ ns) × (numbers_in ps ≡ ns)
 at_fork (both_go x) = elim x [ ]
-at_fork (both_fork e) = e
+at_fork (both_fork e f) = (e, f)
 
 at_fault : {e f : Fault} → AtStop (W.Faulted e) (Faulted f) → e ≡ f
 at_fault (both_go x) = elim x [ ]
@@ -79,7 +82,9 @@ other_stop_rows = (
   λ x. let e = (at_choice x).1.0 in cc,
   λ x. (at_choice x).1.1,
   λ x. (at_choice x).1.1,
-  λ x. let e = at_fork x in let z : ◌≡◌ {A = ℕ} 4 5 = cc in omega (arith, z),
+  λ x. let e = (at_fork x).0 in let z : ◌≡◌ {A = ℕ} 4 5 = cc in omega (arith, z),
+  λ x. let e = ap length (at_fork x).1 in omega (arith, e),
+  λ x. let e = (at_fork x).1 in let z : ◌≡◌ {A = ℕ} 5 4 = cc in omega (arith, z),
   λ x. let z = ap (λ (f : Fault). f.line) (at_fault x) in omega (arith, z),
   not_halted,
   not_done,
@@ -141,14 +146,31 @@ halts_next : {q : ℕ} {rest : Left} {s s' : Store} → Turn q (left (Taking [] 
 halts_next {q = zero} t = elim t [ ]
 halts_next {q = suc q} t = (one_turn _ _ _ _ _ _ _ t (stops (single_turn (more (take_in refl) refl none) stop refl) (inr refl))).0
 
-pub other_arm_row : OtherArmRow
-other_arm_row u p b t code turn ends m =
+no_body : (u : UnfoldedProgram) (p : Program) → p.bodies ≡ [] → IsMoment u p (net_of [] (Some has_taken_skip ∷ [])) (alone_at (Taking [] (SkipTaken Skip)) 0) → ⊥
+no_body u p empty m =
     let few : 1 + 0 < 2 ^ 64 = omega arith in
-    let goes = m.ahead 0 _ _ no_processes b has_taken_skip 1 here (is_going refl) code refl refl few in
-    let y = goes.1 _ goes.0 in
+    let goes = m.ahead 0 _ _ no_processes has_taken_skip 1 here (is_going refl) refl refl few in
+    let nothing : slice_get p.bodies 0 ≡ None = ap (λ (l : List Body). slice_get l 0) empty in
+    let both : Some goes.0 ≡ None = sym goes.1 ∙ nothing in absurd cc
+
+other_arm : (u : UnfoldedProgram) (p : Program) (b : Body) (t : Task)
+    → slice_get p.bodies 0 ≡ Some b → Stopping b has_taken_skip t → t.wait ≡ W.Done → IsMoment u p (net_of [] (Some has_taken_skip ∷ [])) (alone_at (Taking [] (SkipTaken Stop)) 0) → ⊥
+other_arm u p b t code turn ends m =
+    let few : 1 + 0 < 2 ^ 64 = omega arith in
+    let goes = m.ahead 0 _ _ no_processes has_taken_skip 1 here (is_going refl) refl refl few in
+    let same : goes.0 ≡ b = one_body (sym goes.1 ∙ code) in
+    let s = store_of (alone_at (Taking [] (SkipTaken Stop)) 0) in
+    let ahead = subst (λ (x : Body). Agrees (declared u) x.cells has_taken_skip.frame s × Alike 1 (declared u) x has_taken_skip (left (Taking [] (SkipTaken Stop)) [])) same (goes.2, goes.3) in
+    let y = ahead.1 s ahead.0 in
     let once : y.after ≡ t = stopping_once b has_taken_skip y.after t y.stops turn in
     let x : SameStop (declared u) (Alike 0 (declared u) b) y.after y.rest W.Done = subst (SameStop (declared u) (Alike 0 (declared u) b) y.after y.rest) (ap (λ (z : Task). z.wait) once ∙ ends) y.same in
     not_both (sym x.1 ∙ halts_next y.turn)
   where
+    one_body : {x y : Body} → Some x ≡ Some y → x ≡ y
+    one_body e = cc
+
     not_both : {k : List Context} → left Done k ≡ left Halted [] → ⊥
     not_both e = let same : Done ≡ Halted = cc in absurd cc
+
+pub other_arm_rows : OtherArmRows
+other_arm_rows = (no_body, other_arm)

@@ -9,7 +9,7 @@ use Rattle.occ_term.specs.Frames.{is_held}
 use Rattle.occ_term.specs.Runs.{MeetsAtMost}
 use Rattle.occ_term.specs.Selecting.{Enabled, IndexTo, SkipArm}
 use Rattle.occ_term.specs.Steps.{Doing, Do, Offering, Awaiting, Choosing, Forking, Halted, Faulted, Done, MessageTaken, SkipTaken, Taking, left}
-use Rattle.occ_term.specs.System.{System, process, no_processes, system}
+use Rattle.occ_term.specs.System.{Processes, System, process, no_processes, and_process, system}
 use Rattle.occ_term.specs.Terms.{Skip, Stop, Plain, and_branch, no_branches}
 use Rattle.occ_term.specs.UnfoldedProgram.{UnfoldedProgram, declared}
 use Rattle.occ_machine.specs.Compiled.{Program}
@@ -25,13 +25,20 @@ use Rattle.occ_net_replay.specs.Replay.{byte_message}
 abbrev pub AtStop : Wait → Doing → Type 0
 AtStop w x = StopsAlike w (left x []) no_processes
 
+-- at a PAR with one branch, number 4, above these processes
+abbrev pub AtFork : List ℕ → Processes → Type 0
+AtFork ns ps = StopsAlike (W.Joins ns) (left (Forking (and_branch 4 Skip no_branches)) []) ps
+
+abbrev pub one_branch : ℕ → Processes
+one_branch n = and_process (process n (left (Do Skip) []) no_processes) no_processes
+
 abbrev pub SameStopRows : Type 0
 SameStopRows =
     AtStop W.Ready (Do Skip)
     × AtStop (W.Offers 3 (whole_number 5)) (Offering 3 (whole_number 5))
     × AtStop (W.Awaits 3) (Awaiting 3 (Plain [] Skip))
     × AtStop (W.Chooses true (arm 10 (Some 3) ∷ arm 20 None ∷ [])) (Choosing true (taking_in 3 ∷ SkipArm [] Stop ∷ []))
-    × AtStop (W.Joins (4 ∷ [])) (Forking (and_branch 4 Skip no_branches))
+    × AtFork (4 ∷ []) (one_branch 4)
     × AtStop (W.Took 10 [] None) (Taking [] (SkipTaken Stop))
     × AtStop (W.Took 20 (pos 2 ∷ []) (Some (whole_number 5))) (Taking (IndexTo 7 (pos 2) ∷ []) (MessageTaken (Plain [] Skip) (whole_number 5)))
 
@@ -46,7 +53,9 @@ OtherStopRows =
     × (AtStop (W.Chooses true (arm 10 None ∷ [])) (Choosing true (taking_in 3 ∷ [])) → ⊥)
     × (AtStop (W.Chooses true (arm 10 (Some 3) ∷ [])) (Choosing true (taking_in 3 ∷ SkipArm [] Stop ∷ [])) → ⊥)
     × (AtStop (W.Chooses true (arm 10 (Some 3) ∷ arm 20 None ∷ [])) (Choosing true (taking_in 3 ∷ [])) → ⊥)
-    × (AtStop (W.Joins (5 ∷ [])) (Forking (and_branch 4 Skip no_branches)) → ⊥)
+    × (AtFork (5 ∷ []) (one_branch 4) → ⊥)
+    × (AtFork (4 ∷ []) no_processes → ⊥)
+    × (AtFork (4 ∷ []) (one_branch 5) → ⊥)
     × (AtStop (W.Faulted (fault Arith 4)) (Faulted (fault Arith 5)) → ⊥)
     × (AtStop W.Done Halted → ⊥)
     × (AtStop W.Ready Done → ⊥)
@@ -98,9 +107,11 @@ EitherArmRows =
 abbrev pub has_taken_skip : Task
 has_taken_skip = record { number = 0; turns = 2; pc = 6; frame = variables [] [] []; wait = W.Took 20 [] None }
 
--- The code goes to the end of the process from the arm that the task has taken, and the process has taken an arm with STOP.
-abbrev pub OtherArmRow : Type 0
-OtherArmRow =
-    (u : UnfoldedProgram) (p : Program) (b : Body) (t : Task)
+-- Of a program without code; and the code goes to the end of the process from the arm that the task has taken, and the process has
+-- taken an arm with STOP.
+abbrev pub OtherArmRows : Type 0
+OtherArmRows =
+    ((u : UnfoldedProgram) (p : Program) → p.bodies ≡ [] → IsMoment u p (net_of [] (Some has_taken_skip ∷ [])) (alone_at (Taking [] (SkipTaken Skip)) 0) → ⊥)
+    × ((u : UnfoldedProgram) (p : Program) (b : Body) (t : Task)
     → slice_get p.bodies 0 ≡ Some b → Stopping b has_taken_skip t → t.wait ≡ W.Done
-    → IsMoment u p (net_of [] (Some has_taken_skip ∷ [])) (alone_at (Taking [] (SkipTaken Stop)) 0) → ⊥
+    → IsMoment u p (net_of [] (Some has_taken_skip ∷ [])) (alone_at (Taking [] (SkipTaken Stop)) 0) → ⊥)

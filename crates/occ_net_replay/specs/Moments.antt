@@ -63,6 +63,11 @@ pub data ProceedsBy : Wait → Doing → Type 0 where
   by_loop : {l : Loop} → ProceedsBy W.Ready (Again l)
   by_taking : {arm : ℕ} {again : List Setting} {what : Taken} → ProceedsBy (W.Took arm (indices_in again) (message_taken what)) (Taking again what)
 
+-- the numbers of these processes
+abbrev pub numbers_in : Processes → List ℕ
+numbers_in no_processes = []
+numbers_in (and_process (process n own ps) qs) = n ∷ numbers_in qs
+
 -- What a task waits for, and what is left of the process with its live branches: both go on by the same, or wait for the same on the
 -- same channel, with the same message, for the same branches, or have come to the same end.
 pub data StopsAlike : Wait → Left → Processes → Type 0 where
@@ -71,7 +76,7 @@ pub data StopsAlike : Wait → Left → Processes → Type 0 where
   both_offer : {c : ℕ} {m : Message} {k : List Context} → StopsAlike (W.Offers c m) (left (Offering c m) k) no_processes
   both_await : {c : ℕ} {list : Reception} {k : List Context} → StopsAlike (W.Awaits c) (left (Awaiting c list) k) no_processes
   both_choose : {pri : Bool} {arms : List Arm} {es : List Enabled} {k : List Context} → OnSameChannels arms es → StopsAlike (W.Chooses pri arms) (left (Choosing pri es) k) no_processes
-  both_fork : {ns : List ℕ} {bs : Branches} {k : List Context} {ps : Processes} → numbers_of bs ≡ ns → StopsAlike (W.Joins ns) (left (Forking bs) k) ps
+  both_fork : {ns : List ℕ} {bs : Branches} {k : List Context} {ps : Processes} → numbers_of bs ≡ ns → numbers_in ps ≡ ns → StopsAlike (W.Joins ns) (left (Forking bs) k) ps
   both_halt : {k : List Context} → StopsAlike W.Halted (left Halted k) no_processes
   both_fail : {e : Fault} {k : List Context} → StopsAlike (W.Faulted e) (left (Faulted e) k) no_processes
   both_done : {k : List Context} → StopsAlike W.Done (left Done k) no_processes
@@ -88,13 +93,13 @@ pub data GoesOnWith : Left → Processes → Left → Type 0 where
   is_going : {x : Doing} {k : List Context} → IsGoing x → GoesOnWith (left x k) no_processes (left x k)
   is_joining : {bs : Branches} {k : List Context} {ps : Processes} → AllEnded ps → GoesOnWith (left (Forking bs) k) ps (left (Do Skip) k)
 
--- The frame of a process that may go on has the store's values on the cells of its body, and the code does from here what the
--- process goes on with, for all turns that can still be counted. So the arm that a run has taken is one that does what the code does.
+-- A process that may go on has a body of code. Its frame has the store's values on the body's cells, and the code does from here
+-- what the process goes on with, for all turns that can still be counted. So the arm that a run has taken does what the code does.
 abbrev pub DoesAhead : UnfoldedProgram → Program → Net → System → Type 0
 DoesAhead u p net now =
-    (n : ℕ) (own next : Left) (ps : Processes) (body : Body) (t : Task) (turns : ℕ)
-    → At n own ps (main_process now) → GoesOnWith own ps next → slice_get p.bodies n ≡ Some body → HasTask net.tasks n t → IsTrue (may_go t.wait)
-    → turns + length net.turns < 2 ^ 64 → Agrees (declared u) body.cells t.frame (store_of now) × Alike turns (declared u) body t next
+    (n : ℕ) (own next : Left) (ps : Processes) (t : Task) (turns : ℕ)
+    → At n own ps (main_process now) → GoesOnWith own ps next → HasTask net.tasks n t → IsTrue (may_go t.wait)
+    → turns + length net.turns < 2 ^ 64 → (body : Body) × (slice_get p.bodies n ≡ Some body) × Agrees (declared u) body.cells t.frame (store_of now) × Alike turns (declared u) body t next
 
 -- ---- nothing is possible that needs no turn
 

@@ -7,7 +7,7 @@ ghost use Rattle.occ_net_replay.specs.StepConverse.{EndedStepRunsAreRuns, StepRu
 ghost use Rattle.occ_net_replay.specs.Choosing.{ChoicesTakeReadyArms, OffersReachChoices};
 ghost use Rattle.occ_net_replay.specs.Examples.{ChoiceRows, ClosedRows, EndingRows, ForkRows, LateOfferRows, ListenRows, MeetingRows, NotedRows, FirstWithPriority, SkipRows, StopRows, TurnRows};
 ghost use Rattle.occ_net_replay.specs.Following.{NotedNeverEnd, OneNeverForks, ReadyTasksStop, ReplaysAreRuns};
-ghost use Rattle.occ_net_replay.specs.MomentExamples.{EitherArmRows, MissingRows, OtherArmRow, OtherStopRows, OtherStoreRows, SameStopRows, UnquietRows};
+ghost use Rattle.occ_net_replay.specs.MomentExamples.{EitherArmRows, MissingRows, OtherArmRows, OtherStopRows, OtherStoreRows, SameStopRows, UnquietRows};
 ghost use Rattle.occ_net_replay.specs.Moments.{OneRunForAll, ReadyGoOn, ReplaysAreOneRun};
 ghost use Rattle.occ_net_replay.specs.OneReplay.{OneReplay};
 ghost use Rattle.occ_net_replay.specs.Sharing.{ReplaysShareStore};
@@ -64,7 +64,7 @@ pub fn small_moments()
     ensures unquiet { UnquietRows }
     ensures store { OtherStoreRows }
     ensures either { EitherArmRows }
-    ensures arm { OtherArmRow }
+    ensures arm { OtherArmRows }
 {}
 
 /// A process that comes to a choice takes a ready arm at once, by the number of its turn.

@@ -1,4 +1,4 @@
-use Rattle.occ_net_replay.proofs.MomentExamples.{either_arm_rows, missing_rows, other_arm_row, other_stop_rows, other_store_rows, same_stop_rows, unquiet_rows}
+use Rattle.occ_net_replay.proofs.MomentExamples.{either_arm_rows, missing_rows, other_arm_rows, other_stop_rows, other_store_rows, same_stop_rows, unquiet_rows}
 use Rattle.occ_net_replay.proofs.laws.small_moments.Goals as goal
 
 pub returns-clause-same : goal.returns-clause-same
@@ -20,4 +20,4 @@ pub returns-clause-either : goal.returns-clause-either
 returns-clause-either c = either_arm_rows
 
 pub returns-clause-arm : goal.returns-clause-arm
-returns-clause-arm c = other_arm_row
+returns-clause-arm c = other_arm_rows
