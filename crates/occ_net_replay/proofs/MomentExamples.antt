@@ -23,7 +23,7 @@ use Rattle.occ_machine.specs.declared.task.Wait.{Wait}
 use Rattle.occ_machine.specs.declared.task.Wait.TheVariants as W
 use Rattle.occ_net_replay.specs.Examples.{net_of, whole_number}
 use Rattle.occ_net_replay.specs.MomentExamples.{AtStop, EitherArmRows, OtherArmRows, OtherStoreRows, SameStopRows, OtherStopRows, MissingRows, UnquietRows, alone_at, has_taken_skip}
-use Rattle.occ_net_replay.specs.Moments.{At, Among, here, below, OnSameChannels, ProceedsBy, by_term, by_taking, message_taken, both_go, both_offer, both_await, both_choose, both_fork, both_fail, is_going, numbers_in, IsMoment, StopsAlike}
+use Rattle.occ_net_replay.specs.Moments.{At, Among, here, below, OnSameChannels, ProceedsBy, by_term, by_taking, message_taken, both_go, both_offer, both_await, both_choose, both_fork, both_fail, is_going, numbers_below, IsMoment, StopsAlike}
 use Rattle.occ_net_replay.specs.Sharing.{store_of}
 use Rattle.occ_net_replay.proofs.OneStop.{stopping_once}
 
@@ -44,7 +44,7 @@ at_choice : {pri b : Bool} {arms : List Arm} {es : List Enabled} → AtStop (W.C
 at_choice (both_go x) = elim x [ ]
 at_choice (both_choose h) = (refl, h)
 
-at_fork : {ns : List ℕ} {bs : Branches} {k : List Context} {ps : Processes} → StopsAlike (W.Joins ns) (left (Forking bs) k) ps → (numbers_of bs ≡ ns) × (numbers_in ps ≡ ns)
+at_fork : {ns : List ℕ} {bs : Branches} {k : List Context} {ps : Processes} → StopsAlike (W.Joins ns) (left (Forking bs) k) ps → (numbers_of bs ≡ ns) × (numbers_below ps ≡ ns)
 at_fork (both_go x) = elim x [ ]
 at_fork (both_fork e f) = (e, f)
 

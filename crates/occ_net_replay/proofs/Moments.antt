@@ -19,7 +19,7 @@ use Rattle.occ_machine.specs.declared.task.Arm.{Arm}
 use Rattle.occ_machine.specs.declared.task.Task.{Task}
 use Rattle.occ_machine.specs.declared.task.Wait.TheVariants as W
 use Rattle.occ_net_replay.specs.Replay.{Tasks, HasTask, is_done, may_go}
-use Rattle.occ_net_replay.specs.Moments.{At, GoesOnWith, is_going, is_joining, OnSameChannels, StopsAlike, both_go, both_join, both_offer, both_await, both_choose, both_fork, both_halt, both_fail, both_done, StandAlike, numbers_in}
+use Rattle.occ_net_replay.specs.Moments.{At, GoesOnWith, is_going, is_joining, OnSameChannels, StopsAlike, both_go, both_join, both_offer, both_await, both_choose, both_fork, both_halt, both_fail, both_done, StandAlike, numbers_below}
 use Rattle.occ_net_replay.proofs.Holding.{AgreesBut, SameNumbers, agrees_all, Stands, may_turn, may_join, offers, awaits, chooses, waits, is_halted, has_failed, has_ended}
 use Rattle.occ_net_replay.proofs.Putting.{In, mine}
 use Rattle.occ_net_replay.proofs.States.{State}
@@ -33,7 +33,7 @@ on_same d Go t k (a ∷ arms) [] h = absurd h
 on_same d Go t k (a ∷ arms) (SkipArm again body ∷ es) h = (h.0.0, on_same d Go t k arms es h.1)
 on_same d Go t k (a ∷ arms) (InputArm again c list ∷ es) h = (h.0.0, on_same d Go t k arms es h.1)
 
-same_numbers : (bs : Branches) (ps : Processes) → SameNumbers bs ps → numbers_in ps ≡ numbers_of bs
+same_numbers : (bs : Branches) (ps : Processes) → SameNumbers bs ps → numbers_below ps ≡ numbers_of bs
 same_numbers no_branches no_processes h = refl
 same_numbers no_branches (and_process p ps) h = absurd h
 same_numbers (and_branch n b bs) no_processes h = absurd h

@@ -64,9 +64,9 @@ pub data ProceedsBy : Wait → Doing → Type 0 where
   by_taking : {arm : ℕ} {again : List Setting} {what : Taken} → ProceedsBy (W.Took arm (indices_in again) (message_taken what)) (Taking again what)
 
 -- the numbers of these processes
-abbrev pub numbers_in : Processes → List ℕ
-numbers_in no_processes = []
-numbers_in (and_process (process n own ps) qs) = n ∷ numbers_in qs
+abbrev pub numbers_below : Processes → List ℕ
+numbers_below no_processes = []
+numbers_below (and_process (process n own ps) qs) = n ∷ numbers_below qs
 
 -- What a task waits for, and what is left of the process with its live branches: both go on by the same, or wait for the same on the
 -- same channel, with the same message, for the same branches, or have come to the same end.
@@ -76,7 +76,7 @@ pub data StopsAlike : Wait → Left → Processes → Type 0 where
   both_offer : {c : ℕ} {m : Message} {k : List Context} → StopsAlike (W.Offers c m) (left (Offering c m) k) no_processes
   both_await : {c : ℕ} {list : Reception} {k : List Context} → StopsAlike (W.Awaits c) (left (Awaiting c list) k) no_processes
   both_choose : {pri : Bool} {arms : List Arm} {es : List Enabled} {k : List Context} → OnSameChannels arms es → StopsAlike (W.Chooses pri arms) (left (Choosing pri es) k) no_processes
-  both_fork : {ns : List ℕ} {bs : Branches} {k : List Context} {ps : Processes} → numbers_of bs ≡ ns → numbers_in ps ≡ ns → StopsAlike (W.Joins ns) (left (Forking bs) k) ps
+  both_fork : {ns : List ℕ} {bs : Branches} {k : List Context} {ps : Processes} → numbers_of bs ≡ ns → numbers_below ps ≡ ns → StopsAlike (W.Joins ns) (left (Forking bs) k) ps
   both_halt : {k : List Context} → StopsAlike W.Halted (left Halted k) no_processes
   both_fail : {e : Fault} {k : List Context} → StopsAlike (W.Faulted e) (left (Faulted e) k) no_processes
   both_done : {k : List Context} → StopsAlike W.Done (left Done k) no_processes
