@@ -1,6 +1,6 @@
 #!/usr/bin/env python3
-"""Keeps three tables equal to what they are taken from: the causes of refusals, which docs/language.md has, and the words of the
-command line, in crates/occ_play_inputs/src/words.rt, from which the manual page and the shells' completions are made.
+"""Keeps four tables equal to what they are taken from: the names and the causes of refusals, which docs/language.md has, and the words
+of the command line, in crates/occ_play_inputs/src/words.rt, from which the manual page and the shells' completions are made.
 
     python3 tools/tables.py           says which file differs; the status is 1 where one does
     python3 tools/tables.py --write   writes the files
@@ -28,6 +28,16 @@ def causes():
     return (
         "//! The causes of refusals in `docs/language.md`. `tools/tables.py` writes this file.\n\n"
         f"pub const CAUSES: [(u32, &str); {len(rows)}] = [\n{''.join(rows)}];\n"
+    )
+
+
+def names():
+    """The names of refusals in docs/language.md, by their numbers."""
+    found = re.findall(r"(?m)^\| (\d+) ([A-Z]\w+) \| .* \|$", (TOP / "docs/language.md").read_text())
+    rows = "".join(f"    ({number}, {literal(name)}),\n" for number, name in found)
+    return (
+        "//! The names of refusals in `docs/language.md`. `tools/tables.py` writes this file.\n\n"
+        f"pub const NAMES: [(u32, &str); {len(found)}] = [\n{rows}];\n"
     )
 
 
@@ -151,6 +161,7 @@ def in_fish():
 differ = False
 TABLES = {
     "crates/occ_explain/src/cause_table.rt": causes,
+    "crates/occ_explaining/src/refusal_names.rt": names,
     "docs/occam.1": manual,
     "tools/completions/occam.bash": in_bash,
     "tools/completions/_occam": in_zsh,

@@ -46,7 +46,7 @@ class Wanted:
         file = next((words[at + 1] for at, word in enumerate(words) if word in FILES), None)
         beside = any(word in ("--explain", "--watch") for word in words)
         if self.line == "accepted":
-            return 0, b"", b"", None
+            return 0, b"", told, None
         if self.is_refused:
             status = 7 if self.line.split()[1] in OF_WORDS else 1
             return status, b"", self.line.encode() + b"\n" + told, None

@@ -39,7 +39,7 @@ WRONG = [
     "--explore --limit=1", "--workers=2 --explore", "--explore --choices=c", "--explore --trace", "--explore --watch",
     "--explore --chart=s", "--explore --arrows=5", "--explore --steps=u", "--explore --seed=1", "--explore --seed=1 --tries=2",
     "--explore --trace-to=t", "--explore --json", "--explore --last=1", "--check --explore", "--check --states=5", "--check --record=r",
-    "--check --trace", "--check --trace-to=t", "--check --json", "--check --chart=s", "--check --arrows=5", "--check --last=5",
+    "--check --trace", "--check --trace-to=t", "--check --trace-to=t --json", "--check --chart=s", "--check --arrows=5", "--check --last=5",
     "--check --steps=u", "--check --seed=1", "--check --tries=2", "--check --choices=c", "--check --workers=2", "--check --watch",
     "--check --limit=1",
     # words that exclude one another, and words that need another one
@@ -53,7 +53,7 @@ WRONG = [
 ALLOWED = [
     "--limit 10000000 --trace", "--trace --limit=2", "--errors halt", "--quantum=65536 --errors=stop --workers=64 --watch --explain",
     "--chart=s.svg --arrows=0", "--explore", "--explore=full", "--explore=endings --states=10000000 --quantum=7 --errors=stop --record=r",
-    "--check", "--seed=1000000000 --tries=2 --trace-to=t --json --steps=u --chart=s --last=3", "--record=g --chart=h --steps=s",
+    "--check", "--check --json", "--seed=1000000000 --tries=2 --trace-to=t --json --steps=u --chart=s --last=3", "--record=g --chart=h --steps=s",
 ]
 
 

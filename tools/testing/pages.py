@@ -1,6 +1,7 @@
 """The commands of the pages: each is run as it stands there, and what comes of it is compared with what the page shows.
 
 A block that is indented by four spaces may hold commands, behind `$ `, and below each what it prints. A line `..` stands for any lines.
+Each command is run on a terminal, as by a reader, with NO_COLOR set; to one that reads the terminal Ctrl-D is typed at once.
 All commands of a page are run in one folder, which has `examples/`, so a later one finds the files of those before it. A block
 below a sentence with the words "into `NAME`" is that file. A block below `<!-- not run -->` is left out: what it prints changes
 from day to day.
@@ -9,14 +10,14 @@ import os
 import pathlib
 import re
 import shutil
-import subprocess
 import tempfile
 
-from .running import SECONDS, TOP, Job
+from .running import TOP, Job, shown_on
 
 PAGES = ["README.md", *sorted(str(path.relative_to(TOP)) for path in (TOP / "docs").rglob("*.md"))]
 INTO = re.compile(r"\binto\s+`([\w./-]+)`")
 LEFT_OUT = "<!-- not run -->"
+CTRL_D = "\x04"
 
 
 def blocks(text):
@@ -71,16 +72,14 @@ def check(program, page):
         shutil.copytree(TOP / "docs", folder / "docs")
         (folder / "bin").mkdir()
         (folder / "bin/occam").symlink_to(program)
-        given = dict(os.environ, PATH=f"{folder}/bin:{os.environ['PATH']}")
+        path = f"{folder}/bin:{os.environ['PATH']}"
         for part in commands((TOP / page).read_text(encoding="utf-8")):
             if len(part) == 2:
                 (folder / part[0]).write_text(part[1], encoding="utf-8")
                 continue
             number, command, shown = part
-            done = subprocess.run(
-                ["bash", "-c", command], cwd=folder, env=given, stdout=subprocess.PIPE, stderr=subprocess.STDOUT, timeout=SECONDS, check=False
-            )
-            printed = done.stdout.decode(errors="replace").splitlines()
+            _, printed, _ = shown_on(["bash", "-c", command], folder, CTRL_D, PATH=path, NO_COLOR="1")
+            printed = printed.splitlines()
             if not agrees(printed, shown):
                 yield f"line {number}: {command}: {' / '.join(printed[:6])}"
 

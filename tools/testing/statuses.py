@@ -71,8 +71,10 @@ WAITING = """  p0 main, line 3: waits for p1 p2
   p2 main, line 11: awaits d, which p1 writes
   in a circle, each waits for the next: p1 p2
 """
-NOTICE = "the keyboard is read to its end first: Ctrl-D ends it, < /dev/null is none\n"
+NOTICE = "the program reads the keyboard: type its input, then Ctrl-D on a line of its own\n"
+USAGE = "Compiles and runs an occam 2 program.\n\nUsage: occam [FILE] [OPTIONS]\n\n`occam FILE` runs the program in FILE, `occam --help` lists the options\n"
 MISSING = "no such file or folder\n"
+NO_SOURCE = MISSING + "  `occam FILE` runs the program in FILE, `occam --help` lists the options\n"
 STOPPED = '1 stopped "" by 1 choice\neach run ends after 1 turn\none answer: the program has no ALT\n'
 SHARED_TOLD = """refused 50 SharedVariable line 5 x
 x.occ:5:5: `x` is written in one branch of a PAR and used in another
@@ -133,10 +135,10 @@ CASES = [
     of(LETTER, [], 6, "", "write failed\n", to="/dev/full"),
     of(LETTER, ["--record", "none/x"], 6, "A", "write failed\n"),
     of(LETTER, ["--chart", "none/x"], 6, "A", "write failed\n"),
-    Case(["none.occ", "--explain"], 6, "", f"read failed\nnone.occ: {MISSING}"),
+    Case(["none.occ", "--explain"], 6, "", f"read failed\nnone.occ: {NO_SOURCE}"),
     Case([".", "--explain"], 6, "", "read failed\n.: it is a folder\n"),
     Case(["--check", "--explain", "x/y"], 6, "", "read failed\nx/y: a part of the path is no folder\n", files={"x": ""}),
-    Case(["a\x1b[31m\x7f\u009bé\n.occ", "--explain"], 6, "", f"read failed\na\\x1b[31m\\x7f\\xc2\\x9bé\\x0a.occ: {MISSING}"),
+    Case(["a\x1b[31m\x7f\u009bé\n.occ", "--explain"], 6, "", f"read failed\na\\x1b[31m\\x7f\\xc2\\x9bé\\x0a.occ: {NO_SOURCE}"),
     Case(["b\x1bc"], 1, "", "refused 50 SharedVariable line 5 x\n", files={"b\x1bc": SHARED}),
     Case(["b\x1bc", "--explain"], 1, "", SHARED_TOLD.replace("x.occ", "b\\x1bc"), files={"b\x1bc": SHARED}),
     Case(["a.occ", "b\x1bc"], 7, "", "error: unexpected argument 'b\\x1bc' found\nUsage: occam [FILE] [OPTIONS]\noccam --help says what is allowed\n"),
@@ -309,7 +311,8 @@ def typed(program):
         cases = [
             (["x.occ"], "abc\n\x04", (0, "abc", NOTICE)),
             (["x.occ", "--explore"], "abc\n\x04", (0, '1 ended "abc" by 10 choices\neach run ends after 10 turns\none answer: the program has no ALT\n', NOTICE)),
-            ([], f"{LETTER}\x04", (0, "A", "")),
+            ([], "", (7, "", USAGE)),
+            (["--trace"], f"{LETTER}\x04", (0, "A\n1 c1 screen p0>screen 65\nended\n", "")),
             (["x.occ", "--check"], "", (0, "", "")),
             (["none.occ"], "", (6, "", "read failed\n")),
         ]

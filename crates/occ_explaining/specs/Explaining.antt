@@ -78,9 +78,9 @@ refusal_in (plays.Write n) = None
 refusal_in (plays.Run f) = None
 refusal_in (plays.Memory e) = None
 
--- An explanation of a refusal of this number: a place of the text, not above the line that the refusal names, with no logical line begun
--- between, and with the line that stands there; and some words, which are the cause where nothing is told closer.
-pub record IsExplained (source file : List ℕ) (number named : ℕ) (bytes : List ℕ) : Type 0 where
+-- What is told of a refusal of this number, written in some way: a place of the text, not above the line that the refusal names, with
+-- no logical line begun between; and some words, which are the cause where nothing is told closer.
+pub record IsToldAs (written : (line column : ℕ) → (wrong hint : List ℕ) → List ℕ) (source : List ℕ) (number named : ℕ) (bytes : List ℕ) : Type 0 where
   pub line : ℕ
   pub column : ℕ
   pub wrong : List ℕ
@@ -90,7 +90,12 @@ pub record IsExplained (source file : List ℕ) (number named : ℕ) (bytes : Li
   pub near : 1 ≤ named → IsNear source named line
   pub cause : TellsCause number wrong
   pub some : 1 ≤ length wrong
-  pub is : bytes ≡ explained_text file line column (line_numbered source line) wrong hint
+  pub is : bytes ≡ written line column wrong hint
+
+-- as an explanation, with the line that stands there
+abbrev pub IsExplained : (source file : List ℕ) (number named : ℕ) (bytes : List ℕ) → Type 0
+IsExplained source file number named bytes =
+    IsToldAs (λ line column wrong hint. explained_text file line column (line_numbered source line) wrong hint) source number named bytes
 
 -- What is told of a fault: an explanation of each refusal of a text, and nothing of all else.
 abbrev pub TellsRefusal : (source file : List ℕ) → Option NumberAndLine → Option (List ℕ) → Type 0

@@ -1,1 +1,4 @@
 pub mod Explaining
+pub mod Typing
+pub mod Objects
+pub mod Unreached

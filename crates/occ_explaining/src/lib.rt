@@ -1,14 +1,22 @@
 //! What is told behind the first line of a refused text, and behind the ending of a run: [`explained_fault`] has the
-//! explanation of a refusal, [`report_of`] what each process stands at that is left, [`named_chart`] a chart with the names of
-//! the PROCs, and [`steps_of`] the turns of a run.
+//! explanation of a refusal, [`refusal_object`] the same as an object of JSON, [`unreached_told`] the PROCs that no call reaches,
+//! [`report_of`] what each process stands at that is left, [`named_chart`] a chart with the names of the PROCs, and
+//! [`steps_of`] the turns of a run. [`may_input`] tells whether what is typed can change anything.
 #![tactic(auto)]
 
 pub mod charted;
+pub mod keyboard;
+pub mod objects;
+mod refusal_names;
 pub mod refused;
 pub mod reported;
 pub mod stepped;
+pub mod unreached;
 
 pub use charted::named_chart;
+pub use keyboard::may_input;
+pub use objects::refusal_object;
 pub use refused::explained_fault;
 pub use reported::report_of;
 pub use stepped::steps_of;
+pub use unreached::unreached_told;

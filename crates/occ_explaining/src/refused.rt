@@ -103,7 +103,7 @@ fn of_code(fault: &CodeFault) -> Option<Refusal<'static>>
 }
 
 /// The refusal of a text that a fault is.
-fn refusal_of(fault: &PlayFault) -> Option<Refusal<'_>>
+pub(crate) fn refusal_of(fault: &PlayFault) -> Option<Refusal<'_>>
     ensures { option_map numbered_of result ≡ refusal_in fault.now }
 {
     match fault {

@@ -1,6 +1,6 @@
 -- Which choices the words of the command line ask for.
 -- Manual: nothing; this is (own).
-use Rattle.std.specs.Prelude.{List, [], None, Option, Some, ℕ, ⊤, ◌+◌, ◌<◌, ◌≡◌}
+use Rattle.std.specs.Prelude.{Bool, List, [], None, Option, Some, false, true, ℕ, ⊤, ◌+◌, ◌<◌, ◌≡◌}
 use Rattle.occ_choices.specs.Lines.{ChoiceLines}
 use Rattle.occ_choices.specs.Plans.{choices_of}
 use Rattle.occ_choices.specs.declared.plan.Plan.{Plan}
@@ -23,7 +23,8 @@ IsAsked limit None None tries plan = plan ≡ Turns limit
 abbrev pub IsAskedBy : Words → Plan → Type 0
 IsAskedBy words plan = IsAsked words.limit words.choices words.seed words.tries plan
 
--- nothing is typed where no file is named, since standard input is the source then
-abbrev pub IsTyped : {Path : Type 0} → Option Path → List ℕ → Type 0
-IsTyped None keyboard = keyboard ≡ []
-IsTyped (Some path) keyboard = ⊤
+-- nothing is typed where no file is named, since standard input is the source then, nor where it is not wanted
+abbrev pub IsTyped : {Path : Type 0} → Option Path → (wanted : Bool) → List ℕ → Type 0
+IsTyped (Some path) true keyboard = ⊤
+IsTyped (Some path) false keyboard = keyboard ≡ []
+IsTyped None wanted keyboard = keyboard ≡ []

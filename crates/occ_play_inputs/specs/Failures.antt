@@ -9,7 +9,7 @@ use Rattle.occ_files.specs.declared.fault.InputFault.{InputFault}
 use Rattle.occ_files.specs.declared.fault.InputFault.TheVariants as input
 use Rattle.occ_files.specs.declared.reason.Reason.{Reason}
 use Rattle.occ_play_inputs.specs.declared.failure.Failure.{Failure}
-use Rattle.occ_play_inputs.specs.declared.failure.Failure.TheVariants.{Help, Words, Arguments, Paths, Read, Choices, Write, Memory}
+use Rattle.occ_play_inputs.specs.declared.failure.Failure.TheVariants.{Help, Words, Bare, Arguments, Paths, Read, Choices, Write, Memory}
 use Rattle.occ_play_inputs.specs.declared.failure.Stream.{Stream}
 use Rattle.occ_play_inputs.specs.declared.failure.Stream.TheVariants as stream
 use Rattle.occ_play_inputs.specs.declared.failure.Trouble.{Trouble}
@@ -22,6 +22,7 @@ failure_status (Choices choice.Memory) = 5
 failure_status (Choices fault) = 7
 failure_status (Write trouble) = 6
 failure_status (Words error) = 7
+failure_status Bare = 7
 failure_status Arguments = 7
 failure_status Paths = 7
 

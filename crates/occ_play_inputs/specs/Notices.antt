@@ -4,6 +4,6 @@ use Rattle.std.specs.Prelude.{Bool, List, None, Option, Some, [], codes, false, 
 
 -- this line where a source's file is named and standard input is a terminal, and else nothing
 abbrev pub notice_of : {Path : Type 0} → Option Path → Bool → List ℕ
-notice_of (Some path) true = codes "the keyboard is read to its end first: Ctrl-D ends it, < /dev/null is none\n"
+notice_of (Some path) true = codes "the program reads the keyboard: type its input, then Ctrl-D on a line of its own\n"
 notice_of (Some path) false = []
 notice_of None terminal = []

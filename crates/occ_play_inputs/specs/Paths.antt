@@ -1,6 +1,6 @@
 -- Which paths of the words may be one.
 -- Manual: nothing; this is (own).
-use Rattle.std.specs.Prelude.{List, Option, Some, ℕ, ◌≡◌}
+use Rattle.std.specs.Prelude.{List, None, Option, Some, codes, ℕ, ◌≡◌, ◌≢◌, ◌⊎◌}
 use Rattle.std.specs.Borrow.{Bor}
 
 -- they do not both name one path
@@ -21,3 +21,8 @@ IsNoneOf turns file choices written drawn traced =
 -- and all four
 abbrev pub AreApart : (file choices written drawn traced turns : Option (Bor (List ℕ))) → Type 0
 AreApart file choices written drawn traced turns = AreTextsApart file choices written drawn traced × IsNoneOf turns file choices written drawn traced
+
+-- the path of the source is the one that was given, and none for a hyphen
+abbrev pub IsSourcePath : Option (List ℕ) → Option (List ℕ) → Type 0
+IsSourcePath given None = (given ≡ None) ⊎ (given ≡ Some (codes "-"))
+IsSourcePath given (Some path) = (given ≡ Some path) × (given ≢ Some (codes "-"))

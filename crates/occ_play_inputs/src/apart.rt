@@ -1,5 +1,6 @@
 //! That a file which is written is none that is read, and not the other one.
-ghost use Rattle.std.specs.Prelude.{IsTrue};
+ghost use Rattle.std.specs.Prelude.{◌≡◌, IfErr, IsTrue};
+ghost use Rattle.occ_play_inputs.specs.declared.failure.Failure.{Failure};
 ghost use Rattle.occ_play_inputs.specs.Paths.{AreApart, AreTextsApart, Differ, IsNoneOf};
 
 use crate::failure::Failure;
@@ -84,7 +85,13 @@ fn name_one<R: Files>(rt: &R, one: Option<&str>, other: Option<&str>) -> bool {
 }
 
 /// Refuses to write into a file that is read, or to write two texts into one file, by whatever paths.
-pub(crate) fn check_files<R: Files>(rt: &R, words: &Words<'_>) -> Result<(), Failure> {
+///
+/// # Errors
+///
+/// `Paths` where that is so.
+pub fn check_files<R: Files>(rt: &R, words: &Words<'_>) -> Result<(), Failure>
+    ensures { IfErr result (λ failure. failure ≡ Failure.Paths) }
+{
     let met = name_one(rt, words.record, words.file)
         || name_one(rt, words.record, words.choices)
         || name_one(rt, words.chart, words.file)

@@ -54,6 +54,9 @@ pub enum Failure {
     /// The words are wrong.
     #[error("{0}")]
     Words(clap::Error),
+    /// There are no words, and standard input is a terminal: nothing is read then.
+    #[error("Compiles and runs an occam 2 program.\n\nUsage: occam [FILE] [OPTIONS]\n\n`occam FILE` runs the program in FILE, `occam --help` lists the options")]
+    Bare,
     /// An argument is no UTF-8.
     #[error("an argument is no UTF-8")]
     Arguments,
@@ -83,7 +86,8 @@ impl Failure {
             Failure::Help(_) => 0,
             Failure::Memory | Failure::Choices(ChoiceFault::Memory) => 5,
             Failure::Read(_) | Failure::Write(_) => 6,
-            Failure::Words(_) | Failure::Arguments | Failure::Paths | Failure::Choices(_) => 7,
+            Failure::Words(_) | Failure::Bare | Failure::Arguments | Failure::Paths => 7,
+            Failure::Choices(_) => 7,
         }
     }
 }

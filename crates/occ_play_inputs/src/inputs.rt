@@ -1,5 +1,5 @@
 //! What the program plays: a source, the keyboard's bytes, and a plan.
-ghost use Rattle.std.specs.Prelude.{◌≡◌, ◌≤◌, ◌⊎◌, IfErr, IfOk, IfSome, List, length, take, ℕ};
+ghost use Rattle.std.specs.Prelude.{◌≡◌, ◌≤◌, IfErr, IfOk, IfSome, List, length, take, ℕ};
 ghost use Rattle.occ_choices.specs.Lines.{ChoiceLines};
 ghost use Rattle.occ_choices.specs.Plans.{choices_of};
 ghost use Rattle.occ_play_inputs.specs.Asked.{IsAskedBy, IsTyped};
@@ -7,7 +7,6 @@ ghost use Rattle.occ_play_inputs.specs.Failures.{FailsToChoose, FailsToRead};
 ghost use Rattle.occ_play_inputs.specs.Notices.{notice_of};
 ghost use Rattle.occ_play_inputs.specs.declared.failure.Stream.TheVariants.{Keyboard, Source};
 
-use crate::apart::check_files;
 use crate::failure::{Failure, Stream, of_input, of_read};
 use crate::words::Words;
 use occ_choices::{Plan, read_choices};
@@ -15,14 +14,15 @@ use occ_files::{CountedReader, read_input};
 use occ_seeds::seeded_plan;
 use std::alloc::Global;
 use std::fs;
-use std::io::{Input, IsTerminal, Read, empty};
+use std::io::{Input, IsTerminal, Read};
 use std::rt::Files;
 
 /// How many bytes of a source are read: one more than it may have.
 const MOST_SOURCE: usize = 1_048_577;
 
 /// What is told before the keyboard is read from a terminal.
-const NOTICE: &str = "the keyboard is read to its end first: Ctrl-D ends it, < /dev/null is none\n";
+const NOTICE: &str =
+    "the program reads the keyboard: type its input, then Ctrl-D on a line of its own\n";
 
 /// What the program plays.
 #[derive(Drop)]
@@ -35,27 +35,27 @@ pub struct Inputs {
     pub plan: Plan,
 }
 
-/// Reads what the words name: first the source, then the keyboard, then the file of choices. Before a keyboard that is a terminal
-/// is read, a line on standard error tells how it is ended.
+/// Reads what is played with this source: the keyboard, and then the file of choices. The keyboard is read where the words name a
+/// source's file and it is `wanted`; before one that is a terminal is read, a line on standard error tells how it is ended.
 ///
 /// # Errors
 ///
-/// `Paths` where a file that is to be written is one that is read, or another; that is found before anything is read.
 /// `Read` where something could not be read, `Choices` tells what is wrong in the file of choices, and `Memory` of a
 /// refused growth.
-pub fn read_inputs<R: Files + Input + Eprint>(
+pub fn read_beside<R: Files + Input + Eprint>(
     rt: &R,
     alloc: Global,
     words: &Words<'_>,
+    source: Vec<u8>,
+    wanted: bool,
 ) -> Result<Inputs, Failure>
 where
     R::Reader: IsTerminal,
     ensures asked { IfOk result (λ inputs. IsAskedBy words.now inputs.plan) }
-    ensures source { IfOk result (λ inputs. length inputs.source.items ≤ 1048577) }
-    ensures typed { IfOk result (λ inputs. IsTyped words.now.file inputs.keyboard.items) }
+    ensures source { IfOk result (λ inputs. inputs.source ≡ source) }
+    ensures typed { IfOk result (λ inputs. IsTyped words.now.file wanted inputs.keyboard.items) }
 {
-    check_files(rt, words)?;
-    let (source, keyboard) = read_texts(rt, alloc, words)?;
+    let keyboard = read_keyboard(rt, alloc, words, wanted)?;
     let plan = read_plan(rt, alloc, words)?;
     Ok(Inputs {
         source,
@@ -86,26 +86,25 @@ pub fn read_source<R: Files + Input>(
     }
 }
 
-/// The file and standard input, or standard input and an empty keyboard.
-fn read_texts<R: Files + Input + Eprint>(
+/// What is typed: standard input, where the words name a source's file and it is wanted, and else nothing.
+fn read_keyboard<R: Input + Eprint>(
     rt: &R,
     alloc: Global,
     words: &Words<'_>,
-) -> Result<(Vec<u8>, Vec<u8>), Failure>
+    wanted: bool,
+) -> Result<Vec<u8>, Failure>
 where
     R::Reader: IsTerminal,
-    ensures source { IfOk result (λ r. length r.0.items ≤ 1048577) }
-    ensures typed { IfOk result (λ r. IsTyped words.now.file r.1.items) }
-    ensures failed { IfErr result (λ f. FailsToRead Source f ⊎ FailsToRead Keyboard f) }
+    ensures typed { IfOk result (λ bytes. IsTyped words.now.file wanted bytes.items) }
+    ensures failed { IfErr result (FailsToRead Keyboard) }
 {
     match words.file {
-        None => read_both(alloc, rt.reader(), empty()),
-        Some(path) => {
-            let file = open(rt, Stream::Source, path)?;
+        Some(_) if wanted => {
             let keyboard = rt.reader();
             let _ = eprint!(rt; "{}", notice_of(words.file, keyboard.is_terminal()));
-            read_both(alloc, file, keyboard)
+            read_all(alloc, Stream::Keyboard, keyboard)
         }
+        _ => Ok(Vec::new(alloc)),
     }
 }
 
@@ -128,23 +127,6 @@ fn open<R: Files>(rt: &R, stream: Stream, path: &str) -> Result<R::File, Failure
         Ok(file) => Ok(file),
         Err(error) => Err(of_read(stream, error)),
     }
-}
-
-/// The first bytes of a source, one more than it may have, and all that is typed.
-fn read_both<S: Read + Drop, K: Read + Drop>(
-    alloc: Global,
-    source: S,
-    keyboard: K,
-) -> Result<(Vec<u8>, Vec<u8>), Failure>
-    ensures few { IfOk result (λ r. length r.0.items ≤ 1048577) }
-    ensures source { IfSome (S.remaining source)
-        (λ xs. IfOk result (λ r. r.0.items ≡ take 1048577 xs)) }
-    ensures keyboard { IfSome (K.remaining keyboard) (λ xs. IfOk result (λ r. r.1.items ≡ xs)) }
-    ensures failed { IfErr result (λ f. FailsToRead Source f ⊎ FailsToRead Keyboard f) }
-{
-    let source = read_most(alloc, Stream::Source, source, MOST_SOURCE)?;
-    let keyboard = read_all(alloc, Stream::Keyboard, keyboard)?;
-    Ok((source, keyboard))
 }
 
 /// All bytes of a reader, or so many where there are more.

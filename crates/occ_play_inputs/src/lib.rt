@@ -1,5 +1,5 @@
-//! What the command line asks for: [`read_words`] reads its words, [`read_inputs`] the texts and the
-//! choices that they name, [`read_source`] the source alone, and a [`Failure`] says why nothing came of them.
+//! What the command line asks for: [`read_words`] reads its words, [`read_source`] the source that they name, [`read_beside`] what is
+//! typed and the choices, and a [`Failure`] says why nothing came of them. [`check_files`] refuses to write into what is read.
 #![tactic(auto)]
 
 mod apart;
@@ -7,6 +7,7 @@ pub mod failure;
 pub mod inputs;
 pub mod words;
 
+pub use apart::check_files;
 pub use failure::{Failure, Stream, Trouble};
-pub use inputs::{Inputs, read_inputs, read_source};
+pub use inputs::{Inputs, read_beside, read_source};
 pub use words::{Words, read_words};

@@ -4,7 +4,7 @@ ghost use Rattle.std.specs.Option.{ForSome, option_copied};
 ghost use Rattle.occ_choices.specs.Crews.{IsCrew};
 ghost use Rattle.occ_code.specs.CodeOf.{IsQuantum};
 ghost use Rattle.occ_play_inputs.specs.Modes.{IsMode};
-ghost use Rattle.occ_play_inputs.specs.Paths.{AreApart};
+ghost use Rattle.occ_play_inputs.specs.Paths.{AreApart, IsSourcePath};
 ghost use Rattle.occ_play_inputs.specs.Searches.{IsFull, IsSearch};
 
 use crate::apart::are_apart;
@@ -51,12 +51,12 @@ pub const MOST_STATES: u32 = 10_000_000;
 static TOLD: [&str; 3] = ["answers", "endings", "full"];
 
 /// How many words there are.
-const WORDS: u32 = 21;
+const WORDS: u32 = 22;
 
 /// The words that say something of one run.
-static OF_ONE_RUN: [&str; 13] = [
-    "limit", "workers", "choices", "chart", "arrows", "last", "trace", "trace-to", "json", "steps",
-    "seed", "tries", "watch",
+static OF_ONE_RUN: [&str; 12] = [
+    "limit", "workers", "choices", "chart", "arrows", "last", "trace", "trace-to", "steps", "seed",
+    "tries", "watch",
 ];
 
 /// What has no place beside `--check` either.
@@ -102,6 +102,10 @@ pub struct Words<'a> {
     /// Whether more is told behind the line of a refusal or of a failed read or write, and behind an ending that is not that of a
     /// whole run.
     pub explain: bool,
+    /// Whether that is left out on a terminal, where it is told without being asked for.
+    pub plain: bool,
+    /// Whether the first line of it is printed in bold. No word asks for it: that is up to the terminal.
+    pub bold: bool,
     /// The number from which the choices of the run are made, as many as the limit has, 0 to 1,000,000,000; none where no word
     /// says so.
     pub seed: Option<u32>,
@@ -120,7 +124,7 @@ pub struct Words<'a> {
     pub last: Option<u32>,
     /// The path of the file into which the trace is written.
     pub trace_to: Option<&'a str>,
-    /// Whether that file has an object of JSON for each communication.
+    /// Whether that file has an object of JSON for each communication, or `check` writes one for what it finds.
     pub json: bool,
     /// The path of the file into which a line for each turn is written.
     pub steps: Option<&'a str>,
@@ -166,6 +170,16 @@ fn read_by<'a>(command: &mut Command<'a>, words: &'a [&'a str]) -> Result<Words<
     }
 }
 
+/// The path of the source, where the words gave this one or none: a hyphen is standard input.
+fn file_of<'a>(given: Option<&'a str>) -> Option<&'a str>
+    ensures { IsSourcePath (option_copied given.entry) (option_copied result) }
+{
+    match given {
+        Some("-") => None,
+        given => given,
+    }
+}
+
 /// The error that tells this of the words.
 fn refused<'a>(command: &mut Command<'a>, told: &str) -> Error {
     match command.error(ErrorKind::ValueValidation, told) {
@@ -192,11 +206,15 @@ fn words_of<'a>(matches: &ArgMatches<'a>) -> Result<Words<'a>, &'static str> {
     }
     let tries = tries_of(matches.get_one::<u32>("tries"));
     let tries = number_in(tries, 1, MOST_TRIES, "the tries are 1 to 1000000")?;
-    let (file, choices) = (matches.get_str("FILE"), matches.get_str("choices"));
+    let (file, choices) = (file_of(matches.get_str("FILE")), matches.get_str("choices"));
     let (record, chart) = (matches.get_str("record"), matches.get_str("chart"));
     let (trace_to, steps) = (matches.get_str("trace-to"), matches.get_str("steps"));
     if !are_apart(file, choices, record, chart, trace_to, steps) {
         return Err("--record, --chart, --trace-to and --steps each write into a file of their own");
+    }
+    let (json, check) = (matches.get_flag("json"), matches.get_flag("check"));
+    if json && !check && trace_to.is_none() {
+        return Err("--json stands beside --trace-to or --check");
     }
     Ok(Words {
         limit,
@@ -206,6 +224,8 @@ fn words_of<'a>(matches: &ArgMatches<'a>) -> Result<Words<'a>, &'static str> {
         trace: matches.get_flag("trace"),
         watch: matches.get_flag("watch"),
         explain: matches.get_flag("explain"),
+        plain: matches.get_flag("plain"),
+        bold: false,
         seed,
         tries,
         choices,
@@ -214,12 +234,12 @@ fn words_of<'a>(matches: &ArgMatches<'a>) -> Result<Words<'a>, &'static str> {
         arrows: arrows_of(matches.get_one::<u32>("arrows")),
         last: matches.get_one::<u32>("last"),
         trace_to,
-        json: matches.get_flag("json"),
+        json,
         steps,
         explore: explore_of(matches.get_str("explore")),
         full: is_full(matches.get_str("explore")),
         states,
-        check: matches.get_flag("check"),
+        check,
         file,
     })
 }
@@ -350,13 +370,14 @@ fn word_of<'a>(alloc: Global, number: u32) -> Result<Arg<'a>, AllocError> {
         10 => last_word(alloc),
         11 => Ok(trace_word(alloc)),
         12 => Ok(trace_to_word(alloc)),
-        13 => json_word(alloc),
+        13 => Ok(json_word(alloc)),
         14 => Ok(steps_word(alloc)),
         15 => Ok(watch_word(alloc)),
         16 => Ok(explain_word(alloc)),
-        17 => explore_word(alloc),
-        18 => states_word(alloc),
-        19 => check_word(alloc),
+        17 => plain_word(alloc),
+        18 => explore_word(alloc),
+        19 => states_word(alloc),
+        20 => check_word(alloc),
         _ => Ok(file_word(alloc)),
     }
 }
@@ -381,7 +402,9 @@ fn quantum_word<'a>(alloc: Global) -> Arg<'a> {
     Arg::new(alloc, "quantum")
         .long("quantum")
         .value_name("N")
-        .help("Lets a turn pass N ends of a loop's body, 1 to 65536 [default: 1]")
+        .help(
+            "Lets a process go through up to N loop iterations in one turn, 1 to 65536 [default: 1]",
+        )
         .value_parser(value_parser!(u32).range(1..=i64::from(MOST_QUANTUM)))
 }
 
@@ -389,7 +412,9 @@ fn errors_word<'a>(alloc: Global) -> Arg<'a> {
     Arg::new(alloc, "errors")
         .long("errors")
         .value_name("MODE")
-        .help("Says what a fault does: halt ends the run, stop its process alone [default: halt]")
+        .help(
+            "Says what a fault does: halt ends the whole run, stop only its process [default: halt]",
+        )
         .value_parser(ValueParser::Names(MODES.as_slice()))
 }
 
@@ -397,7 +422,7 @@ fn workers_word<'a>(alloc: Global) -> Arg<'a> {
     Arg::new(alloc, "workers")
         .long("workers")
         .value_name("N")
-        .help("Lets N threads take the turns, 1 to 64")
+        .help("Runs the processes on N threads, 1 to 64; which process goes on is up to them")
         .value_parser(value_parser!(u32).range(1..=i64::from(MOST_WORKERS)))
 }
 
@@ -406,7 +431,7 @@ fn seed_word<'a>(alloc: Global) -> Result<Arg<'a>, AllocError> {
         .long("seed")
         .value_name("N")
         .help(
-            "Plays the run by choices made from the number N, 0 to 1000000000, as many as --limit has",
+            "Makes a schedule from the number N, 0 to 1000000000; the same number gives the same run",
         )
         .value_parser(value_parser!(u32).range(0..=1_000_000_000))
         .conflicts_with("choices")?
@@ -419,7 +444,7 @@ fn tries_word<'a>(alloc: Global) -> Result<Arg<'a>, AllocError> {
         .long("tries")
         .value_name("N")
         .help(
-            "Tries N seeds from that of --seed on, 1 to 1000000, until a run doesn't end [default: 1]",
+            "Tries N seeds, 1 to 1000000, from that of --seed on, until a run does not end [default: 1]",
         )
         .value_parser(value_parser!(u32).range(1..=1_000_000))
         .requires_arg("seed")
@@ -429,7 +454,9 @@ fn choices_word<'a>(alloc: Global) -> Arg<'a> {
     Arg::new(alloc, "choices")
         .long("choices")
         .value_name("FILE")
-        .help("Plays the run by the choices of FILE; --limit and --workers say nothing then")
+        .help(
+            "Plays the schedule in FILE, as --record writes it; --limit and --workers have no effect then",
+        )
 }
 
 fn record_word<'a>(alloc: Global) -> Arg<'a> {
@@ -437,7 +464,7 @@ fn record_word<'a>(alloc: Global) -> Arg<'a> {
         .long("record")
         .value_name("FILE")
         .help(
-            "Writes the choices that the run used into FILE; of a search those of answer 1 into FILE.1.choices, and so on",
+            "Writes the schedule of the run into FILE; with --explore that of answer 1 into FILE.1.choices, and so on",
         )
 }
 
@@ -445,14 +472,14 @@ fn chart_word<'a>(alloc: Global) -> Arg<'a> {
     Arg::new(alloc, "chart")
         .long("chart")
         .value_name("FILE")
-        .help("Draws the run's communications into FILE, a sequence chart in SVG")
+        .help("Draws the communications of the run into FILE, as a sequence chart in SVG")
 }
 
 fn arrows_word<'a>(alloc: Global) -> Result<Arg<'a>, AllocError> {
     Arg::new(alloc, "arrows")
         .long("arrows")
         .value_name("N")
-        .help("Draws at most the first N communications in the chart [default: 200]")
+        .help("Draws only the first N communications [default: 200]")
         .value_parser(value_parser!(u32))
         .requires_arg("chart")
 }
@@ -461,7 +488,7 @@ fn last_word<'a>(alloc: Global) -> Result<Arg<'a>, AllocError> {
     Arg::new(alloc, "last")
         .long("last")
         .value_name("N")
-        .help("Draws at most the last N communications instead")
+        .help("Draws only the last N communications")
         .value_parser(value_parser!(u32))
         .requires_arg("chart")?
         .conflicts_with("arrows")
@@ -470,7 +497,7 @@ fn last_word<'a>(alloc: Global) -> Result<Arg<'a>, AllocError> {
 fn trace_word<'a>(alloc: Global) -> Arg<'a> {
     Arg::new(alloc, "trace")
         .long("trace")
-        .help("Prints each communication after the answer")
+        .help("Prints each communication below what the screen got")
         .action(ArgAction::SetTrue)
 }
 
@@ -478,15 +505,14 @@ fn trace_to_word<'a>(alloc: Global) -> Arg<'a> {
     Arg::new(alloc, "trace-to")
         .long("trace-to")
         .value_name("FILE")
-        .help("Writes each communication and the ending into FILE")
+        .help("Writes the trace into FILE: each communication, and how the run ended")
 }
 
-fn json_word<'a>(alloc: Global) -> Result<Arg<'a>, AllocError> {
+fn json_word<'a>(alloc: Global) -> Arg<'a> {
     Arg::new(alloc, "json")
         .long("json")
-        .help("Writes each of them as a line of JSON")
+        .help("Writes each of them, or what --check finds, as a line of JSON")
         .action(ArgAction::SetTrue)
-        .requires_arg("trace-to")
 }
 
 fn steps_word<'a>(alloc: Global) -> Arg<'a> {
@@ -494,14 +520,14 @@ fn steps_word<'a>(alloc: Global) -> Arg<'a> {
         .long("steps")
         .value_name("FILE")
         .help(
-            "Writes a line for each turn into FILE: who was ready, who took it, what it then stands at",
+            "Writes a line for each turn into FILE: who was ready, who took the turn, and where it stopped",
         )
 }
 
 fn watch_word<'a>(alloc: Global) -> Arg<'a> {
     Arg::new(alloc, "watch")
         .long("watch")
-        .help("Prints each communication to standard error as a thread was shown it that looks on")
+        .help("Prints each communication to standard error, as a second thread saw it")
         .action(ArgAction::SetTrue)
 }
 
@@ -509,9 +535,17 @@ fn explain_word<'a>(alloc: Global) -> Arg<'a> {
     Arg::new(alloc, "explain")
         .long("explain")
         .help(
-            "Tells where the mistake of a refused source is, what each process stands at that is left, and which file failed and why",
+            "Explains a refusal, a run that did not end, or a file that failed; on a terminal it is explained unasked",
         )
         .action(ArgAction::SetTrue)
+}
+
+fn plain_word<'a>(alloc: Global) -> Result<Arg<'a>, AllocError> {
+    Arg::new(alloc, "plain")
+        .long("plain")
+        .help("Leaves the explanation out on a terminal")
+        .action(ArgAction::SetTrue)
+        .conflicts_with("explain")
 }
 
 fn explore_word<'a>(alloc: Global) -> Result<Arg<'a>, AllocError> {
@@ -519,13 +553,13 @@ fn explore_word<'a>(alloc: Global) -> Result<Arg<'a>, AllocError> {
         .long("explore")
         .value_name("WHAT")
         .help(
-            "Tells what all runs come to, with the screen for answers, without for endings; full tells answers by way of all states [default: answers]",
+            "Tells the outcomes of all schedules: answers are endings with what the screen got, endings stand alone, full visits every state for its answers [default: answers]",
         )
         .num_args(0..=1)
         .require_equals(true)
         .default_missing_value("answers")
         .value_parser(ValueParser::Names(TOLD.as_slice()));
-    but_one_run(word)
+    but_one_run(word.conflicts_with("json")?)
 }
 
 /// A word beside which those that say something of one run may not stand.
@@ -537,7 +571,7 @@ fn states_word<'a>(alloc: Global) -> Result<Arg<'a>, AllocError> {
     Arg::new(alloc, "states")
         .long("states")
         .value_name("N")
-        .help("Lets the search come to N states, 1 to 10000000 [default: 1000000]")
+        .help("Lets the search visit at most N states, 1 to 10000000 [default: 1000000]")
         .value_parser(value_parser!(u32).range(1..=10_000_000))
         .requires_arg("explore")
 }
@@ -557,6 +591,6 @@ fn but_a_search<'a>(word: Arg<'a>) -> Result<Arg<'a>, AllocError> {
 
 fn file_word<'a>(alloc: Global) -> Arg<'a> {
     Arg::new(alloc, "FILE").help(
-        "The source; standard input is then the keyboard. Without it, standard input is the source",
+        "The source; standard input is then the keyboard. Without it, or with - in its place, standard input is the source",
     )
 }

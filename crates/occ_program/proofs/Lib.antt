@@ -2,3 +2,4 @@ mod Recorded
 mod Statuses
 mod Ended
 mod Told
+mod Terminals

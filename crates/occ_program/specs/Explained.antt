@@ -1,9 +1,11 @@
 -- What is told behind a refusal's line, behind an ending, and behind the answers of a search.
 -- Manual: nothing; this is (own).
-use Rattle.std.specs.Prelude.{Err, List, Ok, Result, Some, [], codes, get_or, length, suc, take, zero, ℕ, ⊤, ◌++◌, ◌<◌, ◌∷◌, ◌≡◌, ◌≢◌, ◌⊎◌}
+use Rattle.std.specs.Prelude.{Bool, Err, List, Ok, Result, Some, [], codes, get_or, length, nat_eq, suc, take, true, zero, ℕ, ⊤, ◌++◌, ◌<◌, ◌∷◌, ◌≡◌, ◌≢◌, ◌⊎◌}
 use Rattle.std.specs.Fmt.{decimal}
+use Rattle.std.specs.List.{list_any}
 use Rattle.occ_explaining.specs.Explaining.{ReportsOn, TellsRefusal, refusal_in}
 use Rattle.occ_explore.specs.declared.exploration.Answer.{Answer}
+use Rattle.occ_files.specs.Names.{printed_name}
 use Rattle.occ_files.specs.declared.reason.Reason.{Reason}
 use Rattle.occ_net_replay.specs.declared.choice.Choice.{Choice}
 use Rattle.occ_term.specs.Endings.{ending_text}
@@ -23,9 +25,17 @@ use Rattle.occ_program.specs.Troubles.{path_or, trouble_text}
 abbrev pub file_in : Words → List ℕ
 file_in words = path_or (codes "-") words.file
 
--- an explanation of a refusal of this source
+-- one of these bytes is 0, as in no text
+abbrev pub has_zero : List ℕ → Bool
+has_zero source = list_any (λ b. nat_eq b 0) source
+
+-- what is told of a source that is no text
+abbrev pub no_text : List ℕ → List ℕ
+no_text file = printed_name file ++ codes ": this is not a text file: it contains NUL bytes\n"
+
+-- an explanation of a refusal of this source, or that it is no text, where it has a byte that is 0
 abbrev pub TellsOf : Words → (source : List ℕ) → PlayFault → List ℕ → Type 0
-TellsOf words source fault text = TellsRefusal source (file_in words) (refusal_in fault) (Some text)
+TellsOf words source fault text = TellsRefusal source (file_in words) (refusal_in fault) (Some text) ⊎ ((has_zero source ≡ true) × (text ≡ no_text (file_in words)))
 
 -- why standard output was not written, or an explanation
 abbrev pub TellsWhy : Words → (source : List ℕ) → Reason → PlayFault → List ℕ → Type 0

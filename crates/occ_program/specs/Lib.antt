@@ -4,3 +4,5 @@ pub mod Lines
 pub mod Troubles
 pub mod Explained
 pub mod Trying
+pub mod Terminals
+pub mod Looked

@@ -4,6 +4,8 @@ use Rattle.std.specs.Prelude.{List, None, Option, Some, [], codes, ℕ, ◌++◌
 use Rattle.std.specs.Borrow.{Bor}
 use Rattle.occ_files.specs.Names.{printed_name}
 use Rattle.occ_files.specs.Reasons.{reason_text}
+use Rattle.occ_files.specs.declared.reason.Reason.{Reason}
+use Rattle.occ_files.specs.declared.reason.Reason.TheVariants.{Missing}
 use Rattle.occ_play_inputs.specs.declared.failure.Failure.{Failure}
 use Rattle.occ_play_inputs.specs.declared.failure.Failure.TheVariants.{Read, Write}
 use Rattle.occ_play_inputs.specs.declared.failure.Stream.{Stream}
@@ -29,9 +31,17 @@ stream_name words Chart = path_or [] words.chart
 stream_name words Trace = path_or [] words.trace_to
 stream_name words Turns = path_or [] words.steps
 
--- its name and the reason
+-- a source that is missing may be a word that was to be another one
+abbrev pub advice_on : Stream → Reason → List ℕ
+advice_on Source Missing = codes "  `occam FILE` runs the program in FILE, `occam --help` lists the options\n"
+advice_on stream reason = []
+
+abbrev pub advice : Trouble → List ℕ
+advice t = advice_on t.stream t.reason
+
+-- its name, the reason, and what may help
 abbrev pub trouble_text : Words → Trouble → List ℕ
-trouble_text words t = printed_name (stream_name words t.stream) ++ codes ": " ++ reason_text t.reason ++ 10 ∷ []
+trouble_text words t = printed_name (stream_name words t.stream) ++ codes ": " ++ reason_text t.reason ++ 10 ∷ [] ++ advice t
 
 -- what failed, where something could not be read or written
 abbrev pub trouble_in : Failure → Option Trouble

@@ -1,18 +1,20 @@
 //! Tells more of a refusal and of an ending, where the words ask for it.
-ghost use Rattle.std.specs.Prelude.{◌≡◌, IfSome};
+ghost use Rattle.std.specs.Prelude.{◌≡◌, IfOk, IfSome, IsTrue, true};
 ghost use Rattle.occ_play_inputs.specs.Failures.{trouble};
 ghost use Rattle.occ_play_inputs.specs.declared.failure.Stream.TheVariants.{Output};
-ghost use Rattle.occ_program.specs.Explained.{Explains, ReportsRun, TellsOf, TellsWhy, file_in};
+ghost use Rattle.occ_program.specs.Explained.{Explains, ReportsRun, TellsOf, TellsWhy, file_in, has_zero, no_text};
 ghost use Rattle.occ_program.specs.Troubles.{trouble_text};
 
 use crate::program::options_of;
+use crate::terminal::in_bold;
 use crate::troubles::{path_or, trouble_text};
 use occ_explaining::{explained_fault, report_of};
-use occ_files::Reason;
+use occ_files::{Reason, printed_name};
 use occ_play::{PlayFault, Played};
 use occ_play_inputs::{Inputs, Stream, Trouble, Words};
 use occ_term::Ending;
-use std::alloc::Global;
+use occ_text::TextFault;
+use std::alloc::{AllocError, Global};
 
 /// Prints, behind the line of a refusal, where its mistake is, behind that of a failed write why it failed, and behind an ending that
 /// is not that of a whole run what each process stands at. Where memory runs out for that, nothing more is printed.
@@ -27,7 +29,7 @@ pub(crate) fn explain<R: Eprint>(
     if words.explain
         && let Some(text) = explanation(alloc, words, inputs, came, reason)
     {
-        print_text(rt, alloc, text.as_slice());
+        print_text(rt, alloc, words, text.as_slice());
     }
 }
 
@@ -42,12 +44,12 @@ pub(crate) fn explain_fault<R: Eprint>(
     if words.explain
         && let Some(text) = told_of(alloc, words, source, fault)
     {
-        print_text(rt, alloc, text.as_slice());
+        print_text(rt, alloc, words, text.as_slice());
     }
 }
 
 /// What a source is called: its path, or a hyphen where standard input is the source.
-fn file_of<'a>(words: &Words<'a>) -> &'a str
+pub(crate) fn file_of<'a>(words: &Words<'a>) -> &'a str
     ensures { result.now ≡ file_in words.now }
 {
     path_or("-", words.file)
@@ -57,11 +59,46 @@ fn file_of<'a>(words: &Words<'a>) -> &'a str
 fn told_of(alloc: Global, words: &Words<'_>, source: &[u8], fault: &PlayFault) -> Option<Vec<u8>>
     ensures { IfSome result (λ text. TellsOf words.now source.now fault.now text.items) }
 {
+    if is_no_text(source, fault) {
+        return no_text(alloc, words);
+    }
     let file = file_of(words);
     match explained_fault(alloc, source, file.as_bytes(), fault) {
         Ok(told) => told,
         Err(_) => None,
     }
+}
+
+/// Whether a source is refused for what it is, and has a byte that is 0, as no text has.
+fn is_no_text(source: &[u8], fault: &PlayFault) -> bool
+    ensures { IsTrue result → has_zero source.now ≡ true }
+{
+    match fault {
+        PlayFault::Text(TextFault::BadByte { .. }) | PlayFault::Text(TextFault::TooLong) => {
+            source.contains(&0)
+        }
+        _ => false,
+    }
+}
+
+/// What is told of a source that is no text.
+fn no_text(alloc: Global, words: &Words<'_>) -> Option<Vec<u8>>
+    ensures { IfSome result (λ text. text.items ≡ no_text (file_in words.now)) }
+{
+    let file = file_of(words);
+    match no_text_in(alloc, file) {
+        Ok(text) => Some(text),
+        Err(_) => None,
+    }
+}
+
+/// What is told of a file that is no text.
+fn no_text_in(alloc: Global, file: &str) -> Result<Vec<u8>, AllocError>
+    ensures { IfOk result (λ text. text.items ≡ no_text file.now) }
+{
+    let mut text = printed_name(alloc, file.as_bytes())?;
+    text.extend_from_slice(b": this is not a text file: it contains NUL bytes\n")?;
+    Ok(text)
 }
 
 /// Why standard output was not written, or the explanation of a refusal.
@@ -129,8 +166,17 @@ fn reported(alloc: Global, words: &Words<'_>, inputs: &Inputs, played: &Played) 
     }
 }
 
-/// Prints a text to standard error; for bytes that are no UTF-8, as a source may have in its comments, stands U+FFFD.
-pub(crate) fn print_text<R: Eprint>(rt: &R, alloc: Global, text: &[u8]) {
+/// Prints a text to standard error, with its first line in bold where that is wanted.
+pub(crate) fn print_text<R: Eprint>(rt: &R, alloc: Global, words: &Words<'_>, text: &[u8]) {
+    if !words.bold || text.is_empty() {
+        print_bytes(rt, alloc, text);
+    } else if let Ok(shown) = in_bold(alloc, text) {
+        print_bytes(rt, alloc, shown.as_slice());
+    }
+}
+
+/// Prints bytes to standard error; for those that are no UTF-8, as a source may have in its comments, stands U+FFFD.
+fn print_bytes<R: Eprint>(rt: &R, alloc: Global, text: &[u8]) {
     if let Ok(text) = String::from_utf8_lossy(alloc, text) {
         let _ = eprint!(rt; "{text}");
     }

@@ -15,6 +15,7 @@ ghost use Rattle.occ_shown.specs.Counting.{failures_of};
 use crate::counting::Counter;
 use crate::explaining::explain_fault;
 use crate::program::{options_of, tell};
+use crate::reading::read_inputs;
 use crate::reporting::explain_answers;
 use crate::troubles::answer_path;
 use occ_choices::choices_text;
@@ -25,7 +26,7 @@ use occ_exploring::{
 use occ_files::{Disk, Folder, Noting, Reason, are_one_file};
 use occ_play::{Choice, PlayFault, status_of};
 use occ_play_inputs::failure::of_write;
-use occ_play_inputs::{Failure, Inputs, Stream, Trouble, Words, read_inputs};
+use occ_play_inputs::{Failure, Inputs, Stream, Trouble, Words};
 use occ_shown::{Counted, write_answer};
 use std::alloc::{AllocError, Global};
 use std::io::{IsTerminal, Write};
@@ -151,7 +152,7 @@ fn tell_only<R: Files + Print>(
 }
 
 /// Refuses where standard output was not written, for this reason.
-fn check_printed(printed: bool, reason: Reason) -> Result<(), Failure>
+pub(crate) fn check_printed(printed: bool, reason: Reason) -> Result<(), Failure>
     ensures printed { OnOk result (IsTrue printed) }
     ensures failed { IfErr result (λ failure.
         failure ≡ Failure.Write (trouble stream.Output reason)) }

@@ -11,10 +11,12 @@ mod exploring;
 mod looking;
 mod page;
 pub mod program;
+mod reading;
 mod recording;
 mod reporting;
 mod seeding;
 mod stepping;
+mod terminal;
 mod tracing;
 mod troubles;
 

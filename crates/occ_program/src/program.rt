@@ -11,9 +11,11 @@ use crate::drawing::draw;
 use crate::explaining::explain;
 use crate::exploring::explore_words;
 use crate::looking::look_at_words;
+use crate::reading::read_inputs;
 use crate::recording::record;
 use crate::seeding::take_seed;
 use crate::stepping::step;
+use crate::terminal::{allows_bold, explains};
 use crate::tracing::trace;
 use crate::troubles::explain_failure;
 use occ_files::{Disk, Folder, Noting, Reason, printed_name, reason_of};
@@ -21,7 +23,7 @@ use occ_play::{
     FreeGate, Options, PlayFault, Played, RunFault, play_in, play_workers_in, status_of,
 };
 use occ_play_inputs::failure::{of_arguments, of_words};
-use occ_play_inputs::{Failure, Inputs, Stream, Trouble, Words, read_inputs, read_words};
+use occ_play_inputs::{Failure, Inputs, Stream, Trouble, Words, read_words};
 use occ_shown::Counted;
 use occ_watching::play_watching;
 use std::alloc::Global;
@@ -36,6 +38,9 @@ const ALLOWED: &str = "occam --help says what is allowed";
 
 /// How many lines are told of wrong words above that.
 const MOST_LINES: usize = 2;
+
+/// How the line of `clap` begins that says the same.
+const SAME: &str = "For more information";
 
 /// Runs the program on the arguments, the files and the streams of `rt`, and answers its exit status: 0 ended or
 /// help or a source that is not refused where that is all that is asked, 1 source refused, 2 stopped, 3 fault, 4 limit, 5 want of memory or
@@ -73,7 +78,12 @@ where
         .iter()
         .map(|argument| argument.as_str())
         .collect(alloc)?;
-    let words = read_words(alloc, words.as_slice()).map_err(of_words)?;
+    if words.len() < 2 && rt.reader().is_terminal() {
+        return Err(Failure::Bare);
+    }
+    let mut words = read_words(alloc, words.as_slice()).map_err(of_words)?;
+    words.explain = explains(words.explain, words.plain, on_terminal);
+    words.bold = on_terminal && allows_bold(rt);
     Ok(do_and_tell(rt, alloc, &words, on_terminal))
 }
 
@@ -406,11 +416,11 @@ fn tell_words<R: Eprint>(rt: &R, alloc: Global, error: &clap::Error) {
     let _ = eprintln!(rt; "{ALLOWED}");
 }
 
-/// Prints the first lines of a text that say something.
+/// Prints the first lines of a text that say something, and not what the line below them says.
 fn tell_lines<R: Eprint>(rt: &R, alloc: Global, text: &str) {
     let mut told = 0;
     for line in text.lines() {
-        if told < MOST_LINES && !line.is_empty() {
+        if told < MOST_LINES && !line.is_empty() && !line.starts_with(SAME) {
             tell_line(rt, alloc, line);
             told += 1;
         }

@@ -23,7 +23,7 @@ pub(crate) fn explain_answers<R: Eprint>(
     if words.explain
         && let Ok(text) = answers_told(alloc, words, inputs, answers)
     {
-        print_text(rt, alloc, text.as_slice());
+        print_text(rt, alloc, words, text.as_slice());
     }
 }
 

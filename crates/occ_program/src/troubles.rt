@@ -1,12 +1,15 @@
 //! Tells which file or stream failed, and why, where the words ask for more.
 ghost use Rattle.std.specs.Prelude.{◌≡◌, IfOk, string_bytes};
 ghost use Rattle.occ_program.specs.Pages.{answer_path};
-ghost use Rattle.occ_program.specs.Troubles.{path_or, stream_name, trouble_in, trouble_text};
+ghost use Rattle.occ_program.specs.Troubles.{advice, path_or, stream_name, trouble_in, trouble_text};
 
 use crate::explaining::print_text;
-use occ_files::printed_name;
+use occ_files::{Reason, printed_name};
 use occ_play_inputs::{Failure, Stream, Trouble, Words};
 use std::alloc::{AllocError, Global};
+
+/// What is told below a source that is missing.
+const ADVICE: &str = "  `occam FILE` runs the program in FILE, `occam --help` lists the options\n";
 
 /// Prints, behind the line of a failure, which file or stream failed, and why. Where memory runs out for that, nothing more is printed.
 pub(crate) fn explain_failure<R: Eprint>(
@@ -19,7 +22,7 @@ pub(crate) fn explain_failure<R: Eprint>(
         && let Some(trouble) = trouble_in(failure)
         && let Ok(text) = trouble_text(alloc, words, trouble)
     {
-        print_text(rt, alloc, text.as_slice());
+        print_text(rt, alloc, words, text.as_slice());
     }
 }
 
@@ -45,7 +48,18 @@ pub(crate) fn trouble_text(
     let mut text = printed_name(alloc, name.as_bytes())?;
     let reason = format!(in alloc; ": {}\n", trouble.reason)?;
     text.extend_from_slice(reason.as_bytes())?;
+    text.extend_from_slice(advice(trouble).as_bytes())?;
     Ok(text)
+}
+
+/// What is told below a source that is missing: a word may have been taken for its name.
+fn advice(trouble: Trouble) -> &'static str
+    ensures { result.now ≡ advice trouble }
+{
+    match (trouble.stream, trouble.reason) {
+        (Stream::Source, Reason::Missing) => ADVICE,
+        _ => "",
+    }
 }
 
 /// The path that a word gives, and another text where it gives none.

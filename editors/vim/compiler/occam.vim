@@ -5,7 +5,10 @@ if exists("current_compiler")
 endif
 let current_compiler = "occam"
 
-" :make says whether the file is refused, and where; it runs nothing.
-" What it says of a line is headed by the file and the line.
-CompilerSet makeprg=occam\ --check\ %:S\ 2>&1\ \\\|\ sed\ 's@^refused.*\ line\ \\([0-9]*\\).*@%:\\1:1:\ &@'
-CompilerSet errorformat=%f:%l:%c:\ %m,%-G%.%#
+" :make says whether the file is refused, and where, and which PROCs no call reaches; it runs nothing. Each is a line of JSON, in which
+" the text and the hint stand behind the name. The plain line of a refusal, which tells less, is passed over.
+CompilerSet makeprg=occam\ --check\ --json\ %:S
+let s:place = '"file":"%f"\,"line":%l\,"column":%c\,"end":%k\,'
+let &l:errorformat = '%E{"kind":"refused"\,' . s:place . '"number":%n\,"name":"%*[A-Za-z]"\,"text":"%m"}'
+      \ . ',%W{"kind":"unchecked"\,' . s:place . '%m}'
+      \ . ',%-G%.%#'

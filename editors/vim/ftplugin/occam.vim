@@ -15,3 +15,25 @@ let b:undo_ftplugin = "setlocal expandtab< shiftwidth< softtabstop< comments< co
 
 compiler occam
 let b:undo_ftplugin .= " | setlocal makeprg< errorformat<"
+
+if exists("*OccamTold")
+  finish
+endif
+
+" What JSON says of a refusal, or of a PROC, in words: `"text":"a","hint":"b"` without the marks is `a: b`.
+function OccamTold(text)
+  let said = substitute(a:text, '^"name":"\([^"]*\)","text":"\(.*\)"$', 'not checked: \1: \2', '')
+  let said = substitute(said, '","hint":"$', '', '')
+  let said = substitute(said, '","hint":"', ': ', '')
+  return substitute(said, '\\\(.\)', '\1', 'g')
+endfunction
+
+function s:TellMade()
+  if getqflist() != [] && get(b:, "current_compiler", "") ==# "occam"
+    call setqflist(map(getqflist(), {_, item -> extend(item, {"text": OccamTold(item.text)})}), "r")
+  endif
+endfunction
+
+augroup occam
+  autocmd! QuickFixCmdPost make call s:TellMade()
+augroup END

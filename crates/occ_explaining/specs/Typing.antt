@@ -1,0 +1,20 @@
+-- When what is typed changes nothing.
+-- Manual: nothing; this is (own).
+use Rattle.std.specs.Prelude.{List, false, ℕ, ◌≡◌}
+use Rattle.occ_play.specs.Playing.{Refuses, Unfolds}
+use Rattle.occ_play.specs.Status.{fault_status}
+use Rattle.occ_play.specs.declared.fault.PlayFault.{PlayFault}
+use Rattle.occ_play.specs.declared.playing.Options.{Options}
+use Rattle.occ_term.specs.UnfoldedProgram.{UnfoldedProgram, meaning}
+use Rattle.occ_term.specs.Uses.{uses_of}
+
+-- the program of a text has no input and no guard on the keyboard, which is channel 0
+pub record NeverInputs (source : List ℕ) : Type 0 where
+  pub program : UnfoldedProgram
+  pub unfolds : Unfolds source program
+  pub never : (uses_of (meaning program)).ins 0 ≡ false
+
+-- so, or the text is refused for turns of these options, which is told with status 1
+pub data NeedsNoKeyboard (options : Options) (source : List ℕ) : Type 0 where
+  by_program : NeverInputs source → NeedsNoKeyboard options source
+  by_refusal : (fault : PlayFault) → Refuses options source fault → fault_status fault ≡ 1 → NeedsNoKeyboard options source

@@ -1,0 +1,4 @@
+pub mod Passing
+pub mod Owning
+pub mod Rounds
+pub mod Names

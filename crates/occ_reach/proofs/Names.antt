@@ -1,0 +1,74 @@
+-- Names that are reached: one more, and none.
+use Rattle.std.proofs.Common.{◌≡◌, ◌∙◌, ◌⊎◌, inl, inr, sym, ap, subst, refl, List, [], ◌∷◌, ◌++◌, length, Bool, true, false, if◌then◌else◌, Some, None, arith}
+use Rattle.std.specs.Prelude.{bytes_eq, ◌||◌}
+use Rattle.std.specs.List.{list_any}
+use Rattle.std.proofs.Math.Bool.{true≢false}
+use Rattle.std.proofs.lemmas.Slice.Eq.{bytes_eq-Decides}
+use Rattle.std.proofs.lemmas.List.Folds.{list_any-append, list_any_more, list_any_none}
+use Rattle.occ_reach.specs.Calls.{Called}
+use Rattle.occ_reach.specs.Reach.{among}
+use Rattle.occ_reach.specs.Passes.{AddsName, Begins}
+
+none_any : {X : Type 0} (p : X → Bool) → list_any p [] ≡ false
+none_any p = list_any_none p [] (λ k d h. absurd (omega arith))
+
+any_one : {X : Type 0} (p : X → Bool) (x : X) → list_any p (x ∷ []) ≡ p x
+any_one p x = list_any_more p (x ∷ []) 0 x (omega arith) ∙ ap (λ b. b || p x) (none_any p)
+
+among_more : (names : List Called) (k f : Called) → among (names ++ k ∷ []) f ≡ (among names f || bytes_eq f k)
+among_more names k f = list_any-append (bytes_eq f) names (k ∷ []) ∙ ap (λ b. among names f || b) (any_one (bytes_eq f) k)
+
+either : (a b : Bool) → (a || b) ≡ true → (a ≡ true) ⊎ (b ≡ true)
+either true b h = inl refl
+either false b h = inr h
+
+left_true : (a b : Bool) → a ≡ true → (a || b) ≡ true
+left_true true b h = refl
+left_true false b h = absurd (true≢false (sym h))
+
+right_true : (a b : Bool) → b ≡ true → (a || b) ≡ true
+right_true true b h = refl
+right_true false b h = h
+
+pub name_added : (old new : List Called) (k name : Called) → k ≡ name → new ≡ (if list_any (bytes_eq k) old then old else old ++ k ∷ []) → AddsName old new name
+name_added old new k name same is = subst (AddsName old new) same (by (list_any (bytes_eq k) old) refl is)
+  where
+    by : (b : Bool) → list_any (bytes_eq k) old ≡ b → new ≡ (if b then old else old ++ k ∷ []) → AddsName old new k
+    by true e n = subst (λ ks. AddsName old ks k) (sym n) (e, (λ f h. h), (λ f h. inl h))
+    by false e n = subst (λ ks. AddsName old ks k) (sym n) (
+      among_more old k k ∙ right_true (among old k) (bytes_eq k k) ((bytes_eq-Decides k k).1 refl),
+      (λ f h. among_more old k f ∙ left_true (among old f) (bytes_eq f k) h),
+      (λ f h. added f (either (among old f) (bytes_eq f k) (sym (among_more old k f) ∙ h))),
+    )
+      where
+        added : (f : Called) → (among old f ≡ true) ⊎ (bytes_eq f k ≡ true) → (among old f ≡ true) ⊎ (f ≡ k)
+        added f (inl h) = inl h
+        added f (inr h) = inr ((bytes_eq-Decides f k).0 h)
+
+pub none_among : (names : List Called) → length names ≡ 0 → (f : Called) → among names f ≡ false
+none_among [] e f = none_any (bytes_eq f)
+none_among (k ∷ names) e f = absurd (omega arith)
+
+-- no main process
+pub begins_with_none : (names : List Called) → length names ≡ 0 → Begins None names
+begins_with_none names e = record {
+  has = λ f h. absurd (none_some h);
+  only = λ set m f h. absurd (true≢false (sym h ∙ none_among names e f));
+}
+  where
+    none_some : {f : Called} → None ≡ Some f → ⊥
+    none_some h = cc
+
+-- one
+pub begins_with : (old new : List Called) (name : Called) → length old ≡ 0 → AddsName old new name → Begins (Some name) new
+begins_with old new name e added = record {
+  has = λ f h. subst (λ x. among new x ≡ true) (some_same h) added.0;
+  only = λ set m f h. by set f (m name refl) (added.2 f h);
+}
+  where
+    some_same : {f : Called} → Some name ≡ Some f → name ≡ f
+    some_same h = cc
+
+    by : (set : Called → Bool) (f : Called) → set name ≡ true → (among old f ≡ true) ⊎ (f ≡ name) → set f ≡ true
+    by set f has (inl h) = absurd (true≢false (sym h ∙ none_among old e f))
+    by set f has (inr h) = ap set h ∙ has
