@@ -48,7 +48,7 @@ fn tell_found<R: Print + Eprint>(
     if words.json {
         print_found(rt, text.as_slice())
     } else {
-        print_text(rt, alloc, text.as_slice());
+        print_text(rt, alloc, words, text.as_slice());
         Ok(())
     }
 }
