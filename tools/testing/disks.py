@@ -15,9 +15,9 @@ SCREEN = b"A" * 1000
 OLD = "what stood here before\n"
 # how many bytes a file may have where the disk is full
 FULL = 4096
-WRITTEN = ["--record", "--chart", "--trace-to", "--steps"]
+WRITTEN = ["--record", "--typed", "--chart", "--trace-to", "--steps"]
 FAILED = b"write failed\n"
-OWN_FILE = b"--record, --chart, --trace-to and --steps each write into a file of their own\n"
+OWN_FILE = b"--record, --typed, --chart, --trace-to and --steps each write into a file of their own\n"
 NOBODY = 65534
 
 

@@ -309,7 +309,8 @@ def typed(program):
         wrong = []
         put(room, {"x.occ": ECHO})
         cases = [
-            (["x.occ"], "abc\n\x04", (0, "abc", NOTICE)),
+            (["x.occ"], "abc\n", (0, "abc", "")),
+            (["x.occ", "--workers=2"], "abc\n\x04", (0, "abc", NOTICE)),
             (["x.occ", "--explore"], "abc\n\x04", (0, '1 ended "abc" by 10 choices\neach run ends after 10 turns\none answer: the program has no ALT\n', NOTICE)),
             ([], "", (7, "", USAGE)),
             (["--trace"], f"{LETTER}\x04", (0, "A\n1 c1 screen p0>screen 65\nended\n", "")),

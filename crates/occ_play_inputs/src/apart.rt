@@ -1,7 +1,7 @@
 //! That a file which is written is none that is read, and not the other one.
 ghost use Rattle.std.specs.Prelude.{◌≡◌, IfErr, IsTrue};
 ghost use Rattle.occ_play_inputs.specs.declared.failure.Failure.{Failure};
-ghost use Rattle.occ_play_inputs.specs.Paths.{AreApart, AreTextsApart, Differ, IsNoneOf};
+ghost use Rattle.occ_play_inputs.specs.Paths.{AreApart, AreTextsApart, Differ, IsNoneOf, IsUnread, IsUnwritten};
 
 use crate::failure::Failure;
 use crate::words::Words;
@@ -76,6 +76,30 @@ pub(crate) fn are_apart(
         && are_beside(file, choices, written, drawn, traced, turns)
 }
 
+/// Whether the path of what was typed is none that is read.
+pub(crate) fn is_unread(typed: Option<&str>, file: Option<&str>, choices: Option<&str>) -> bool
+    ensures { IsTrue result → IsUnread typed.entry file.entry choices.entry }
+{
+    differ(typed, file) && differ(typed, choices)
+}
+
+/// Whether the path of what was typed is none of the others that are written.
+pub(crate) fn is_unwritten(
+    typed: Option<&str>,
+    written: Option<&str>,
+    drawn: Option<&str>,
+    traced: Option<&str>,
+    turns: Option<&str>,
+) -> bool
+    ensures { IsTrue result → IsUnwritten typed.entry written.entry drawn.entry traced.entry
+        turns.entry }
+{
+    differ(typed, written)
+        && differ(typed, drawn)
+        && differ(typed, traced)
+        && differ(typed, turns)
+}
+
 /// Whether both words name one plain file that there is, by whatever path.
 fn name_one<R: Files>(rt: &R, one: Option<&str>, other: Option<&str>) -> bool {
     match (one, other) {
@@ -105,6 +129,12 @@ pub fn check_files<R: Files>(rt: &R, words: &Words<'_>) -> Result<(), Failure>
         || name_one(rt, words.steps, words.choices)
         || name_one(rt, words.steps, words.record)
         || name_one(rt, words.steps, words.chart)
-        || name_one(rt, words.steps, words.trace_to);
+        || name_one(rt, words.steps, words.trace_to)
+        || name_one(rt, words.typed, words.file)
+        || name_one(rt, words.typed, words.choices)
+        || name_one(rt, words.typed, words.record)
+        || name_one(rt, words.typed, words.chart)
+        || name_one(rt, words.typed, words.trace_to)
+        || name_one(rt, words.typed, words.steps);
     if met { Err(Failure::Paths) } else { Ok(()) }
 }
