@@ -95,9 +95,9 @@ module _ (options : Options) (source : List ℕ) (list : List Choice) (trace : B
   module _ (read : List ℕ) (lived : Lived) (keys : AreBytes read) (small : length lived.outcome.choices.items < 2 ^ 64) (x : IsLive p read list lived) where
     pub live_answer : (live : LivePlayed) (bytes : List ℕ) → live.played.ending ≡ lived.outcome.ending → live.played.choices ≡ lived.outcome.choices → live.is_open ≡ lived.is_open
         → bytes ≡ text_of p lived.outcome trace → IsLiveAnswer options source read list trace live bytes
-    live_answer live bytes same_end same_choices open is = record {
+    live_answer live bytes same_end same_choices same_open is = record {
       answer = is_answer read lived.outcome live.played bytes keys small x.is same_end same_choices is;
-      for_more = λ o more are. is_answer (read ++ more) lived.outcome live.played bytes (all_bytes read more keys are) small (x.for_more (subst IsTrue open o) more) same_end same_choices is;
+      for_more = λ o more are. is_answer (read ++ more) lived.outcome live.played bytes (all_bytes read more keys are) small (x.for_more (subst IsTrue same_open o) more) same_end same_choices is;
     }
 
     -- what was written of it where the rest could not be
@@ -130,6 +130,6 @@ module _ (options : Options) (source : List ℕ) (list : List Choice) (trace : B
       -- and where it was
       pub wrote_all : (live : LivePlayed) → live.played.ending ≡ lived.outcome.ending → live.played.choices ≡ lived.outcome.choices → live.is_open ≡ lived.is_open
           → WritesRest contents p lived.outcome trace old new → (bytes : List ℕ) × IsLiveAnswer options source read list trace live bytes × AppendsTo contents first new bytes
-      wrote_all live same_end same_choices open h =
+      wrote_all live same_end same_choices same_open h =
           let screen = channel_bytes 1 lived.outcome.trace in
-          (screen ++ h.rest, live_answer live (screen ++ h.rest) same_end same_choices open (sym h.are), Appends-join (contents (writer_of first)) (contents (writer_of old)) (contents (writer_of new)) screen h.rest shown_so h.written)
+          (screen ++ h.rest, live_answer live (screen ++ h.rest) same_end same_choices same_open (sym h.are), Appends-join (contents (writer_of first)) (contents (writer_of old)) (contents (writer_of new)) screen h.rest shown_so h.written)

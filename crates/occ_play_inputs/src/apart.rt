@@ -94,10 +94,7 @@ pub(crate) fn is_unwritten(
     ensures { IsTrue result → IsUnwritten typed.entry written.entry drawn.entry traced.entry
         turns.entry }
 {
-    differ(typed, written)
-        && differ(typed, drawn)
-        && differ(typed, traced)
-        && differ(typed, turns)
+    differ(typed, written) && differ(typed, drawn) && differ(typed, traced) && differ(typed, turns)
 }
 
 /// Whether both words name one plain file that there is, by whatever path.
