@@ -162,7 +162,7 @@ def keyboards_of(path, count):
     """Keyboards for a program, the same at each run: each typed in pieces of its own."""
     made = random.Random(path.name)
     for _ in range(count):
-        yield [bytes(made.choice(KEYS) for _ in range(made.randrange(12))) for _ in range(made.randrange(4))]
+        yield [bytes(made.choice(KEYS) for _ in range(made.randrange(1, 12))) for _ in range(made.randrange(4))]
 
 
 def same(program, path, words, pieces):
