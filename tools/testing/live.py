@@ -297,14 +297,11 @@ def unwritten(program):
         for source in ("x.occ", "f.occ"):
             ends = []
             for more in ([], ["--live"]):
-                running = subprocess.Popen([program, *more, "--limit=20000", source], cwd=folder, stdin=subprocess.PIPE, stdout=subprocess.PIPE, stderr=subprocess.PIPE)
-                running.stdout.close()
-                try:
-                    running.stdin.write(b"y")
-                    running.stdin.close()
-                except BrokenPipeError:
-                    pass
-                ends.append((running.wait(SECONDS), running.stderr.read()))
+                reader, writer = os.pipe()
+                os.close(reader)
+                done = subprocess.run([program, *more, "--limit=20000", source], cwd=folder, input=b"y", stdout=writer, stderr=subprocess.PIPE, timeout=SECONDS, check=False)
+                os.close(writer)
+                ends.append((done.returncode, done.stderr))
             if ends[0] != ends[1]:
                 yield f"a closed pipe: {ends[1]}, and not {ends[0]}"
 
