@@ -66,11 +66,11 @@ fn refusal_name(number: u32) -> &'static str
 }
 
 /// The object of a refusal of this number.
-fn object_of(
+fn object_of<'x>(
     alloc: Global,
-    file: &str,
+    file: &'x str,
     number: u32,
-    explanation: &Explanation<'_>,
+    explanation: &'x Explanation<'_>,
 ) -> Result<Vec<u8>, AllocError>
     ensures { IfOk result (λ text. text.items ≡ object_told file.now number explanation.now) }
 {

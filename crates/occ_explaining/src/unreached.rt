@@ -23,7 +23,11 @@ fn in_words(alloc: Global, proc: &Unchecked<'_>) -> Result<Vec<u8>, AllocError>
 }
 
 /// The same as an object of JSON. The line begins with `PROC`, behind two spaces for each level.
-fn as_object(alloc: Global, file: &str, proc: &Unchecked<'_>) -> Result<Vec<u8>, AllocError>
+fn as_object<'x>(
+    alloc: Global,
+    file: &'x str,
+    proc: &'x Unchecked<'_>,
+) -> Result<Vec<u8>, AllocError>
     ensures { IfOk result (λ text. text.items ≡ as_object file.now (unchecked_head proc.now)) }
 {
     let column = 2 * u64::from(proc.level) + 1;
