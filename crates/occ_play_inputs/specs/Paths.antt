@@ -22,6 +22,11 @@ IsNoneOf turns file choices written drawn traced =
 abbrev pub AreApart : (file choices written drawn traced turns : Option (Bor (List ℕ))) → Type 0
 AreApart file choices written drawn traced turns = AreTextsApart file choices written drawn traced × IsNoneOf turns file choices written drawn traced
 
+-- a further file of the source is none of those that are written
+abbrev pub IsUnwritten : (written drawn traced turns : Option (Bor (List ℕ))) → Bor (List ℕ) → Type 0
+IsUnwritten written drawn traced turns path =
+    Differ written (Some path) × Differ drawn (Some path) × Differ traced (Some path) × Differ turns (Some path)
+
 -- the path of the source is the one that was given, and none for a hyphen
 abbrev pub IsSourcePath : Option (List ℕ) → Option (List ℕ) → Type 0
 IsSourcePath given None = (given ≡ None) ⊎ (given ≡ Some (codes "-"))

@@ -1,7 +1,7 @@
 //! That a file which is written is none that is read, and not the other one.
-ghost use Rattle.std.specs.Prelude.{◌≡◌, IfErr, IsTrue};
+ghost use Rattle.std.specs.Prelude.{◌≡◌, All, IfErr, IsTrue};
 ghost use Rattle.occ_play_inputs.specs.declared.failure.Failure.{Failure};
-ghost use Rattle.occ_play_inputs.specs.Paths.{AreApart, AreTextsApart, Differ, IsNoneOf};
+ghost use Rattle.occ_play_inputs.specs.Paths.{AreApart, AreTextsApart, Differ, IsNoneOf, IsUnwritten};
 
 use crate::failure::Failure;
 use crate::words::Words;
@@ -76,6 +76,40 @@ pub(crate) fn are_apart(
         && are_beside(file, choices, written, drawn, traced, turns)
 }
 
+/// Whether the path of a further file of the source is none of those that are written.
+fn is_unwritten(
+    path: &str,
+    written: Option<&str>,
+    drawn: Option<&str>,
+    traced: Option<&str>,
+    turns: Option<&str>,
+) -> bool
+    ensures { IsTrue result → IsUnwritten written.entry drawn.entry traced.entry turns.entry
+        path.entry }
+{
+    let path = Some(path);
+    differ(written, path) && differ(drawn, path) && differ(traced, path) && differ(turns, path)
+}
+
+/// Whether each of these is.
+pub(crate) fn are_unwritten(
+    paths: &[&str],
+    written: Option<&str>,
+    drawn: Option<&str>,
+    traced: Option<&str>,
+    turns: Option<&str>,
+) -> bool
+    ensures { IsTrue result → All (IsUnwritten written.entry drawn.entry traced.entry turns.entry)
+        paths.now }
+{
+    for i in 0..paths.len() {
+        if !is_unwritten(paths[i], written, drawn, traced, turns) {
+            return false;
+        }
+    }
+    true
+}
+
 /// Whether both words name one plain file that there is, by whatever path.
 fn name_one<R: Files>(rt: &R, one: Option<&str>, other: Option<&str>) -> bool {
     match (one, other) {
@@ -106,5 +140,24 @@ pub fn check_files<R: Files>(rt: &R, words: &Words<'_>) -> Result<(), Failure>
         || name_one(rt, words.steps, words.record)
         || name_one(rt, words.steps, words.chart)
         || name_one(rt, words.steps, words.trace_to);
-    if met { Err(Failure::Paths) } else { Ok(()) }
+    if met || writes_one(rt, words) {
+        Err(Failure::Paths)
+    } else {
+        Ok(())
+    }
+}
+
+/// Whether a file that is written is a further file of the source, by whatever paths.
+fn writes_one<R: Files>(rt: &R, words: &Words<'_>) -> bool {
+    for path in words.more.as_slice() {
+        let path = Some(*path);
+        if name_one(rt, words.record, path)
+            || name_one(rt, words.chart, path)
+            || name_one(rt, words.trace_to, path)
+            || name_one(rt, words.steps, path)
+        {
+            return true;
+        }
+    }
+    false
 }
