@@ -1,5 +1,5 @@
 -- Texts that are joined, one more.
-use Rattle.std.proofs.Common.{◌≡◌, ◌∙◌, ap, refl, ℕ, List, [], ◌∷◌, ◌++◌, take}
+use Rattle.std.proofs.Common.{◌≡◌, ap, refl, ℕ, List, [], ◌∷◌, ◌++◌, take}
 use Rattle.occ_sources.specs.Sources.{ended, ends_of, joined, line_feeds}
 
 pub joined_snoc : (most : ℕ) (before : List ℕ) (ts : List (List ℕ)) (t : List ℕ) → joined most before (ts ++ t ∷ []) ≡ joined most (joined most before ts) (t ∷ [])

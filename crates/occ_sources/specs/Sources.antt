@@ -1,6 +1,6 @@
 -- A source of several files.
 -- Manual: nothing; this is (own).
-use Rattle.std.specs.Prelude.{Bool, List, [], false, if◌then◌else◌, nat_le, suc, take, true, ℕ, ◌++◌, ◌-◌, ◌==◌, ◌∷◌}
+use Rattle.std.specs.Prelude.{Bool, List, [], if◌then◌else◌, nat_le, suc, take, true, ℕ, ◌++◌, ◌-◌, ◌==◌, ◌∷◌}
 
 -- whether the last byte of a text is a line feed, or it has none
 abbrev pub has_end : List ℕ → Bool

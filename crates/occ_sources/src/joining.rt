@@ -40,7 +40,7 @@ pub fn add_text(joined: &mut Vec<u8>, text: &[u8], most: usize) -> Result<(), Al
 
 /// How many line feeds a text has.
 fn line_feeds(mut text: &[u8]) -> u32
-    requires { length text.entry.now < 4294967295 }
+    requires { length text.now < 4294967295 }
     ensures value { result ≡ line_feeds text.entry.now }
     ensures few { result ≤ length text.entry.now }
 {
