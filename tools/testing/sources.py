@@ -10,6 +10,7 @@ WRONG = "PROC main (CHAN OF BYTE keyboard, screen)\n  x := 1\n:\n"
 FAULTS = "PROC main (CHAN OF BYTE keyboard, screen)\n  INT x:\n  SEQ\n    a (screen)\n    x := 1 / 0\n:\n"
 OWN = "--record, --chart, --trace-to and --steps each write into a file of their own\n"
 MISSING = "no such file or folder\n"
+ADVICE = "  `occam FILE` runs the program in FILE, `occam --help` lists the options\n"
 UNKNOWN = "`x` is not declared here\n2 |   x := 1\n  |   ^\n"
 FILES = {"a.occ": LETTERS, "m.occ": MAIN, "e.occ": ECHO, "w.occ": WRONG, "f.occ": FAULTS, "n.occ": LETTERS.rstrip("\n"), "z.occ": "", "c.occ": LETTERS.replace("\n", "\r\n")}
 # words, what is typed, and the status with what the two streams get; for a text on standard error that is None the first line alone
@@ -21,7 +22,7 @@ RUNS = [
     (["a.occ", "e.occ"], "k", (0, "ka", "")),
     (["a.occ", "--trace", "m.occ"], "", (0, "a\n1 c1 screen p0>screen 97\nended\n", "")),
     (["--explore=endings", "a.occ", "m.occ"], "", (0, "1 ended by 2 choices\neach run ends after 2 turns\none answer: the program has no ALT\n", "")),
-    (["m.occ", "a.occ"], "", (1, "", "refused 30 Unknown line 2 a\n")),
+    (["m.occ", "a.occ"], "", (1, "", "refused 52 TwoOutputs line 5 keyboard\n")),
     (["a.occ", "w.occ"], "", (1, "", "refused 30 Unknown line 5 x\n")),
     (["n.occ", "w.occ"], "", (1, "", "refused 30 Unknown line 5 x\n")),
     (["z.occ", "w.occ"], "", (1, "", "refused 30 Unknown line 2 x\n")),
@@ -30,7 +31,7 @@ RUNS = [
     (["a.occ", "z.occ", "n.occ", "m.occ", "--check"], "", (0, "", "")),
     (["a.occ", "none.occ"], "", (6, "", "read failed\n")),
     (["--explain", "a.occ", "none.occ", "m.occ"], "", (6, "", f"read failed\nnone.occ: {MISSING}")),
-    (["--explain", "none.occ", "m.occ"], "", (6, "", f"read failed\nnone.occ: {MISSING}")),
+    (["--explain", "none.occ", "m.occ"], "", (6, "", f"read failed\nnone.occ: {MISSING}{ADVICE}")),
     (["--record", "m.occ", "a.occ", "m.occ"], "", (7, "", None)),
     (["--steps", "z.occ", "a.occ", "m.occ", "z.occ"], "", (7, "", None)),
     (["--chart", "./m.occ", "a.occ", "m.occ"], "", (7, "", OWN)),
@@ -38,7 +39,7 @@ RUNS = [
     (["-", "m.occ"], "", (7, "", None)),
     (["m.occ", "-"], "", (7, "", None)),
     (["l.occ", "l.occ"], "", (1, "", "refused 1 TooLong\n")),
-    (["l.occ", "m.occ"], "", (1, "", "refused 30 Unknown line 2 a\n")),
+    (["l.occ", "m.occ"], "", (1, "", "refused 30 Unknown line 3 a\n")),
 ]
 # words, and the place that an explanation and an object tell: the file, the line, the column
 PLACES = [
@@ -50,7 +51,7 @@ PLACES = [
 ]
 UNREACHED = [
     (["a.occ", "n.occ", "l.occ", "m.occ"], []),
-    (["m.occ", "a.occ", "r.7.choices"], [("a", "a.occ", 1), ("b", "r.7.choices", 2)]),
+    (["m.occ", "a.occ", "r.7.choices"], [("b", "r.7.choices", 2)]),
 ]
 
 
