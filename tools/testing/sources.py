@@ -12,6 +12,7 @@ OWN = "--record, --chart, --trace-to and --steps each write into a file of their
 MISSING = "no such file or folder\n"
 ADVICE = "  `occam FILE` runs the program in FILE, `occam --help` lists the options\n"
 UNKNOWN = "`x` is not declared here\n2 |   x := 1\n  |   ^\n"
+BEGINNINGS = "a.occ begins at line 1\nf.occ begins at line 4\n"
 FILES = {"a.occ": LETTERS, "m.occ": MAIN, "e.occ": ECHO, "w.occ": WRONG, "f.occ": FAULTS, "n.occ": LETTERS.rstrip("\n"), "z.occ": "", "c.occ": LETTERS.replace("\n", "\r\n")}
 # words, what is typed, and the status with what the two streams get; for a text on standard error that is None the first line alone
 RUNS = [
@@ -28,6 +29,8 @@ RUNS = [
     (["z.occ", "w.occ"], "", (1, "", "refused 30 Unknown line 2 x\n")),
     (["w.occ", "m.occ", "--check"], "", (1, "", "refused 30 Unknown line 5 a\n")),
     (["a.occ", "f.occ"], "", (3, "a\nfault ARITH line 8\n", "")),
+    (["--explain", "a.occ", "f.occ"], "", (3, "a\nfault ARITH line 8\n", f"p0 main, line 8: fault ARITH\n{BEGINNINGS}")),
+    (["--explain", "f.occ"], "", (1, "", None)),
     (["a.occ", "z.occ", "n.occ", "m.occ", "--check"], "", (0, "", "")),
     (["a.occ", "none.occ"], "", (6, "", "read failed\n")),
     (["--explain", "a.occ", "none.occ", "m.occ"], "", (6, "", f"read failed\nnone.occ: {MISSING}")),

@@ -1,8 +1,10 @@
 //! The files that a source is made of.
-ghost use Rattle.std.specs.Prelude.{◌≡◌};
-ghost use Rattle.occ_explaining.specs.Files.{files_of, file_name, place_told};
+ghost use Rattle.std.specs.Prelude.{◌≡◌, ◌++◌, IfOk, OnOk, map};
+ghost use Rattle.occ_explaining.specs.Files.{beginning, beginnings, beginnings_after, files_of, file_name, place_told};
 
+use occ_files::printed_name;
 use occ_sources::place_in_files;
+use std::alloc::{AllocError, Global};
 
 /// The files of a source.
 #[derive(Clone, Copy)]
@@ -35,4 +37,58 @@ pub(crate) fn place_told<'a>(files: &Files<'a>, line: u32) -> (&'a str, u32)
 {
     let (number, line) = place_in_files(files.ends, line);
     (file_name(files, number), line)
+}
+
+/// Writes in which line of the source a file begins that has so many lines before it.
+fn write_beginning(
+    alloc: Global,
+    out: &mut Vec<u8>,
+    name: &str,
+    before: u32,
+) -> Result<(), AllocError>
+    ensures { OnOk result (out.new.items ≡ out.old.items ++ beginning name.now before) }
+{
+    let name = printed_name(alloc, name.as_bytes())?;
+    out.extend_from_slice(name.as_slice())?;
+    let line = u64::from(before) + 1;
+    let rest = format!(in alloc; " begins at line {line}\n")?;
+    out.extend_from_slice(rest.as_bytes())?;
+    Ok(())
+}
+
+/// Writes the same of each of these files, which have so many lines before them.
+fn write_beginnings(
+    alloc: Global,
+    out: &mut Vec<u8>,
+    mut names: &[&str],
+    mut ends: &[u32],
+) -> Result<(), AllocError>
+    ensures { OnOk result (out.new.items ≡ out.old.items
+        ++ beginnings_after (map (λ m. m.now) names.entry.now) ends.entry.now) }
+{
+    while let [name, others @ ..] = names {
+        let [end, left @ ..] = ends else {
+            break;
+        };
+        write_beginning(alloc, out, *name, *end)?;
+        names = others;
+        ends = left;
+    }
+    Ok(())
+}
+
+/// In which line of the source each of its files begins, where it has several: a report counts the lines through all of them.
+///
+/// # Errors
+///
+/// A refused growth.
+pub fn beginnings(alloc: Global, files: &Files<'_>) -> Result<Vec<u8>, AllocError>
+    ensures { IfOk result (λ text. text.items ≡ beginnings (files_of files.now)) }
+{
+    let mut text = Vec::new(alloc);
+    if !files.more.is_empty() {
+        write_beginning(alloc, &mut text, files.first, 0)?;
+        write_beginnings(alloc, &mut text, files.more, files.ends)?;
+    }
+    Ok(text)
 }

@@ -15,7 +15,7 @@ pub mod stepped;
 pub mod unreached;
 
 pub use charted::named_chart;
-pub use files::Files;
+pub use files::{Files, beginnings};
 pub use keyboard::may_input;
 pub use objects::refusal_object;
 pub use refused::explained_fault;

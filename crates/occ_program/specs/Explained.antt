@@ -4,7 +4,7 @@ use Rattle.std.specs.Prelude.{Bool, Err, List, Ok, Result, Some, [], codes, get_
 use Rattle.std.specs.Fmt.{decimal}
 use Rattle.std.specs.List.{list_any}
 use Rattle.occ_explaining.specs.Explaining.{ReportsOn, TellsRefusal, refusal_in}
-use Rattle.occ_explaining.specs.Files.{SourceFiles}
+use Rattle.occ_explaining.specs.Files.{SourceFiles, beginnings}
 use Rattle.occ_explore.specs.declared.exploration.Answer.{Answer}
 use Rattle.occ_files.specs.Names.{printed_name}
 use Rattle.occ_files.specs.declared.reason.Reason.{Reason}
@@ -47,9 +47,10 @@ abbrev pub TellsWhy : Words → Inputs → Reason → PlayFault → List ℕ →
 TellsWhy words inputs reason (play.Write written) text = text ≡ trouble_text words (trouble Output reason)
 TellsWhy words inputs reason fault text = TellsOf words inputs.source.items inputs.ends.items fault text
 
--- the report of the run of the inputs by these choices
+-- The report of the run of the inputs by these choices. Where the source has several files, it is told below in which lines they begin.
 abbrev pub ReportsRun : Words → Inputs → List Choice → List ℕ → Type 0
-ReportsRun words inputs choices text = ReportsOn (options_in words) inputs.source.items inputs.keyboard.items choices text
+ReportsRun words inputs choices text =
+    (report : List ℕ) × ReportsOn (options_in words) inputs.source.items inputs.keyboard.items choices report × (text ≡ report ++ beginnings (files_in words inputs.ends.items))
 
 -- of a fault that, and of a run the report by its choices
 abbrev pub Explains : Words → Inputs → Reason → Result Played PlayFault → List ℕ → Type 0

@@ -9,8 +9,9 @@ ghost use Rattle.occ_program.specs.Troubles.{trouble_text};
 use crate::program::options_of;
 use crate::terminal::in_bold;
 use crate::troubles::{path_or, trouble_text};
-use occ_explaining::{Files, explained_fault, report_of};
+use occ_explaining::{Files, beginnings, explained_fault, report_of};
 use occ_files::{Reason, printed_name};
+use occ_net_replay::Choice;
 use occ_play::{PlayFault, Played};
 use occ_play_inputs::{Inputs, Stream, Trouble, Words};
 use occ_term::Ending;
@@ -169,17 +170,31 @@ fn reported(alloc: Global, words: &Words<'_>, inputs: &Inputs, played: &Played) 
     if let Ending::Ended = played.ending {
         return None;
     }
-    let report = report_of(
+    match run_report(alloc, words, inputs, played.choices.as_slice()) {
+        Ok(report) => Some(report),
+        Err(_) => None,
+    }
+}
+
+/// What each process stands at behind the run of the inputs by these choices, and where the source's files begin.
+pub(crate) fn run_report(
+    alloc: Global,
+    words: &Words<'_>,
+    inputs: &Inputs,
+    choices: &[Choice],
+) -> Result<Vec<u8>, PlayFault>
+    ensures { IfOk result (λ text. ReportsRun words.now inputs.now choices.now text.items) }
+{
+    let mut text = report_of(
         &options_of(words),
         alloc,
         inputs.source.as_slice(),
         inputs.keyboard.as_slice(),
-        played.choices.as_slice(),
-    );
-    match report {
-        Ok(report) => Some(report),
-        Err(_) => None,
-    }
+        choices,
+    )?;
+    let below = beginnings(alloc, &files_of(words, inputs.ends.as_slice()))?;
+    text.extend_from_slice(below.as_slice())?;
+    Ok(text)
 }
 
 /// Prints a text to standard error, with its first line in bold where that is wanted.
