@@ -39,6 +39,9 @@ beginnings_after [] ends = []
 beginnings_after (name ∷ names) [] = []
 beginnings_after (name ∷ names) (end ∷ ends) = beginning name end ++ beginnings_after names ends
 
+abbrev pub later_beginnings : SourceFiles → List ℕ
+later_beginnings f = beginnings_after f.more f.ends
+
 -- of all files, where there are several
 abbrev pub beginnings_of : (first : List ℕ) → (more : List (List ℕ)) → (ends : List ℕ) → List ℕ
 beginnings_of first [] ends = []

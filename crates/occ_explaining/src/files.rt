@@ -1,6 +1,6 @@
 //! The files that a source is made of.
-ghost use Rattle.std.specs.Prelude.{◌≡◌, ◌++◌, IfOk, OnOk, map};
-ghost use Rattle.occ_explaining.specs.Files.{beginning, beginnings, beginnings_after, files_of, file_name, place_told};
+ghost use Rattle.std.specs.Prelude.{◌≡◌, ◌++◌, IfOk, OnOk};
+ghost use Rattle.occ_explaining.specs.Files.{beginning, beginnings, files_of, file_name, later_beginnings, place_told};
 
 use occ_files::printed_name;
 use occ_sources::place_in_files;
@@ -56,16 +56,11 @@ fn write_beginning(
     Ok(())
 }
 
-/// Writes the same of each of these files, which have so many lines before them.
-fn write_beginnings(
-    alloc: Global,
-    out: &mut Vec<u8>,
-    mut names: &[&str],
-    mut ends: &[u32],
-) -> Result<(), AllocError>
-    ensures { OnOk result (out.new.items ≡ out.old.items
-        ++ beginnings_after (map (λ m. m.now) names.entry.now) ends.entry.now) }
+/// Writes the same of each file but the first.
+fn write_beginnings(alloc: Global, out: &mut Vec<u8>, files: &Files<'_>) -> Result<(), AllocError>
+    ensures { OnOk result (out.new.items ≡ out.old.items ++ later_beginnings (files_of files.now)) }
 {
+    let (mut names, mut ends) = (files.more, files.ends);
     while let [name, others @ ..] = names {
         let [end, left @ ..] = ends else {
             break;
@@ -88,7 +83,7 @@ pub fn beginnings(alloc: Global, files: &Files<'_>) -> Result<Vec<u8>, AllocErro
     let mut text = Vec::new(alloc);
     if !files.more.is_empty() {
         write_beginning(alloc, &mut text, files.first, 0)?;
-        write_beginnings(alloc, &mut text, files.more, files.ends)?;
+        write_beginnings(alloc, &mut text, files)?;
     }
     Ok(text)
 }
