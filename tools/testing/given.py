@@ -32,7 +32,7 @@ WRONG = [
     "--workers=0", "--workers=65", "--arrows=4294967296", "--seed=1000000001", "--seed=1 --tries=0", "--explore --states=0",
     "--explore --states=10000001",
     # a word that is not one of those allowed, none at all, and one too many
-    "--errors=both", "--errors=STOP", "--explore=all", "--chart", "--trace=yes", "--nope", "-t", "g.occ",
+    "--errors=both", "--errors=STOP", "--explore=all", "--chart", "--trace=yes", "--nope", "-t", "-",
     # a word twice
     "--limit=1 --limit=1", "--trace --trace",
     # words of one run beside a search, or beside a check

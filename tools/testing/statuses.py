@@ -141,7 +141,7 @@ CASES = [
     Case(["a\x1b[31m\x7f\u009bé\n.occ", "--explain"], 6, "", f"read failed\na\\x1b[31m\\x7f\\xc2\\x9bé\\x0a.occ: {NO_SOURCE}"),
     Case(["b\x1bc"], 1, "", "refused 50 SharedVariable line 5 x\n", files={"b\x1bc": SHARED}),
     Case(["b\x1bc", "--explain"], 1, "", SHARED_TOLD.replace("x.occ", "b\\x1bc"), files={"b\x1bc": SHARED}),
-    Case(["a.occ", "b\x1bc"], 7, "", "error: unexpected argument 'b\\x1bc' found\nUsage: occam [FILE] [OPTIONS]\noccam --help says what is allowed\n"),
+    Case(["a.occ", "--b\x1bc"], 7, "", "error: unexpected argument '--b\\x1bc' found\n  tip: to pass '--b\\x1bc' as a value, use '-- --b\\x1bc'\noccam --help says what is allowed\n"),
     of(LETTER, ["--explain", "--choices", "none"], 6, "", f"read failed\nnone: {MISSING}"),
     of(LETTER, ["--explain"], 6, "", "write failed\nstandard output: no room is left\n", to="/dev/full"),
     of(LETTER, ["--explain", "--record", "none/x"], 6, "A", f"write failed\nnone/x: {MISSING}"),

@@ -1,7 +1,7 @@
 //! That a file which is written is none that is read, and not the other one.
-ghost use Rattle.std.specs.Prelude.{◌≡◌, IfErr, IsTrue};
+ghost use Rattle.std.specs.Prelude.{◌≡◌, All, IfErr, IsTrue};
 ghost use Rattle.occ_play_inputs.specs.declared.failure.Failure.{Failure};
-ghost use Rattle.occ_play_inputs.specs.Paths.{AreApart, AreTextsApart, Differ, IsNoneOf, IsUnread, IsUnwritten};
+ghost use Rattle.occ_play_inputs.specs.Paths.{AreApart, AreTextsApart, Differ, HasOwnFile, IsNoneOf, IsUnread, IsUntyped, IsUnwritten};
 
 use crate::failure::Failure;
 use crate::words::Words;
@@ -76,7 +76,41 @@ pub(crate) fn are_apart(
         && are_beside(file, choices, written, drawn, traced, turns)
 }
 
-/// Whether the path of what was typed is none that is read.
+/// Whether the path of a further file of the source is none of those that are written.
+fn is_unwritten(
+    path: &str,
+    written: Option<&str>,
+    drawn: Option<&str>,
+    traced: Option<&str>,
+    turns: Option<&str>,
+) -> bool
+    ensures { IsTrue result → IsUnwritten written.entry drawn.entry traced.entry turns.entry
+        path.entry }
+{
+    let path = Some(path);
+    differ(written, path) && differ(drawn, path) && differ(traced, path) && differ(turns, path)
+}
+
+/// Whether each of these is.
+pub(crate) fn are_unwritten(
+    paths: &[&str],
+    written: Option<&str>,
+    drawn: Option<&str>,
+    traced: Option<&str>,
+    turns: Option<&str>,
+) -> bool
+    ensures { IsTrue result → All (IsUnwritten written.entry drawn.entry traced.entry turns.entry)
+        paths.now }
+{
+    for i in 0..paths.len() {
+        if !is_unwritten(paths[i], written, drawn, traced, turns) {
+            return false;
+        }
+    }
+    true
+}
+
+/// Whether the path of what was typed is none that is read, but for further files of the source.
 pub(crate) fn is_unread(typed: Option<&str>, file: Option<&str>, choices: Option<&str>) -> bool
     ensures { IsTrue result → IsUnread typed.entry file.entry choices.entry }
 {
@@ -84,17 +118,29 @@ pub(crate) fn is_unread(typed: Option<&str>, file: Option<&str>, choices: Option
 }
 
 /// Whether the path of what was typed is none of the others that are written.
-pub(crate) fn is_unwritten(
+pub(crate) fn has_own_file(
     typed: Option<&str>,
     written: Option<&str>,
     drawn: Option<&str>,
     traced: Option<&str>,
     turns: Option<&str>,
 ) -> bool
-    ensures { IsTrue result → IsUnwritten typed.entry written.entry drawn.entry traced.entry
+    ensures { IsTrue result → HasOwnFile typed.entry written.entry drawn.entry traced.entry
         turns.entry }
 {
     differ(typed, written) && differ(typed, drawn) && differ(typed, traced) && differ(typed, turns)
+}
+
+/// Whether what was typed goes into none of these further files of the source.
+pub(crate) fn are_untyped(paths: &[&str], typed: Option<&str>) -> bool
+    ensures { IsTrue result → All (IsUntyped typed.entry) paths.now }
+{
+    for i in 0..paths.len() {
+        if !differ(typed, Some(paths[i])) {
+            return false;
+        }
+    }
+    true
 }
 
 /// Whether both words name one plain file that there is, by whatever path.
@@ -133,5 +179,25 @@ pub fn check_files<R: Files>(rt: &R, words: &Words<'_>) -> Result<(), Failure>
         || name_one(rt, words.typed, words.chart)
         || name_one(rt, words.typed, words.trace_to)
         || name_one(rt, words.typed, words.steps);
-    if met { Err(Failure::Paths) } else { Ok(()) }
+    if met || writes_one(rt, words) {
+        Err(Failure::Paths)
+    } else {
+        Ok(())
+    }
+}
+
+/// Whether a file that is written is a further file of the source, by whatever paths.
+fn writes_one<R: Files>(rt: &R, words: &Words<'_>) -> bool {
+    for path in words.more.as_slice() {
+        let path = Some(*path);
+        if name_one(rt, words.record, path)
+            || name_one(rt, words.typed, path)
+            || name_one(rt, words.chart, path)
+            || name_one(rt, words.trace_to, path)
+            || name_one(rt, words.steps, path)
+        {
+            return true;
+        }
+    }
+    false
 }

@@ -16,8 +16,10 @@ use thiserror::Error;
 /// A file or a stream that the program reads or writes.
 #[derive(Clone, Copy, Debug, PartialEq, Eq)]
 pub enum Stream {
-    /// The source: the file that the words name, or standard input.
+    /// The source: the first file that the words name, or standard input.
     Source,
+    /// A further file of the source, by its number from 0.
+    More(usize),
     /// What is typed: standard input.
     Keyboard,
     /// The file of choices.

@@ -1,13 +1,13 @@
 //! The words of the command line.
-ghost use Rattle.std.specs.Prelude.{◌≡◌, ◌≤◌, ◌<◌, IfOk, IsTrue, unwrap_or};
+ghost use Rattle.std.specs.Prelude.{◌≡◌, ◌≤◌, ◌<◌, All, IfOk, IsTrue, unwrap_or};
 ghost use Rattle.std.specs.Option.{ForSome, option_copied};
 ghost use Rattle.occ_choices.specs.Crews.{IsCrew};
 ghost use Rattle.occ_code.specs.CodeOf.{IsQuantum};
 ghost use Rattle.occ_play_inputs.specs.Modes.{IsMode};
-ghost use Rattle.occ_play_inputs.specs.Paths.{AreApart, IsSourcePath, IsUnread, IsUnwritten};
+ghost use Rattle.occ_play_inputs.specs.Paths.{AreApart, HasOwnFile, IsSourcePath, IsUnread, IsUntyped, IsUnwritten};
 ghost use Rattle.occ_play_inputs.specs.Searches.{IsFull, IsSearch};
 
-use crate::apart::{are_apart, is_unread, is_unwritten};
+use crate::apart::{are_apart, are_untyped, are_unwritten, has_own_file, is_unread};
 use clap::builder::ValueParser;
 use clap::error::ErrorKind;
 use clap::{Arg, ArgAction, ArgMatches, Command, Error, value_parser};
@@ -148,8 +148,10 @@ pub struct Words<'a> {
     pub states: u32,
     /// Whether it is only said whether the source is refused: then nothing is typed and nothing is played.
     pub check: bool,
-    /// The path of the source; none where standard input is the source.
+    /// The path of the source, or of its first file; none where standard input is the source.
     pub file: Option<&'a str>,
+    /// The paths of its further files, in order.
+    pub more: Vec<&'a str>,
     ghost limit_in_range: { limit ≤ 10000000 },
     ghost quantum_in_range: { IsQuantum quantum },
     ghost workers_in_range: { ForSome workers IsCrew },
@@ -159,8 +161,10 @@ pub struct Words<'a> {
     ghost some_tries: { 1 ≤ tries },
     ghost tries_in_range: { tries ≤ 1000000 },
     ghost files_apart: { AreApart file choices «record» chart trace_to steps },
+    ghost more_apart: { All (IsUnwritten «record» chart trace_to steps) more.items },
     ghost typed_unread: { IsUnread typed file choices },
-    ghost typed_apart: { IsUnwritten typed «record» chart trace_to steps },
+    ghost typed_apart: { HasOwnFile typed «record» chart trace_to steps },
+    ghost more_untyped: { All (IsUntyped typed) more.items },
 }
 
 /// Reads the words, of which the first is the program's name.
@@ -171,19 +175,42 @@ pub struct Words<'a> {
 /// an error of the kind `DisplayHelp`, and one for the version of the kind `DisplayVersion`.
 pub fn read_words<'a>(alloc: Global, words: &'a [&'a str]) -> Result<Words<'a>, Error> {
     let mut command = command(alloc)?;
-    read_by(&mut command, words)
+    read_by(alloc, &mut command, words)
 }
 
 /// What the command finds in the words.
-fn read_by<'a>(command: &mut Command<'a>, words: &'a [&'a str]) -> Result<Words<'a>, Error> {
+fn read_by<'a>(
+    alloc: Global,
+    command: &mut Command<'a>,
+    words: &'a [&'a str],
+) -> Result<Words<'a>, Error> {
     let matches = command.try_get_matches_from_mut(words)?;
-    match words_of(&matches) {
+    let more = more_of(alloc, &matches)?;
+    match words_of(&matches, more) {
         Ok(words) => Ok(words),
         Err(told) => Err(refused(command, told)),
     }
 }
 
-/// The path of the source, where the words gave this one or none: a hyphen is standard input.
+/// The files of the source behind the first one.
+fn more_of<'a>(alloc: Global, matches: &ArgMatches<'a>) -> Result<Vec<&'a str>, AllocError> {
+    match matches.get_strs("FILE") {
+        Some([_, more @ ..]) => Vec::from_slice(alloc, more),
+        _ => Ok(Vec::new(alloc)),
+    }
+}
+
+/// Whether one of these paths is a hyphen.
+fn has_hyphen(paths: &[&str]) -> bool {
+    for path in paths {
+        if *path == "-" {
+            return true;
+        }
+    }
+    false
+}
+
+/// The path of the source's first file, where the words gave this one or none: a hyphen is standard input.
 fn file_of<'a>(given: Option<&'a str>) -> Option<&'a str>
     ensures { IsSourcePath (option_copied given.entry) (option_copied result) }
 {
@@ -202,7 +229,7 @@ fn refused<'a>(command: &mut Command<'a>, told: &str) -> Error {
 }
 
 /// What the words say that were found, or what is told where one of them says what it may not.
-fn words_of<'a>(matches: &ArgMatches<'a>) -> Result<Words<'a>, &'static str> {
+fn words_of<'a>(matches: &ArgMatches<'a>, more: Vec<&'a str>) -> Result<Words<'a>, &'static str> {
     let limit = limit_of(matches.get_one::<u32>("limit"));
     let limit = number_in(limit, 0, MOST_TURNS, "the limit is 0 to 10000000 turns")?;
     let quantum = quantum_of(matches.get_one::<u32>("quantum"));
@@ -220,13 +247,21 @@ fn words_of<'a>(matches: &ArgMatches<'a>) -> Result<Words<'a>, &'static str> {
     let tries = tries_of(matches.get_one::<u32>("tries"));
     let tries = number_in(tries, 1, MOST_TRIES, "the tries are 1 to 1000000")?;
     let (file, choices) = (file_of(matches.get_str("FILE")), matches.get_str("choices"));
+    if has_hyphen(more.as_slice()) || file.is_none() && !more.is_empty() {
+        return Err("- is standard input as the source, and stands alone");
+    }
     let (record, chart) = (matches.get_str("record"), matches.get_str("chart"));
     let (trace_to, steps) = (matches.get_str("trace-to"), matches.get_str("steps"));
     let typed = matches.get_str("typed");
-    if !are_apart(file, choices, record, chart, trace_to, steps) {
+    if !are_apart(file, choices, record, chart, trace_to, steps)
+        || !are_unwritten(more.as_slice(), record, chart, trace_to, steps)
+    {
         return Err(ONE_FILE);
     }
-    if !is_unread(typed, file, choices) || !is_unwritten(typed, record, chart, trace_to, steps) {
+    if !is_unread(typed, file, choices)
+        || !has_own_file(typed, record, chart, trace_to, steps)
+        || !are_untyped(more.as_slice(), typed)
+    {
         return Err(ONE_FILE);
     }
     let (json, check) = (matches.get_flag("json"), matches.get_flag("check"));
@@ -260,6 +295,7 @@ fn words_of<'a>(matches: &ArgMatches<'a>) -> Result<Words<'a>, &'static str> {
         states,
         check,
         file,
+        more,
     })
 }
 
@@ -365,7 +401,7 @@ fn command<'a>(alloc: Global) -> Result<Command<'a>, Error> {
     let mut command = Command::new(alloc, "occam")
         .about("Compiles and runs an occam 2 program.")
         .version(VERSION)
-        .override_usage("occam [FILE] [OPTIONS]")
+        .override_usage("occam [FILE..] [OPTIONS]")
         .after_help(MORE_HELP);
     for number in 0..WORDS {
         command = with(command, word_of(alloc, number))?;
@@ -628,7 +664,10 @@ fn but_a_search<'a>(word: Arg<'a>) -> Result<Arg<'a>, AllocError> {
 }
 
 fn file_word<'a>(alloc: Global) -> Arg<'a> {
-    Arg::new(alloc, "FILE").help(
-        "The source; standard input is then the keyboard. Without it, or with - in its place, standard input is the source",
-    )
+    Arg::new(alloc, "FILE")
+        .help(
+            "The source, in one file or more; standard input is then the keyboard. Without it, or with - in its place, standard input is the source",
+        )
+        .num_args(1..)
+        .action(ArgAction::Append)
 }

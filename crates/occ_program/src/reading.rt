@@ -1,7 +1,7 @@
 //! Reads what is to be played.
 ghost use Rattle.std.specs.Prelude.{◌≡◌, [], IfOk, IsFalse};
 ghost use Rattle.occ_explaining.specs.Typing.{NeedsNoKeyboard};
-ghost use Rattle.occ_play_inputs.specs.Asked.{IsAskedBy};
+ghost use Rattle.occ_play_inputs.specs.Asked.{IsAskedBy, IsSourceIn};
 ghost use Rattle.occ_program.specs.Coming.{options_in};
 ghost use Rattle.occ_program.specs.Terminals.{IsTypedFor};
 
@@ -22,11 +22,12 @@ pub(crate) fn read_inputs<R: Files + Input + Eprint>(
 where
     R::Reader: IsTerminal,
     ensures asked { IfOk result (λ inputs. IsAskedBy words.now inputs.plan) }
+    ensures joined { IfOk result (IsSourceIn words.now) }
     ensures typed { IfOk result (IsTypedFor words.now) }
 {
     check_files(rt, words)?;
     let source = read_source(rt, alloc, words)?;
-    let wanted = is_wanted(rt, alloc, words, source.as_slice());
+    let wanted = is_wanted(rt, alloc, words, source.bytes.as_slice());
     read_beside(rt, alloc, words, source, wanted)
 }
 
