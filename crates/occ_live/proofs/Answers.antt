@@ -27,7 +27,7 @@ use Rattle.occ_live.specs.declared.fault.LiveFault.{LiveFault}
 use Rattle.occ_live.specs.declared.fault.LiveFault.TheVariants as fails
 use Rattle.occ_live.specs.declared.living.Lived.{Lived}
 use Rattle.occ_live.specs.declared.playing.LivePlayed.{LivePlayed}
-use Rattle.occ_live.specs.Living.{FailsLive, IsLive}
+use Rattle.occ_live.specs.Living.{IsLive}
 use Rattle.occ_live.specs.Playing.{FailsInPlay, FailsToWriteRest, HasByteScreens, IsLiveAnswer, WritesRest, behind, text_of, within}
 
 -- ---- endings
@@ -125,12 +125,12 @@ module _ (options : Options) (source : List ℕ) (list : List Choice) (trace : B
             ∙ ap (λ e. answer_text (shown (names_of u.channels) run.follows.events) e trace) (sym same_end);
       }
 
-  module _ (read : List ℕ) (lived : Lived) (keys : AreBytes read) (small : length lived.outcome.choices.items < 2 ^ 64) (x : IsLive p read list lived) where
+  module _ (read : List ℕ) (lived : Lived) (small : length lived.outcome.choices.items < 2 ^ 64) (x : IsLive p read list lived) where
     pub live_answer : (live : LivePlayed) (bytes : List ℕ) → live.played.ending ≡ lived.outcome.ending → live.played.choices ≡ lived.outcome.choices → live.is_open ≡ lived.is_open
         → bytes ≡ text_of p lived.outcome trace → IsLiveAnswer options source read list trace live bytes
     live_answer live bytes same_end same_choices same_open is = record {
-      answer = is_answer read lived.outcome live.played bytes keys small x.is same_end same_choices is;
-      for_more = λ o more are. is_answer (read ++ more) lived.outcome live.played bytes (all_bytes read more keys are) small (x.for_more (subst IsTrue same_open o) more) same_end same_choices is;
+      answer = is_answer read lived.outcome live.played bytes x.bytes small x.is same_end same_choices is;
+      for_more = λ o more are. is_answer (read ++ more) lived.outcome live.played bytes (all_bytes read more x.bytes are) small (x.for_more (subst IsTrue same_open o) more) same_end same_choices is;
     }
 
     -- what was written of it where the rest could not be
@@ -145,7 +145,7 @@ module _ (options : Options) (source : List ℕ) (list : List Choice) (trace : B
             played = record { ending = o.ending; choices = o.choices };
             front = screen ++ h.0;
             rest = h.1;
-            answer = is_answer read o (record { ending = o.ending; choices = o.choices }) ((screen ++ h.0) ++ h.1) keys small x.is refl refl (sym h.2);
+            answer = is_answer read o (record { ending = o.ending; choices = o.choices }) ((screen ++ h.0) ++ h.1) x.bytes small x.is refl refl (sym h.2);
             written = Appends-join (contents (writer_of first)) (contents (writer_of old)) (contents (writer_of new)) screen h.0 shown_so h.3;
           }
       rest_fails fails.Memory h =
