@@ -596,13 +596,18 @@ fn watch_word<'a>(alloc: Global) -> Arg<'a> {
 }
 
 fn live_word<'a>(alloc: Global) -> Result<Arg<'a>, AllocError> {
-    Arg::new(alloc, "live")
+    let word = Arg::new(alloc, "live")
         .long("live")
         .help(
             "Reads the keyboard and writes the screen while the run goes on; on a terminal it does so unasked",
         )
-        .action(ArgAction::SetTrue)
-        .conflicts_with_all(NOT_LIVE.as_slice())
+        .action(ArgAction::SetTrue);
+    but_threads_and_tries(word)
+}
+
+/// A word beside which those that keep a run from being live may not stand.
+fn but_threads_and_tries<'a>(word: Arg<'a>) -> Result<Arg<'a>, AllocError> {
+    word.conflicts_with_all(NOT_LIVE.as_slice())
 }
 
 fn explain_word<'a>(alloc: Global) -> Arg<'a> {
