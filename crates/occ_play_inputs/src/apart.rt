@@ -1,7 +1,7 @@
 //! That a file which is written is none that is read, and not the other one.
 ghost use Rattle.std.specs.Prelude.{◌≡◌, All, IfErr, IsTrue};
 ghost use Rattle.occ_play_inputs.specs.declared.failure.Failure.{Failure};
-ghost use Rattle.occ_play_inputs.specs.Paths.{AreApart, AreTextsApart, Differ, IsNoneOf, IsUnwritten};
+ghost use Rattle.occ_play_inputs.specs.Paths.{AreApart, AreTextsApart, Differ, IsFurther, IsNoneOf, IsUnread, IsUnwritten};
 
 use crate::failure::Failure;
 use crate::words::Words;
@@ -76,34 +76,57 @@ pub(crate) fn are_apart(
         && are_beside(file, choices, written, drawn, traced, turns)
 }
 
-/// Whether the path of a further file of the source is none of those that are written.
-fn is_unwritten(
-    path: &str,
+/// Whether the path of what was typed is none that is read.
+pub(crate) fn is_unread(typed: Option<&str>, file: Option<&str>, choices: Option<&str>) -> bool
+    ensures { IsTrue result → IsUnread typed.entry file.entry choices.entry }
+{
+    differ(typed, file) && differ(typed, choices)
+}
+
+/// Whether a path is none of these that are written.
+pub(crate) fn is_unwritten(
+    path: Option<&str>,
     written: Option<&str>,
     drawn: Option<&str>,
     traced: Option<&str>,
     turns: Option<&str>,
 ) -> bool
-    ensures { IsTrue result → IsUnwritten written.entry drawn.entry traced.entry turns.entry
-        path.entry }
+    ensures { IsTrue result → IsUnwritten path.entry written.entry drawn.entry traced.entry
+        turns.entry }
+{
+    differ(path, written) && differ(path, drawn) && differ(path, traced) && differ(path, turns)
+}
+
+/// Whether the path of a further file of the source is none of those that are written.
+fn is_further(
+    path: &str,
+    typed: Option<&str>,
+    written: Option<&str>,
+    drawn: Option<&str>,
+    traced: Option<&str>,
+    turns: Option<&str>,
+) -> bool
+    ensures { IsTrue result → IsFurther typed.entry written.entry drawn.entry traced.entry
+        turns.entry path.entry }
 {
     let path = Some(path);
-    differ(written, path) && differ(drawn, path) && differ(traced, path) && differ(turns, path)
+    differ(path, typed) && is_unwritten(path, written, drawn, traced, turns)
 }
 
 /// Whether each of these is.
-pub(crate) fn are_unwritten(
+pub(crate) fn are_further(
     paths: &[&str],
+    typed: Option<&str>,
     written: Option<&str>,
     drawn: Option<&str>,
     traced: Option<&str>,
     turns: Option<&str>,
 ) -> bool
-    ensures { IsTrue result → All (IsUnwritten written.entry drawn.entry traced.entry turns.entry)
-        paths.now }
+    ensures { IsTrue result → All (IsFurther typed.entry written.entry drawn.entry traced.entry
+        turns.entry) paths.now }
 {
     for i in 0..paths.len() {
-        if !is_unwritten(paths[i], written, drawn, traced, turns) {
+        if !is_further(paths[i], typed, written, drawn, traced, turns) {
             return false;
         }
     }
@@ -139,7 +162,13 @@ pub fn check_files<R: Files>(rt: &R, words: &Words<'_>) -> Result<(), Failure>
         || name_one(rt, words.steps, words.choices)
         || name_one(rt, words.steps, words.record)
         || name_one(rt, words.steps, words.chart)
-        || name_one(rt, words.steps, words.trace_to);
+        || name_one(rt, words.steps, words.trace_to)
+        || name_one(rt, words.typed, words.file)
+        || name_one(rt, words.typed, words.choices)
+        || name_one(rt, words.typed, words.record)
+        || name_one(rt, words.typed, words.chart)
+        || name_one(rt, words.typed, words.trace_to)
+        || name_one(rt, words.typed, words.steps);
     if met || writes_one(rt, words) {
         Err(Failure::Paths)
     } else {
@@ -155,6 +184,7 @@ fn writes_one<R: Files>(rt: &R, words: &Words<'_>) -> bool {
             || name_one(rt, words.chart, path)
             || name_one(rt, words.trace_to, path)
             || name_one(rt, words.steps, path)
+            || name_one(rt, words.typed, path)
         {
             return true;
         }

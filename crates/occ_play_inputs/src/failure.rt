@@ -36,6 +36,8 @@ pub enum Stream {
     Trace,
     /// The file of the turns.
     Turns,
+    /// The file of what was typed.
+    Typed,
 }
 
 /// A file or a stream, and why the system could not read or write it.
@@ -63,7 +65,7 @@ pub enum Failure {
     #[error("an argument is no UTF-8")]
     Arguments,
     /// A file that is to be written is one that is read, or another that is written.
-    #[error("--record, --chart, --trace-to and --steps each write into a file of their own")]
+    #[error("--record, --typed, --chart, --trace-to and --steps each write into a file of their own")]
     Paths,
     /// A file or a stream could not be read.
     #[error("read failed")]

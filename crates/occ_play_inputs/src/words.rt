@@ -4,10 +4,10 @@ ghost use Rattle.std.specs.Option.{ForSome, option_copied};
 ghost use Rattle.occ_choices.specs.Crews.{IsCrew};
 ghost use Rattle.occ_code.specs.CodeOf.{IsQuantum};
 ghost use Rattle.occ_play_inputs.specs.Modes.{IsMode};
-ghost use Rattle.occ_play_inputs.specs.Paths.{AreApart, IsSourcePath, IsUnwritten};
+ghost use Rattle.occ_play_inputs.specs.Paths.{AreApart, IsFurther, IsSourcePath, IsUnread, IsUnwritten};
 ghost use Rattle.occ_play_inputs.specs.Searches.{IsFull, IsSearch};
 
-use crate::apart::{are_apart, are_unwritten};
+use crate::apart::{are_apart, are_further, is_unread, is_unwritten};
 use clap::builder::ValueParser;
 use clap::error::ErrorKind;
 use clap::{Arg, ArgAction, ArgMatches, Command, Error, value_parser};
@@ -51,16 +51,23 @@ pub const MOST_STATES: u32 = 10_000_000;
 static TOLD: [&str; 3] = ["answers", "endings", "full"];
 
 /// How many words there are.
-const WORDS: u32 = 22;
+const WORDS: u32 = 24;
 
 /// The words that say something of one run.
-static OF_ONE_RUN: [&str; 12] = [
+static OF_ONE_RUN: [&str; 14] = [
     "limit", "workers", "choices", "chart", "arrows", "last", "trace", "trace-to", "steps", "seed",
-    "tries", "watch",
+    "tries", "watch", "live", "typed",
 ];
+
+/// The words beside which a run can't be live.
+static NOT_LIVE: [&str; 3] = ["workers", "watch", "tries"];
 
 /// What has no place beside `--check` either.
 static OF_A_SEARCH: [&str; 3] = ["record", "explore", "states"];
+
+/// What is told where two words name one file.
+const ONE_FILE: &str =
+    "--record, --typed, --chart, --trace-to and --steps each write into a file of their own";
 
 /// What is told below the words.
 const MORE_HELP: &str =
@@ -99,6 +106,8 @@ pub struct Words<'a> {
     /// Whether a thread of its own looks at the communications, which are printed to standard error as it was shown them; with
     /// a file of choices it says nothing.
     pub watch: bool,
+    /// Whether the keyboard is read and the screen is written while the run goes on, also where no stream is a terminal.
+    pub live: bool,
     /// Whether more is told behind the line of a refusal or of a failed read or write, and behind an ending that is not that of a
     /// whole run.
     pub explain: bool,
@@ -116,6 +125,8 @@ pub struct Words<'a> {
     pub choices: Option<&'a str>,
     /// The path of the file into which the used choices are written.
     pub record: Option<&'a str>,
+    /// The path of the file into which the keyboard's bytes are written, as far as they were read.
+    pub typed: Option<&'a str>,
     /// The path of the file into which a chart of the trace is written.
     pub chart: Option<&'a str>,
     /// The most communications that the chart shows, of the first ones.
@@ -150,7 +161,9 @@ pub struct Words<'a> {
     ghost some_tries: { 1 ≤ tries },
     ghost tries_in_range: { tries ≤ 1000000 },
     ghost files_apart: { AreApart file choices «record» chart trace_to steps },
-    ghost more_apart: { All (IsUnwritten «record» chart trace_to steps) more.items },
+    ghost typed_unread: { IsUnread typed file choices },
+    ghost typed_apart: { IsUnwritten typed «record» chart trace_to steps },
+    ghost more_apart: { All (IsFurther typed «record» chart trace_to steps) more.items },
 }
 
 /// Reads the words, of which the first is the program's name.
@@ -238,10 +251,15 @@ fn words_of<'a>(matches: &ArgMatches<'a>, more: Vec<&'a str>) -> Result<Words<'a
     }
     let (record, chart) = (matches.get_str("record"), matches.get_str("chart"));
     let (trace_to, steps) = (matches.get_str("trace-to"), matches.get_str("steps"));
-    if !are_apart(file, choices, record, chart, trace_to, steps)
-        || !are_unwritten(more.as_slice(), record, chart, trace_to, steps)
-    {
-        return Err("--record, --chart, --trace-to and --steps each write into a file of their own");
+    let typed = matches.get_str("typed");
+    if !are_apart(file, choices, record, chart, trace_to, steps) {
+        return Err(ONE_FILE);
+    }
+    if !is_unread(typed, file, choices) || !is_unwritten(typed, record, chart, trace_to, steps) {
+        return Err(ONE_FILE);
+    }
+    if !are_further(more.as_slice(), typed, record, chart, trace_to, steps) {
+        return Err(ONE_FILE);
     }
     let (json, check) = (matches.get_flag("json"), matches.get_flag("check"));
     if json && !check && trace_to.is_none() {
@@ -254,6 +272,7 @@ fn words_of<'a>(matches: &ArgMatches<'a>, more: Vec<&'a str>) -> Result<Words<'a
         workers,
         trace: matches.get_flag("trace"),
         watch: matches.get_flag("watch"),
+        live: matches.get_flag("live"),
         explain: matches.get_flag("explain"),
         plain: matches.get_flag("plain"),
         bold: false,
@@ -261,6 +280,7 @@ fn words_of<'a>(matches: &ArgMatches<'a>, more: Vec<&'a str>) -> Result<Words<'a
         tries,
         choices,
         record,
+        typed,
         chart,
         arrows: arrows_of(matches.get_one::<u32>("arrows")),
         last: matches.get_one::<u32>("last"),
@@ -397,19 +417,21 @@ fn word_of<'a>(alloc: Global, number: u32) -> Result<Arg<'a>, AllocError> {
         5 => tries_word(alloc),
         6 => Ok(choices_word(alloc)),
         7 => Ok(record_word(alloc)),
-        8 => Ok(chart_word(alloc)),
-        9 => arrows_word(alloc),
-        10 => last_word(alloc),
-        11 => Ok(trace_word(alloc)),
-        12 => Ok(trace_to_word(alloc)),
-        13 => Ok(json_word(alloc)),
-        14 => Ok(steps_word(alloc)),
-        15 => Ok(watch_word(alloc)),
-        16 => Ok(explain_word(alloc)),
-        17 => plain_word(alloc),
-        18 => explore_word(alloc),
-        19 => states_word(alloc),
-        20 => check_word(alloc),
+        8 => Ok(typed_word(alloc)),
+        9 => Ok(chart_word(alloc)),
+        10 => arrows_word(alloc),
+        11 => last_word(alloc),
+        12 => Ok(trace_word(alloc)),
+        13 => Ok(trace_to_word(alloc)),
+        14 => Ok(json_word(alloc)),
+        15 => Ok(steps_word(alloc)),
+        16 => Ok(watch_word(alloc)),
+        17 => live_word(alloc),
+        18 => Ok(explain_word(alloc)),
+        19 => plain_word(alloc),
+        20 => explore_word(alloc),
+        21 => states_word(alloc),
+        22 => check_word(alloc),
         _ => Ok(file_word(alloc)),
     }
 }
@@ -500,6 +522,13 @@ fn record_word<'a>(alloc: Global) -> Arg<'a> {
         )
 }
 
+fn typed_word<'a>(alloc: Global) -> Arg<'a> {
+    Arg::new(alloc, "typed")
+        .long("typed")
+        .value_name("FILE")
+        .help("Writes what was typed, as far as the run read it, into FILE")
+}
+
 fn chart_word<'a>(alloc: Global) -> Arg<'a> {
     Arg::new(alloc, "chart")
         .long("chart")
@@ -561,6 +590,16 @@ fn watch_word<'a>(alloc: Global) -> Arg<'a> {
         .long("watch")
         .help("Prints each communication to standard error, as a second thread saw it")
         .action(ArgAction::SetTrue)
+}
+
+fn live_word<'a>(alloc: Global) -> Result<Arg<'a>, AllocError> {
+    Arg::new(alloc, "live")
+        .long("live")
+        .help(
+            "Reads the keyboard and writes the screen while the run goes on; on a terminal it does so unasked",
+        )
+        .action(ArgAction::SetTrue)
+        .conflicts_with_all(NOT_LIVE.as_slice())
 }
 
 fn explain_word<'a>(alloc: Global) -> Arg<'a> {
