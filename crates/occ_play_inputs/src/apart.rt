@@ -101,32 +101,32 @@ pub(crate) fn is_unwritten(
 fn is_further(
     path: &str,
     typed: Option<&str>,
-    written: Option<&str>,
+    kept: Option<&str>,
     drawn: Option<&str>,
     traced: Option<&str>,
     turns: Option<&str>,
 ) -> bool
-    ensures { IsTrue result → IsFurther typed.entry written.entry drawn.entry traced.entry
+    ensures { IsTrue result → IsFurther typed.entry kept.entry drawn.entry traced.entry
         turns.entry path.entry }
 {
     let path = Some(path);
-    differ(path, typed) && is_unwritten(path, written, drawn, traced, turns)
+    differ(path, typed) && is_unwritten(path, kept, drawn, traced, turns)
 }
 
 /// Whether each of these is.
 pub(crate) fn are_further(
-    paths: &[&str],
+    more: &[&str],
     typed: Option<&str>,
-    written: Option<&str>,
+    kept: Option<&str>,
     drawn: Option<&str>,
     traced: Option<&str>,
     turns: Option<&str>,
 ) -> bool
-    ensures { IsTrue result → All (IsFurther typed.entry written.entry drawn.entry traced.entry
-        turns.entry) paths.now }
+    ensures { IsTrue result → All (IsFurther typed.entry kept.entry drawn.entry traced.entry
+        turns.entry) more.now }
 {
-    for i in 0..paths.len() {
-        if !is_further(paths[i], typed, written, drawn, traced, turns) {
+    for i in 0..more.len() {
+        if !is_further(more[i], typed, kept, drawn, traced, turns) {
             return false;
         }
     }
