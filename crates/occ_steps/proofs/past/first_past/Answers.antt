@@ -1,6 +1,6 @@
-use Rattle.std.proofs.Common.{◌∙◌, ◌<◌, ◌≤◌, ◌^◌, ap, arith, length, rules, sym}
+use Rattle.std.proofs.Common.{◌∙◌, ◌<◌, ◌^◌, ap, arith, length, rules, sym}
 use Rattle.occ_net_replay.specs.Replay.{ending_of}
-use Rattle.occ_steps.proofs.PastReady.{all_named, names_first, names_more, names_stand, past_now}
+use Rattle.occ_steps.proofs.PastReady.{all_named, names_first, names_more, names_stand}
 use Rattle.occ_steps.proofs.Turns.{none_left, none_of}
 use Rattle.occ_steps.proofs.past.first_past.Goals as goal
 
