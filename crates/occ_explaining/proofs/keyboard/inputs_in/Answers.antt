@@ -9,6 +9,6 @@ returns-clause-never c = λ none. record {
   program = c.in_ok-unfolded.unfolded;
   unfolds = c.in_ok-unfolded.ensures.found;
   never =
-    sym (ap (λ us. (uses_in us).ins 0) c.as_slice.ensures.value ∙ ap (λ u. u.ins 0) (c.in_ok-uses.ensures ∙ ap (λ x. uses_of (term_of x)) c.term.ensures))
-    ∙ sym c.has_keyboard.ensures ∙ none;
+      sym (ap (λ us. (uses_in us).ins 0) c.as_slice.ensures ∙ ap (λ u. u.ins 0) (c.in_ok-uses.ensures ∙ ap (λ x. uses_of (term_of x)) c.term.ensures))
+      ∙ sym c.has_keyboard.ensures ∙ none;
 }
