@@ -1,5 +1,6 @@
 -- The answer of a live run is the one for the bytes that were read, and for more.
-use Rattle.std.proofs.Common.{◌≡◌, ◌∙◌, ◌<◌, ◌^◌, ℕ, List, [], ◌∷◌, ◌++◌, Option, Some, None, Bool, IsTrue, true, false, length, refl, sym, ap, subst, append_assoc, append-nil}
+use Rattle.std.proofs.Common.{◌≡◌, ◌∙◌, ◌-◌, ◌<◌, ◌^◌, ℕ, List, [], ◌∷◌, ◌++◌, Option, Some, None, Bool, IsTrue, true, false, drop, length, take, refl, sym, ap, subst, append_assoc, append-nil, arith}
+use Rattle.std.proofs.lemmas.List.{length-drop, take-append-drop, take_all}
 use Rattle.occ_term.specs.declared.ending.Ending.{Ending}
 use Rattle.occ_term.specs.declared.ending.Ending.TheVariants as E
 use Rattle.occ_term.specs.declared.fault.Errors.{Errors}
@@ -17,7 +18,7 @@ use Rattle.occ_net_tables.specs.declared.running.Outcome.{Outcome}
 use Rattle.occ_play.specs.declared.playing.Options.{Options}
 use Rattle.occ_play.specs.declared.playing.Played.{Played}
 use Rattle.occ_play.specs.Playing.{IsAnswer, IsTextsCode}
-use Rattle.occ_shown.specs.Answers.{answer_text, channel_bytes, names_of}
+use Rattle.occ_shown.specs.Answers.{all_shown, answer_text, channel_bytes, line_break, names_of, report_text}
 use Rattle.occ_shown.proofs.ByteMessages.{outputs_are_bytes}
 use Rattle.occ_shown.proofs.Growth.{Appends-join}
 use Rattle.occ_shown.specs.Counting.{AppendsTo, writer_of}
@@ -26,7 +27,7 @@ use Rattle.occ_live.specs.declared.fault.LiveFault.{LiveFault}
 use Rattle.occ_live.specs.declared.fault.LiveFault.TheVariants as fails
 use Rattle.occ_live.specs.declared.living.Lived.{Lived}
 use Rattle.occ_live.specs.declared.playing.LivePlayed.{LivePlayed}
-use Rattle.occ_live.specs.Living.{FailsLive, IsLive}
+use Rattle.occ_live.specs.Living.{IsLive}
 use Rattle.occ_live.specs.Playing.{FailsInPlay, FailsToWriteRest, HasByteScreens, IsLiveAnswer, WritesRest, behind, text_of, within}
 
 -- ---- endings
@@ -54,9 +55,41 @@ none_if (Some e) q h = absurd (h (ap (λ x. Some x) q))
 
 -- ---- bytes behind bytes
 
+drop_append : (xs ys : List ℕ) → drop (length xs) (xs ++ ys) ≡ ys
+drop_append [] ys = refl
+drop_append (x ∷ xs) ys = drop_append xs ys
+
 all_bytes : (xs ys : List ℕ) → AreBytes xs → AreBytes ys → AreBytes (xs ++ ys)
 all_bytes [] ys h g = g
 all_bytes (x ∷ xs) ys h g = (h.0, all_bytes xs ys h.1 g)
+
+-- what stands behind the screen's bytes, where these are the first
+rest_behind : (p : Program) (o : Outcome) (trace : Bool) → text_of p o trace ≡ channel_bytes 1 o.trace ++ drop (length (channel_bytes 1 o.trace)) (text_of p o trace)
+rest_behind p o trace =
+    let screen = channel_bytes 1 o.trace in
+    let error = channel_bytes 2 o.trace in
+    let report = report_text trace (shown_by (names_of p.channels) o.trace).trace o.ending in
+    let break = line_break (screen ++ error) report in
+    let is : text_of p o trace ≡ screen ++ (error ++ (break ++ report)) = append_assoc (screen ++ error) break report ∙ append_assoc screen error (break ++ report) in
+    is ∙ ap (λ l. screen ++ l) (sym (ap (drop (length screen)) is ∙ drop_append screen (error ++ (break ++ report))))
+
+module _ {W : Type 0} (contents : W → Option (List ℕ)) (p : Program) (o : Outcome) (trace : Bool) (channels : List Channel) (whole screen : List ℕ) (k : ℕ) (old new : Counted W) (same : channels ≡ p.channels) (is : whole ≡ answer_text (all_shown channels o.trace) o.ending trace) (count : k ≡ length screen) (shown_is : screen ≡ channel_bytes 1 o.trace) where
+  -- the answer is the screen's bytes, and what is written
+  answer_is : text_of p o trace ≡ channel_bytes 1 o.trace ++ take (length whole - k) (drop k whole)
+  answer_is =
+      let text : whole ≡ text_of p o trace = is ∙ ap (λ cs. answer_text (shown_by (names_of cs) o.trace) o.ending trace) same in
+      let at : k ≡ length (channel_bytes 1 o.trace) = count ∙ ap length shown_is in
+      let cut : take (length whole - k) (drop k whole) ≡ drop k whole = take_all (length whole - k) (drop k whole) (omega (arith, length-drop k whole)) in
+      rest_behind p o trace ∙ ap (λ l. channel_bytes 1 o.trace ++ l) (sym (cut ∙ ap (λ n. drop n whole) at ∙ ap (drop (length (channel_bytes 1 o.trace))) text))
+
+  pub rest_written : AppendsTo contents old new (take (length whole - k) (drop k whole)) → WritesRest contents p o trace old new
+  rest_written h = record { rest = take (length whole - k) (drop k whole); are = answer_is; written = h }
+
+  pub part_written : (n : ℕ) → AppendsTo contents old new (take n (take (length whole - k) (drop k whole))) → FailsToWriteRest contents p o trace old new fails.Write
+  part_written n h =
+      let rest = take (length whole - k) (drop k whole) in
+      let screen = channel_bytes 1 o.trace in
+      (take n rest, drop n rest, answer_is ∙ ap (λ l. screen ++ l) (sym (take-append-drop n rest)) ∙ sym (append_assoc screen (take n rest) (drop n rest)), h)
 
 -- ---- answers
 
@@ -92,12 +125,12 @@ module _ (options : Options) (source : List ℕ) (list : List Choice) (trace : B
             ∙ ap (λ e. answer_text (shown (names_of u.channels) run.follows.events) e trace) (sym same_end);
       }
 
-  module _ (read : List ℕ) (lived : Lived) (keys : AreBytes read) (small : length lived.outcome.choices.items < 2 ^ 64) (x : IsLive p read list lived) where
+  module _ (read : List ℕ) (lived : Lived) (small : length lived.outcome.choices.items < 2 ^ 64) (x : IsLive p read list lived) where
     pub live_answer : (live : LivePlayed) (bytes : List ℕ) → live.played.ending ≡ lived.outcome.ending → live.played.choices ≡ lived.outcome.choices → live.is_open ≡ lived.is_open
         → bytes ≡ text_of p lived.outcome trace → IsLiveAnswer options source read list trace live bytes
     live_answer live bytes same_end same_choices same_open is = record {
-      answer = is_answer read lived.outcome live.played bytes keys small x.is same_end same_choices is;
-      for_more = λ o more are. is_answer (read ++ more) lived.outcome live.played bytes (all_bytes read more keys are) small (x.for_more (subst IsTrue same_open o) more) same_end same_choices is;
+      answer = is_answer read lived.outcome live.played bytes x.bytes small x.is same_end same_choices is;
+      for_more = λ o more are. is_answer (read ++ more) lived.outcome live.played bytes (all_bytes read more x.bytes are) small (x.for_more (subst IsTrue same_open o) more) same_end same_choices is;
     }
 
     -- what was written of it where the rest could not be
@@ -112,7 +145,7 @@ module _ (options : Options) (source : List ℕ) (list : List Choice) (trace : B
             played = record { ending = o.ending; choices = o.choices };
             front = screen ++ h.0;
             rest = h.1;
-            answer = is_answer read o (record { ending = o.ending; choices = o.choices }) ((screen ++ h.0) ++ h.1) keys small x.is refl refl (append_assoc screen h.0 h.1 ∙ sym h.2);
+            answer = is_answer read o (record { ending = o.ending; choices = o.choices }) ((screen ++ h.0) ++ h.1) x.bytes small x.is refl refl (sym h.2);
             written = Appends-join (contents (writer_of first)) (contents (writer_of old)) (contents (writer_of new)) screen h.0 shown_so h.3;
           }
       rest_fails fails.Memory h =

@@ -196,6 +196,7 @@ module _ (p : Program) (read : List ℕ) (is_open : Bool) (list kept : List Choi
       pub is_live : IsLive p read list lived
       is_live =
           record {
+            bytes = s.bytes;
             is = record {
               net = s.net;
               replays = subst (λ cs. Replays p read cs s.net) (sym x.choices) s.replays;

@@ -31,6 +31,7 @@ use Rattle.occ_live.specs.declared.screen.Screen.{Screen}
 -- What it comes to is what a run by the list comes to that had the bytes from the start. Where the keyboard may have more, it is so with any
 -- bytes behind them.
 pub record IsLive (p : Program) (read : List ℕ) (list : List Choice) (lived : Lived) : Type 0 where
+  pub bytes : AreBytes read
   pub is : IsOutcome p read list lived.outcome
   pub for_more : IsTrue lived.is_open → (more : List ℕ) → IsOutcome p (read ++ more) list lived.outcome
 

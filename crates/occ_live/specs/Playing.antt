@@ -1,6 +1,6 @@
 -- What `play_live` promises: the answer for the bytes that were read, and, where the keyboard may have more, for these and any more.
 -- Manual: nothing; this is (own).
-use Rattle.std.specs.Prelude.{Bool, IsTrue, List, Option, Vec, ℕ, ◌++◌, ◌≡◌, ⊥}
+use Rattle.std.specs.Prelude.{Bool, IsTrue, List, Option, Vec, ℕ, ◌++◌, ◌≡◌}
 use Rattle.occ_term.specs.Runs.{shown_by}
 use Rattle.occ_machine.specs.Compiled.{Program}
 use Rattle.occ_choices.specs.Plans.{choices_of}

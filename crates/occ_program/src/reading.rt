@@ -40,6 +40,7 @@ pub(crate) fn read_untyped<R: Files + Input + Eprint>(
 where
     R::Reader: IsTerminal,
     ensures asked { IfOk result (λ inputs. IsAskedBy words.now inputs.plan) }
+    ensures joined { IfOk result (IsSourceIn words.now) }
     ensures untyped { IfOk result (λ inputs. inputs.keyboard.items ≡ []) }
 {
     check_files(rt, words)?;
