@@ -1,2 +1,4 @@
-pub mod Refusing
+mod Members
+mod Named
 mod NotedInputs
+pub mod Refusing

@@ -1,8 +1,7 @@
 -- Inputs from the keyboard among noted uses.
-use Rattle.std.proofs.Common.{◌≡◌, ◌∙◌, ◌<◌, ◌≤◌, ◌+◌, ◌∷◌, Bool, ℕ, List, [], ap, drop, drop_of_length-le, false, get_or, length, refl, sym, true}
+use Rattle.std.proofs.Common.{◌≡◌, ◌∙◌, ◌<◌, ◌≤◌, ◌+◌, ◌∷◌, Bool, ℕ, List, ap, drop, drop_of_length-le, false, get_or, length, sym, true}
 use Rattle.std.proofs.lemmas.List.{drop_more}
 use Rattle.std.specs.Prelude.{◌||◌}
-use Rattle.occ_term.specs.Uses.{Uses}
 use Rattle.occ_usage.specs.Noted.{between, use_of, uses_in}
 use Rattle.occ_usage.specs.declared.noted.Use.{Use}
 

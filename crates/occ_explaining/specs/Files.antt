@@ -31,7 +31,7 @@ place_told f line = (file_name f (place_in_files 0 0 f.ends line).0, (place_in_f
 
 -- in which line of the source a file begins that has so many lines before it
 abbrev pub beginning : (name : List ℕ) → (before : ℕ) → List ℕ
-beginning name before = printed_name name ++ codes " begins at line " ++ decimal (before + 1) ++ codes "\n"
+beginning name before = printed_name name ++ (codes " begins at line " ++ decimal (before + 1) ++ codes "\n")
 
 -- the same of each of these files
 abbrev pub beginnings_after : (names : List (List ℕ)) → (ends : List ℕ) → List ℕ

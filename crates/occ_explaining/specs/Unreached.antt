@@ -1,11 +1,14 @@
 -- The PROCs that no call reaches, as they are told.
 -- Manual: nothing; this is (own).
-use Rattle.std.specs.Prelude.{Bool, List, [], codes, false, if◌then◌else◌, length, map, true, ℕ, ◌==◌, ◌++◌, ◌+◌, ◌*◌, ◌∷◌, ◌≡◌}
+use Rattle.std.specs.Prelude.{Bool, List, [], codes, false, if◌then◌else◌, length, map, true, ℕ, ⊤, ◌==◌, ◌++◌, ◌+◌, ◌*◌, ◌∷◌, ◌≡◌}
 use Rattle.std.specs.Fmt.{decimal}
 use Rattle.occ_explaining.specs.Files.{SourceFiles, files_of, place_told}
 use Rattle.occ_explaining.specs.declared.files.Files.{Files}
 use Rattle.occ_files.specs.Names.{printed_name}
 use Rattle.occ_json.specs.Objects.{number, text, exactly, object_json}
+use Rattle.occ_play.specs.Playing.{RefusesText}
+use Rattle.occ_play.specs.declared.fault.PlayFault.{PlayFault}
+use Rattle.occ_play.specs.declared.fault.PlayFault.TheVariants as play
 use Rattle.occ_reach.specs.Reach.{AreUnreached, FirstLine, unchecked_head}
 use Rattle.occ_reach.specs.declared.unchecked.Unchecked.{Unchecked}
 use Rattle.occ_text.specs.Lines.{LinesOf}
@@ -46,3 +49,8 @@ pub record TellsUnreached (source : List ℕ) (files : SourceFiles) (json : Bool
 -- as the code has them
 abbrev pub told_procs : Files → (json : Bool) → List Unchecked → List ℕ
 told_procs files json procs = told_lines (files_of files) json (map unchecked_head procs)
+
+-- the source has no logical lines, or memory was refused
+abbrev pub RefusesLines : (source : List ℕ) → PlayFault → Type 0
+RefusesLines source (play.Memory e) = ⊤
+RefusesLines source fault = RefusesText source fault

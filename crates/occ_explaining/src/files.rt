@@ -39,21 +39,15 @@ pub(crate) fn place_told<'a>(files: &Files<'a>, line: u32) -> (&'a str, u32)
     (file_name(files, number), line)
 }
 
-/// Writes in which line of the source a file begins that has so many lines before it.
-fn write_beginning(
-    alloc: Global,
-    out: &mut Vec<u8>,
-    name: &str,
-    before: u32,
-) -> Result<(), AllocError>
-    ensures { OnOk result (out.new.items ≡ out.old.items ++ beginning name.now before) }
+/// In which line of the source a file begins that has so many lines before it.
+fn beginning(alloc: Global, name: &str, before: u32) -> Result<Vec<u8>, AllocError>
+    ensures { IfOk result (λ text. text.items ≡ beginning name.now before) }
 {
-    let name = printed_name(alloc, name.as_bytes())?;
-    out.extend_from_slice(name.as_slice())?;
+    let mut text = printed_name(alloc, name.as_bytes())?;
     let line = u64::from(before) + 1;
     let rest = format!(in alloc; " begins at line {line}\n")?;
-    out.extend_from_slice(rest.as_bytes())?;
-    Ok(())
+    text.extend_from_slice(rest.as_bytes())?;
+    Ok(text)
 }
 
 /// Writes the same of each file but the first.
@@ -65,7 +59,8 @@ fn write_beginnings(alloc: Global, out: &mut Vec<u8>, files: &Files<'_>) -> Resu
         let [end, left @ ..] = ends else {
             break;
         };
-        write_beginning(alloc, out, *name, *end)?;
+        let text = beginning(alloc, *name, *end)?;
+        out.extend_from_slice(text.as_slice())?;
         names = others;
         ends = left;
     }
@@ -80,10 +75,10 @@ fn write_beginnings(alloc: Global, out: &mut Vec<u8>, files: &Files<'_>) -> Resu
 pub fn beginnings(alloc: Global, files: &Files<'_>) -> Result<Vec<u8>, AllocError>
     ensures { IfOk result (λ text. text.items ≡ beginnings (files_of files.now)) }
 {
-    let mut text = Vec::new(alloc);
-    if !files.more.is_empty() {
-        write_beginning(alloc, &mut text, files.first, 0)?;
-        write_beginnings(alloc, &mut text, files)?;
+    if files.more.is_empty() {
+        return Ok(Vec::new(alloc));
     }
+    let mut text = beginning(alloc, files.first, 0)?;
+    write_beginnings(alloc, &mut text, files)?;
     Ok(text)
 }

@@ -16,7 +16,12 @@ pub fn may_input(options: &Options, alloc: Global, source: &[u8]) -> bool
 {
     match inputs_in(options, alloc, source) {
         Ok(inputs) => inputs,
-        Err(fault) => status_of_fault(&fault) != 1,
+        Err(fault) => {
+            if status_of_fault(&fault) == 1 {
+                return false;
+            }
+            true
+        }
     }
 }
 

@@ -79,23 +79,40 @@ fn object_of<'x>(
     let (line, column) = (u64::from(explanation.line), explanation.column);
     let end = word_end(explanation.source, column);
     let members = [
-        member("file", Value::Exact(file)),
-        member("line", Value::Number(line)),
-        member("column", Value::Number(column as u64)),
-        member("end", Value::Number(end as u64)),
-        member("number", Value::Number(u64::from(number))),
-        member("name", Value::Text(refusal_name(number).as_bytes())),
-        member("text", Value::Text(explanation.wrong.as_slice())),
-        member("hint", Value::Text(explanation.hint.as_slice())),
+        Member {
+            name: "file",
+            value: Value::Exact(file),
+        },
+        Member {
+            name: "line",
+            value: Value::Number(line),
+        },
+        Member {
+            name: "column",
+            value: Value::Number(column as u64),
+        },
+        Member {
+            name: "end",
+            value: Value::Number(end as u64),
+        },
+        Member {
+            name: "number",
+            value: Value::Number(u64::from(number)),
+        },
+        Member {
+            name: "name",
+            value: Value::Text(refusal_name(number).as_bytes()),
+        },
+        Member {
+            name: "text",
+            value: Value::Text(explanation.wrong.as_slice()),
+        },
+        Member {
+            name: "hint",
+            value: Value::Text(explanation.hint.as_slice()),
+        },
     ];
     object_line(alloc, "refused", &members)
-}
-
-/// A member of an object.
-pub(crate) fn member<'a>(name: &'static str, value: Value<'a>) -> Member<'a>
-    ensures { result ≡ record { name = name.entry; value = value.entry } }
-{
-    Member { name, value }
 }
 
 /// A refusal as an object of JSON on a line, where the fault refuses the text: the file, the line, the column, the column behind the

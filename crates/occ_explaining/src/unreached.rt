@@ -1,15 +1,13 @@
 //! The PROCs that no call reaches, as they are told.
 ghost use Rattle.std.specs.Prelude.{◌≡◌, ◌++◌, IfErr, IfOk, OnOk, map};
 ghost use Rattle.occ_explaining.specs.Files.{files_of};
-ghost use Rattle.occ_explaining.specs.Unreached.{TellsUnreached, as_object, file_told, in_words, told_line, told_procs};
-ghost use Rattle.occ_play.specs.Playing.{RefusesText};
+ghost use Rattle.occ_explaining.specs.Unreached.{RefusesLines, TellsUnreached, as_object, file_told, in_words, told_line, told_procs};
 ghost use Rattle.occ_reach.specs.Reach.{unchecked_head};
 
 use crate::files::{Files, place_told};
-use crate::objects::member;
 use crate::reported::lines_of;
 use occ_files::printed_name;
-use occ_json::{Value, object_line};
+use occ_json::{Member, Value, object_line};
 use occ_play::PlayFault;
 use occ_reach::{Unchecked, unchecked_procs};
 use std::alloc::{AllocError, Global};
@@ -59,12 +57,30 @@ fn as_object<'x>(
     let (file, line) = place_told(files, proc.line);
     let column = 2 * u64::from(proc.level) + 1;
     let members = [
-        member("file", Value::Exact(file)),
-        member("line", Value::Number(u64::from(line))),
-        member("column", Value::Number(column)),
-        member("end", Value::Number(column + 4)),
-        member("name", Value::Text(proc.name.as_slice())),
-        member("text", Value::Text(b"no call reaches it")),
+        Member {
+            name: "file",
+            value: Value::Exact(file),
+        },
+        Member {
+            name: "line",
+            value: Value::Number(u64::from(line)),
+        },
+        Member {
+            name: "column",
+            value: Value::Number(column),
+        },
+        Member {
+            name: "end",
+            value: Value::Number(column + 4),
+        },
+        Member {
+            name: "name",
+            value: Value::Text(proc.name.as_slice()),
+        },
+        Member {
+            name: "text",
+            value: Value::Text(b"no call reaches it"),
+        },
     ];
     object_line(alloc, "unchecked", &members)
 }
@@ -108,6 +124,7 @@ fn told_lines(
 /// # Errors
 ///
 /// A refused growth, or why the source has no logical lines.
+#[tactic(auto, using(crate::proofs::Refusing::refuses_lines))]
 pub fn unreached_told(
     alloc: Global,
     source: &[u8],
@@ -115,7 +132,7 @@ pub fn unreached_told(
     json: bool,
 ) -> Result<Vec<u8>, PlayFault>
     ensures told { IfOk result (λ text. TellsUnreached source.now (files_of files.now) json text.items) }
-    ensures refused { IfErr result (RefusesText source.now) }
+    ensures refused { IfErr result (RefusesLines source.now) }
 {
     let lines = lines_of(alloc, source)?;
     let procs = unchecked_procs(alloc, lines.lines.as_slice())?;

@@ -1,4 +1,4 @@
-use Rattle.std.proofs.Common.{◌∙◌, ◌++◌, [], ap, map, refl, sym}
+use Rattle.std.proofs.Common.{◌∙◌, ◌++◌, [], ap, map, refl}
 use Rattle.occ_explaining.specs.Files.{files_of}
 use Rattle.occ_explaining.specs.Unreached.{told_line, told_lines}
 use Rattle.occ_reach.specs.Reach.{unchecked_head}
