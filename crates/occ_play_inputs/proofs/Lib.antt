@@ -1,3 +1,4 @@
-mod Whole
-mod Joining
+mod Behind
 mod EachPath
+mod Joining
+mod Whole
