@@ -9,15 +9,16 @@ import tempfile
 
 from .running import SECONDS, Job, put, room
 
-# its record, its picture, its trace and its turns are all longer than FULL
+# its record, its picture, its trace, its turns and what is typed are all longer than FULL
 LONG = "PROC main (CHAN OF BYTE keyboard, screen)\n  SEQ i = 0 FOR 1000\n    screen ! 'A'\n:\n"
 SCREEN = b"A" * 1000
+TYPED = b"t" * 5000
 OLD = "what stood here before\n"
 # how many bytes a file may have where the disk is full
 FULL = 4096
-WRITTEN = ["--record", "--chart", "--trace-to", "--steps"]
+WRITTEN = ["--record", "--typed", "--chart", "--trace-to", "--steps"]
 FAILED = b"write failed\n"
-OWN_FILE = b"--record, --chart, --trace-to and --steps each write into a file of their own\n"
+OWN_FILE = b"--record, --typed, --chart, --trace-to and --steps each write into a file of their own\n"
 NOBODY = 65534
 
 
@@ -36,7 +37,7 @@ def nobody():
 
 
 def run(program, folder, words, before=None):
-    done = subprocess.run([program, *words], cwd=folder, stdin=subprocess.DEVNULL, capture_output=True, preexec_fn=before, timeout=SECONDS, check=False)
+    done = subprocess.run([program, *words], cwd=folder, input=TYPED, capture_output=True, preexec_fn=before, timeout=SECONDS, check=False)
     return done.returncode, done.stdout, done.stderr
 
 

@@ -141,7 +141,7 @@ CASES = [
     Case(["a\x1b[31m\x7f\u009bé\n.occ", "--explain"], 6, "", f"read failed\na\\x1b[31m\\x7f\\xc2\\x9bé\\x0a.occ: {NO_SOURCE}"),
     Case(["b\x1bc"], 1, "", "refused 50 SharedVariable line 5 x\n", files={"b\x1bc": SHARED}),
     Case(["b\x1bc", "--explain"], 1, "", SHARED_TOLD.replace("x.occ", "b\\x1bc"), files={"b\x1bc": SHARED}),
-    Case(["a.occ", "b\x1bc"], 7, "", "error: unexpected argument 'b\\x1bc' found\nUsage: occam [FILE] [OPTIONS]\noccam --help says what is allowed\n"),
+    Case(["a.occ", "--b\x1bc"], 7, "", "error: unexpected argument '--b\\x1bc' found\n  tip: to pass '--b\\x1bc' as a value, use '-- --b\\x1bc'\noccam --help says what is allowed\n"),
     of(LETTER, ["--explain", "--choices", "none"], 6, "", f"read failed\nnone: {MISSING}"),
     of(LETTER, ["--explain"], 6, "", "write failed\nstandard output: no room is left\n", to="/dev/full"),
     of(LETTER, ["--explain", "--record", "none/x"], 6, "A", f"write failed\nnone/x: {MISSING}"),
@@ -158,7 +158,7 @@ CASES = [
     of(LETTER, ["--record", "x.occ"], 7, "", None),
     of(LETTER, ["--record", "a", "--chart", "a"], 7, "", None),
     of(LETTER, ["--choices", "a", "--chart", "a"], 7, "", None, files={"a": "0 0\n"}),
-    of(LETTER, ["--record", "./x.occ"], 7, "", "--record, --chart, --trace-to and --steps each write into a file of their own\n"),
+    of(LETTER, ["--record", "./x.occ"], 7, "", "--record, --typed, --chart, --trace-to and --steps each write into a file of their own\n"),
     of(LETTER, ["--choices", "a"], 7, "", "refused 90 BadChoice line 2\n", files={"a": "0 0\n0\n"}),
     Case([b"\xff.occ"], 7, "", "an argument is no UTF-8\n"),
     of(LETTER, ["--trace"], 0, "A\n1 c1 screen p0>screen 65\nended\n"),
@@ -309,7 +309,8 @@ def typed(program):
         wrong = []
         put(room, {"x.occ": ECHO})
         cases = [
-            (["x.occ"], "abc\n\x04", (0, "abc", NOTICE)),
+            (["x.occ"], "abc\n", (0, "abc", "")),
+            (["x.occ", "--workers=2"], "abc\n\x04", (0, "abc", NOTICE)),
             (["x.occ", "--explore"], "abc\n\x04", (0, '1 ended "abc" by 10 choices\neach run ends after 10 turns\none answer: the program has no ALT\n', NOTICE)),
             ([], "", (7, "", USAGE)),
             (["--trace"], f"{LETTER}\x04", (0, "A\n1 c1 screen p0>screen 65\nended\n", "")),

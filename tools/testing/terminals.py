@@ -56,10 +56,12 @@ CASES = [
     ("hello needs no Ctrl-D", LETTER, ["x.occ"], "", ALL, {}, (0, "A", "")),
     ("nor does its search", LETTER, ["--explore=endings", "x.occ"], "", ALL, {}, (0, "1 ended by 2 choices\neach run ends after 2 turns\none answer: the program has no ALT\n", "")),
     ("nor does a program that is refused", READS, ["--plain", "x.occ"], "", ALL, {}, (1, "refused 50 SharedVariable line 8 x\n", "")),
-    ("a keyboard", ECHO, ["x.occ"], "abc\n\x04", ALL, {}, (0, NOTICE + "abc", "")),
-    ("a keyboard that is typed without end", ECHO, ["--plain", "x.occ"], "ab\x04\x04", ALL, {}, (2, NOTICE + "ab\nstopped\n", "")),
-    ("a keyboard in a guard", GUARDED, ["--choices", "c", "x.occ"], "z\n\x04", ALL, {}, (4, NOTICE + "limit\n" + bold("after 0 communications:\n  p0 main: can go on\n"), "")),
-    ("a keyboard that is handed on", CALLED, ["x.occ"], "z\n\x04", ALL, {}, (0, NOTICE, "")),
+    ("a keyboard", ECHO, ["x.occ"], "abc\n", ALL, {}, (0, "abc", "")),
+    ("a keyboard for threads", ECHO, ["--workers=2", "x.occ"], "abc\n\x04", ALL, {}, (0, NOTICE + "abc", "")),
+    ("a keyboard that is typed without end", ECHO, ["--plain", "x.occ"], "ab\x04\x04", ALL, {}, (2, "ab\nstopped\n", "")),
+    ("a keyboard in a guard", GUARDED, ["--choices", "c", "x.occ"], "z\n\x04", ALL, {}, (4, "limit\n" + bold("after 0 communications:\n  p0 main: can go on\n"), "")),
+    ("a keyboard that is handed on", CALLED, ["x.occ"], "z\n", ALL, {}, (0, "", "")),
+    ("a keyboard in a guard, for threads", GUARDED, ["--watch", "x.occ"], "z\n\x04", ALL, {}, (0, NOTICE + "z1 c0 keyboard keyboard>p0 122\n2 c1 screen p0>screen 122\n", "")),
     ("no text", b"\x7fELF\x02\x01\0\0\0\n", ["x.occ"], "", ALL, {"NO_COLOR": "1"}, (1, "refused 2 BadByte line 1\nx.occ: this is not a text file: it contains NUL bytes\n", "")),
 ]
 
@@ -72,6 +74,7 @@ COMPLETED = [
     (["occam", "--limit", "="], ""),
     (["occam", "--pl"], "--plain"),
     (["occam", "--expl"], "--explain --explore"),
+    (["occam", "--li"], "--limit --live"),
 ]
 
 

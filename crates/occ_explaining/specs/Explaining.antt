@@ -20,6 +20,7 @@ use Rattle.occ_usage.specs.declared.checked.UsageFault.TheVariants as usages
 use Rattle.occ_code.specs.declared.compiling.CodeFault.TheVariants as codings
 use Rattle.occ_explain.specs.declared.refusal.Refusal.{Refusal}
 use Rattle.occ_explain.specs.Causes.{TellsCause}
+use Rattle.occ_explaining.specs.Files.{SourceFiles, place_told}
 use Rattle.occ_explain.specs.Places.{IsNear, IsPlace, line_numbered}
 use Rattle.occ_explain.specs.Explanations.{explained_text}
 use Rattle.occ_chart.specs.declared.part.Part.{Part}
@@ -92,19 +93,19 @@ pub record IsToldAs (written : (line column : ℕ) → (wrong hint : List ℕ) �
   pub some : 1 ≤ length wrong
   pub is : bytes ≡ written line column wrong hint
 
--- as an explanation, with the line that stands there
-abbrev pub IsExplained : (source file : List ℕ) (number named : ℕ) (bytes : List ℕ) → Type 0
-IsExplained source file number named bytes =
-    IsToldAs (λ line column wrong hint. explained_text file line column (line_numbered source line) wrong hint) source number named bytes
+-- as an explanation, with the line that stands there, under the name of its file and the number that it has in it
+abbrev pub IsExplained : (source : List ℕ) (files : SourceFiles) (number named : ℕ) (bytes : List ℕ) → Type 0
+IsExplained source files number named bytes =
+    IsToldAs (λ line column wrong hint. explained_text (place_told files line).0 (place_told files line).1 column (line_numbered source line) wrong hint) source number named bytes
 
 -- What is told of a fault: an explanation of each refusal of a text, and nothing of all else.
-abbrev pub TellsRefusal : (source file : List ℕ) → Option NumberAndLine → Option (List ℕ) → Type 0
-TellsRefusal source file None told = told ≡ None
-TellsRefusal source file (Some refusal) None = Some refusal ≡ None
-TellsRefusal source file (Some refusal) (Some bytes) = IsExplained source file refusal.0 refusal.1 bytes
+abbrev pub TellsRefusal : (source : List ℕ) → SourceFiles → Option NumberAndLine → Option (List ℕ) → Type 0
+TellsRefusal source files None told = told ≡ None
+TellsRefusal source files (Some refusal) None = Some refusal ≡ None
+TellsRefusal source files (Some refusal) (Some bytes) = IsExplained source files refusal.0 refusal.1 bytes
 
-abbrev pub TellsFault : {A : Type 0} → (source file : List ℕ) → PlayFault → Option (Vec ℕ A) → Type 0
-TellsFault source file fault told = TellsRefusal source file (refusal_in fault) (option_map (λ v. v.items) told)
+abbrev pub TellsFault : {A : Type 0} → (source : List ℕ) → SourceFiles → PlayFault → Option (Vec ℕ A) → Type 0
+TellsFault source files fault told = TellsRefusal source files (refusal_in fault) (option_map (λ v. v.items) told)
 
 -- The report of the run of a source by these choices, by the code that it has for turns of these options. What it tells of places
 -- fits that code and the logical lines of the source; who is at the ends of channels is told by what the program of the source uses.

@@ -1,3 +1,4 @@
+pub mod Files
 pub mod Explaining
 pub mod Typing
 pub mod Objects

@@ -2,6 +2,7 @@
 -- Manual: nothing; this is (own).
 use Rattle.std.specs.Prelude.{List, None, Option, Some, Vec, [], codes, drop, if◌then◌else◌, length, map, max, min, option_map, suc, ℕ, ◌-◌, ◌+◌, ◌==◌, ◌∷◌, ◌≡◌}
 use Rattle.occ_explaining.specs.Explaining.{NumberAndLine, IsToldAs, refusal_in}
+use Rattle.occ_explaining.specs.Files.{SourceFiles, place_told}
 use Rattle.occ_explaining.specs.declared.refusal_names.TheConstants.{NAMES}
 use Rattle.occ_explain.specs.Places.{line_numbered}
 use Rattle.occ_explain.specs.declared.explaining.Explanation.{Explanation}
@@ -45,11 +46,11 @@ abbrev pub object_told : (file : List ℕ) → (n : ℕ) → Explanation → Lis
 object_told file n e = refusal_json file n e.line e.column e.source.now e.wrong.items e.hint.items
 
 -- such an object for each refusal of a text, and nothing for all else
-abbrev pub TellsObjectOf : (source file : List ℕ) → Option NumberAndLine → Option (List ℕ) → Type 0
-TellsObjectOf source file None told = told ≡ None
-TellsObjectOf source file (Some refusal) None = Some refusal ≡ None
-TellsObjectOf source file (Some refusal) (Some bytes) =
-    IsToldAs (λ line column wrong hint. refusal_json file refusal.0 line column (line_numbered source line) wrong hint) source refusal.0 refusal.1 bytes
+abbrev pub TellsObjectOf : (source : List ℕ) → SourceFiles → Option NumberAndLine → Option (List ℕ) → Type 0
+TellsObjectOf source files None told = told ≡ None
+TellsObjectOf source files (Some refusal) None = Some refusal ≡ None
+TellsObjectOf source files (Some refusal) (Some bytes) =
+    IsToldAs (λ line column wrong hint. refusal_json (place_told files line).0 refusal.0 (place_told files line).1 column (line_numbered source line) wrong hint) source refusal.0 refusal.1 bytes
 
-abbrev pub TellsObject : {A : Type 0} → (source file : List ℕ) → PlayFault → Option (Vec ℕ A) → Type 0
-TellsObject source file fault told = TellsObjectOf source file (refusal_in fault) (option_map (λ v. v.items) told)
+abbrev pub TellsObject : {A : Type 0} → (source : List ℕ) → SourceFiles → PlayFault → Option (Vec ℕ A) → Type 0
+TellsObject source files fault told = TellsObjectOf source files (refusal_in fault) (option_map (λ v. v.items) told)

@@ -5,6 +5,7 @@
 #![tactic(auto)]
 
 pub mod charted;
+pub mod files;
 pub mod keyboard;
 pub mod objects;
 mod refusal_names;
@@ -14,6 +15,7 @@ pub mod stepped;
 pub mod unreached;
 
 pub use charted::named_chart;
+pub use files::{Files, beginnings};
 pub use keyboard::may_input;
 pub use objects::refusal_object;
 pub use refused::explained_fault;

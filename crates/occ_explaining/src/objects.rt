@@ -1,8 +1,10 @@
 //! A refusal as an object of JSON.
 ghost use Rattle.std.specs.Prelude.{◌≡◌, ◌≤◌, IfOk, drop, length, map};
+ghost use Rattle.occ_explaining.specs.Files.{files_of};
 ghost use Rattle.occ_text.specs.Spelling.{is_name_part};
 ghost use Rattle.occ_explaining.specs.Objects.{TellsObject, word_end, name_length, object_told, refusal_name, refusal_name_in};
 
+use crate::files::{Files, place_told};
 use crate::refusal_names::NAMES;
 use crate::refused::refusal_of;
 use occ_explain::{Explanation, explain};
@@ -66,11 +68,11 @@ fn refusal_name(number: u32) -> &'static str
 }
 
 /// The object of a refusal of this number.
-fn object_of(
+fn object_of<'x>(
     alloc: Global,
-    file: &str,
+    file: &'x str,
     number: u32,
-    explanation: &Explanation<'_>,
+    explanation: &'x Explanation<'_>,
 ) -> Result<Vec<u8>, AllocError>
     ensures { IfOk result (λ text. text.items ≡ object_told file.now number explanation.now) }
 {
@@ -105,14 +107,16 @@ pub(crate) fn member<'a>(name: &'static str, value: Value<'a>) -> Member<'a>
 pub fn refusal_object(
     alloc: Global,
     source: &[u8],
-    file: &str,
+    files: &Files<'_>,
     fault: &PlayFault,
 ) -> Result<Option<Vec<u8>>, AllocError>
-    ensures { IfOk result (TellsObject source.now file.now fault.now) }
+    ensures { IfOk result (TellsObject source.now (files_of files.now) fault.now) }
 {
     let Some(refusal) = refusal_of(fault) else {
         return Ok(None);
     };
-    let explanation = explain(alloc, source, &refusal)?;
+    let mut explanation = explain(alloc, source, &refusal)?;
+    let (file, line) = place_told(files, explanation.line);
+    explanation.line = line;
     Ok(Some(object_of(alloc, file, refusal.number, &explanation)?))
 }

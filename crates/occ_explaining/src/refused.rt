@@ -1,7 +1,9 @@
 //! Explanations of what a play was refused for.
 ghost use Rattle.std.specs.Prelude.{◌≡◌, IfOk, Some, None, option_map};
+ghost use Rattle.occ_explaining.specs.Files.{files_of};
 ghost use Rattle.occ_explaining.specs.Explaining.{TellsFault, number_and_line, numbered_of, refusal_in};
 
+use crate::files::{Files, place_told};
 use occ_check_names::fault::CheckFault;
 use occ_code::CodeFault;
 use occ_explain::{Refusal, explain, explained};
@@ -125,14 +127,16 @@ pub(crate) fn refusal_of(fault: &PlayFault) -> Option<Refusal<'_>>
 pub fn explained_fault(
     alloc: Global,
     source: &[u8],
-    file: &[u8],
+    files: &Files<'_>,
     fault: &PlayFault,
 ) -> Result<Option<Vec<u8>>, AllocError>
-    ensures { IfOk result (TellsFault source.now file.now fault.now) }
+    ensures { IfOk result (TellsFault source.now (files_of files.now) fault.now) }
 {
     let Some(refusal) = refusal_of(fault) else {
         return Ok(None);
     };
-    let explanation = explain(alloc, source, &refusal)?;
-    Ok(Some(explained(alloc, file, &explanation)?))
+    let mut explanation = explain(alloc, source, &refusal)?;
+    let (file, line) = place_told(files, explanation.line);
+    explanation.line = line;
+    Ok(Some(explained(alloc, file.as_bytes(), &explanation)?))
 }

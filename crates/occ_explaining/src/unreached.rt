@@ -1,35 +1,66 @@
 //! The PROCs that no call reaches, as they are told.
-ghost use Rattle.std.specs.Prelude.{◌≡◌, IfErr, IfOk, map};
-ghost use Rattle.occ_explaining.specs.Unreached.{TellsUnreached, as_object, in_words, told_line, told_lines};
+ghost use Rattle.std.specs.Prelude.{◌≡◌, ◌++◌, IfErr, IfOk, OnOk, map};
+ghost use Rattle.occ_explaining.specs.Files.{files_of};
+ghost use Rattle.occ_explaining.specs.Unreached.{TellsUnreached, as_object, file_told, in_words, told_line, told_procs};
 ghost use Rattle.occ_play.specs.Playing.{RefusesText};
 ghost use Rattle.occ_reach.specs.Reach.{unchecked_head};
 
+use crate::files::{Files, place_told};
 use crate::objects::member;
 use crate::reported::lines_of;
+use occ_files::printed_name;
 use occ_json::{Value, object_line};
 use occ_play::PlayFault;
 use occ_reach::{Unchecked, unchecked_procs};
 use std::alloc::{AllocError, Global};
 
-/// A PROC that no call reaches, in words.
-fn in_words(alloc: Global, proc: &Unchecked<'_>) -> Result<Vec<u8>, AllocError>
-    ensures { IfOk result (λ text. text.items ≡ in_words (unchecked_head proc.now)) }
+/// The name of a file, where the source has several.
+fn write_file(
+    alloc: Global,
+    out: &mut Vec<u8>,
+    files: &Files<'_>,
+    name: &str,
+) -> Result<(), AllocError>
+    ensures { OnOk result (out.new.items
+        ≡ out.old.items ++ file_told (files_of files.now) name.now) }
 {
+    if !files.more.is_empty() {
+        let name = printed_name(alloc, name.as_bytes())?;
+        out.extend_from_slice(name.as_slice())?;
+        out.extend_from_slice(b", ")?;
+    }
+    Ok(())
+}
+
+/// A PROC that no call reaches, in words.
+fn in_words(alloc: Global, files: &Files<'_>, proc: &Unchecked<'_>) -> Result<Vec<u8>, AllocError>
+    ensures { IfOk result (λ text. text.items
+        ≡ in_words (files_of files.now) (unchecked_head proc.now)) }
+{
+    let (file, line) = place_told(files, proc.line);
     let mut text = Vec::from_slice(alloc, b"not checked: ")?;
     text.extend_from_slice(proc.name.as_slice())?;
-    let rest = format!(in alloc; ", line {}: no call reaches it\n", proc.line)?;
+    text.extend_from_slice(b", ")?;
+    write_file(alloc, &mut text, files, file)?;
+    let rest = format!(in alloc; "line {line}: no call reaches it\n")?;
     text.extend_from_slice(rest.as_bytes())?;
     Ok(text)
 }
 
 /// The same as an object of JSON. The line begins with `PROC`, behind two spaces for each level.
-fn as_object(alloc: Global, file: &str, proc: &Unchecked<'_>) -> Result<Vec<u8>, AllocError>
-    ensures { IfOk result (λ text. text.items ≡ as_object file.now (unchecked_head proc.now)) }
+fn as_object<'x>(
+    alloc: Global,
+    files: &'x Files<'x>,
+    proc: &'x Unchecked<'_>,
+) -> Result<Vec<u8>, AllocError>
+    ensures { IfOk result (λ text. text.items
+        ≡ as_object (files_of files.now) (unchecked_head proc.now)) }
 {
+    let (file, line) = place_told(files, proc.line);
     let column = 2 * u64::from(proc.level) + 1;
     let members = [
         member("file", Value::Exact(file)),
-        member("line", Value::Number(u64::from(proc.line))),
+        member("line", Value::Number(u64::from(line))),
         member("column", Value::Number(column)),
         member("end", Value::Number(column + 4)),
         member("name", Value::Text(proc.name.as_slice())),
@@ -41,31 +72,31 @@ fn as_object(alloc: Global, file: &str, proc: &Unchecked<'_>) -> Result<Vec<u8>,
 /// A line for a PROC that no call reaches.
 fn told_line(
     alloc: Global,
-    file: &str,
+    files: &Files<'_>,
     json: bool,
     proc: &Unchecked<'_>,
 ) -> Result<Vec<u8>, AllocError>
-    ensures { IfOk result (λ text. text.items ≡ told_line file.now json (unchecked_head proc.now)) }
+    ensures { IfOk result (λ text. text.items ≡ told_line (files_of files.now) json (unchecked_head proc.now)) }
 {
     if json {
-        as_object(alloc, file, proc)
+        as_object(alloc, files, proc)
     } else {
-        in_words(alloc, proc)
+        in_words(alloc, files, proc)
     }
 }
 
 /// A line for each of them.
 fn told_lines(
     alloc: Global,
-    file: &str,
+    files: &Files<'_>,
     json: bool,
     procs: &[Unchecked<'_>],
 ) -> Result<Vec<u8>, AllocError>
-    ensures { IfOk result (λ text. text.items ≡ told_lines file.now json (map unchecked_head procs.now)) }
+    ensures { IfOk result (λ text. text.items ≡ told_procs files.now json procs.now) }
 {
     let mut text = Vec::new(alloc);
     for proc in procs {
-        let line = told_line(alloc, file, json, proc)?;
+        let line = told_line(alloc, files, json, proc)?;
         text.extend_from_slice(line.as_slice())?;
     }
     Ok(text)
@@ -80,14 +111,14 @@ fn told_lines(
 pub fn unreached_told(
     alloc: Global,
     source: &[u8],
-    file: &str,
+    files: &Files<'_>,
     json: bool,
 ) -> Result<Vec<u8>, PlayFault>
-    ensures told { IfOk result (λ text. TellsUnreached source.now file.now json text.items) }
+    ensures told { IfOk result (λ text. TellsUnreached source.now (files_of files.now) json text.items) }
     ensures refused { IfErr result (RefusesText source.now) }
 {
     let lines = lines_of(alloc, source)?;
     let procs = unchecked_procs(alloc, lines.lines.as_slice())?;
-    let text = told_lines(alloc, file, json, procs.as_slice())?;
+    let text = told_lines(alloc, files, json, procs.as_slice())?;
     Ok(text)
 }

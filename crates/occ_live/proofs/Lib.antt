@@ -1,2 +1,3 @@
+mod Answers
 mod Shown
 mod Standing

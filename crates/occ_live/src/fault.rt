@@ -3,6 +3,7 @@ ghost use Rattle.std.specs.Prelude.{◌≡◌};
 ghost use Rattle.occ_live.specs.declared.fault.LiveFault.TheVariants.{Memory};
 
 use occ_files::Reason;
+use occ_play::PlayFault;
 use std::alloc::AllocError;
 use thiserror::Error;
 
@@ -26,4 +27,15 @@ impl From<AllocError> for LiveFault {
     fn from(_e: AllocError) -> LiveFault {
         LiveFault::Memory
     }
+}
+
+/// Why a program was not played live, or its answer not written.
+#[derive(Debug, Drop, Error)]
+pub enum LivePlayFault {
+    /// The source is refused, or there was no memory for its code.
+    #[error("{0}")]
+    Source(PlayFault),
+    /// The run came to nothing.
+    #[error("{0}")]
+    Run(LiveFault),
 }

@@ -46,6 +46,18 @@ FailsToRead which (Read t) = t.stream ≡ which
 FailsToRead which Memory = ⊤
 FailsToRead which failure = ⊥
 
+-- a file of the source
+abbrev pub IsOfSource : Stream → Type 0
+IsOfSource stream.Source = ⊤
+IsOfSource (stream.More n) = ⊤
+IsOfSource which = ⊥
+
+-- one of these could not be read, or memory ran out
+abbrev pub FailsToReadSource : Failure → Type 0
+FailsToReadSource (Read t) = IsOfSource t.stream
+FailsToReadSource Memory = ⊤
+FailsToReadSource failure = ⊥
+
 -- this one could not be written, or memory ran out
 abbrev pub FailsToWrite : Stream → Failure → Type 0
 FailsToWrite which (Write t) = t.stream ≡ which

@@ -1,7 +1,7 @@
 //! That a file which is written is none that is read, and not the other one.
-ghost use Rattle.std.specs.Prelude.{◌≡◌, IfErr, IsTrue};
+ghost use Rattle.std.specs.Prelude.{◌≡◌, All, IfErr, IsTrue};
 ghost use Rattle.occ_play_inputs.specs.declared.failure.Failure.{Failure};
-ghost use Rattle.occ_play_inputs.specs.Paths.{AreApart, AreTextsApart, Differ, IsNoneOf};
+ghost use Rattle.occ_play_inputs.specs.Paths.{AreApart, AreTextsApart, Differ, IsFurther, IsNoneOf, IsUnread, IsUnwritten};
 
 use crate::failure::Failure;
 use crate::words::Words;
@@ -76,6 +76,63 @@ pub(crate) fn are_apart(
         && are_beside(file, choices, written, drawn, traced, turns)
 }
 
+/// Whether the path of what was typed is none that is read.
+pub(crate) fn is_unread(typed: Option<&str>, file: Option<&str>, choices: Option<&str>) -> bool
+    ensures { IsTrue result → IsUnread typed.entry file.entry choices.entry }
+{
+    differ(typed, file) && differ(typed, choices)
+}
+
+/// Whether a path is none of these that are written.
+pub(crate) fn is_unwritten(
+    path: Option<&str>,
+    written: Option<&str>,
+    drawn: Option<&str>,
+    traced: Option<&str>,
+    turns: Option<&str>,
+) -> bool
+    ensures { IsTrue result → IsUnwritten path.entry written.entry drawn.entry traced.entry
+        turns.entry }
+{
+    differ(path, written) && differ(path, drawn) && differ(path, traced) && differ(path, turns)
+}
+
+/// Whether the path of a further file of the source is none of those that are written.
+fn is_further(
+    path: &str,
+    typed: Option<&str>,
+    kept: Option<&str>,
+    drawn: Option<&str>,
+    traced: Option<&str>,
+    turns: Option<&str>,
+) -> bool
+    ensures { IsTrue result → IsFurther typed.entry kept.entry drawn.entry traced.entry
+        turns.entry path.entry }
+{
+    let path = Some(path);
+    differ(path, typed) && is_unwritten(path, kept, drawn, traced, turns)
+}
+
+/// Whether each of these is.
+pub(crate) fn are_further(
+    more: &[&str],
+    typed: Option<&str>,
+    kept: Option<&str>,
+    drawn: Option<&str>,
+    traced: Option<&str>,
+    turns: Option<&str>,
+) -> bool
+    ensures { IsTrue result → All (IsFurther typed.entry kept.entry drawn.entry traced.entry
+        turns.entry) more.now }
+{
+    for i in 0..more.len() {
+        if !is_further(more[i], typed, kept, drawn, traced, turns) {
+            return false;
+        }
+    }
+    true
+}
+
 /// Whether both words name one plain file that there is, by whatever path.
 fn name_one<R: Files>(rt: &R, one: Option<&str>, other: Option<&str>) -> bool {
     match (one, other) {
@@ -105,6 +162,32 @@ pub fn check_files<R: Files>(rt: &R, words: &Words<'_>) -> Result<(), Failure>
         || name_one(rt, words.steps, words.choices)
         || name_one(rt, words.steps, words.record)
         || name_one(rt, words.steps, words.chart)
-        || name_one(rt, words.steps, words.trace_to);
-    if met { Err(Failure::Paths) } else { Ok(()) }
+        || name_one(rt, words.steps, words.trace_to)
+        || name_one(rt, words.typed, words.file)
+        || name_one(rt, words.typed, words.choices)
+        || name_one(rt, words.typed, words.record)
+        || name_one(rt, words.typed, words.chart)
+        || name_one(rt, words.typed, words.trace_to)
+        || name_one(rt, words.typed, words.steps);
+    if met || writes_one(rt, words) {
+        Err(Failure::Paths)
+    } else {
+        Ok(())
+    }
+}
+
+/// Whether a file that is written is a further file of the source, by whatever paths.
+fn writes_one<R: Files>(rt: &R, words: &Words<'_>) -> bool {
+    for path in words.more.as_slice() {
+        let path = Some(*path);
+        if name_one(rt, words.record, path)
+            || name_one(rt, words.chart, path)
+            || name_one(rt, words.trace_to, path)
+            || name_one(rt, words.steps, path)
+            || name_one(rt, words.typed, path)
+        {
+            return true;
+        }
+    }
+    false
 }

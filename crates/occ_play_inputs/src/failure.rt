@@ -16,8 +16,10 @@ use thiserror::Error;
 /// A file or a stream that the program reads or writes.
 #[derive(Clone, Copy, Debug, PartialEq, Eq)]
 pub enum Stream {
-    /// The source: the file that the words name, or standard input.
+    /// The source: the first file that the words name, or standard input.
     Source,
+    /// A further file of the source, by its number from 0.
+    More(usize),
     /// What is typed: standard input.
     Keyboard,
     /// The file of choices.
@@ -34,6 +36,8 @@ pub enum Stream {
     Trace,
     /// The file of the turns.
     Turns,
+    /// The file of what was typed.
+    Typed,
 }
 
 /// A file or a stream, and why the system could not read or write it.
@@ -61,7 +65,7 @@ pub enum Failure {
     #[error("an argument is no UTF-8")]
     Arguments,
     /// A file that is to be written is one that is read, or another that is written.
-    #[error("--record, --chart, --trace-to and --steps each write into a file of their own")]
+    #[error("--record, --typed, --chart, --trace-to and --steps each write into a file of their own")]
     Paths,
     /// A file or a stream could not be read.
     #[error("read failed")]

@@ -1,18 +1,19 @@
 //! What the program plays: a source, the keyboard's bytes, and a plan.
-ghost use Rattle.std.specs.Prelude.{◌≡◌, ◌≤◌, IfErr, IfOk, IfSome, List, length, take, ℕ};
+ghost use Rattle.std.specs.Prelude.{[], ◌≡◌, ◌≤◌, IfErr, IfOk, IfSome, List, OnOk, length, suc, take, ℕ};
 ghost use Rattle.occ_choices.specs.Lines.{ChoiceLines};
 ghost use Rattle.occ_choices.specs.Plans.{choices_of};
-ghost use Rattle.occ_play_inputs.specs.Asked.{IsAskedBy, IsTyped};
-ghost use Rattle.occ_play_inputs.specs.Failures.{FailsToChoose, FailsToRead};
+ghost use Rattle.occ_play_inputs.specs.Asked.{IsAskedBy, IsJoin, IsSourceBy, IsTyped, NotesEnd, PutsBehind, PutsSome};
+ghost use Rattle.occ_play_inputs.specs.Failures.{FailsToChoose, FailsToRead, FailsToReadSource};
 ghost use Rattle.occ_play_inputs.specs.Notices.{notice_of};
-ghost use Rattle.occ_play_inputs.specs.declared.failure.Stream.TheVariants.{Keyboard, Source};
+ghost use Rattle.occ_play_inputs.specs.declared.failure.Stream.TheVariants.{Keyboard};
 
 use crate::failure::{Failure, Stream, of_input, of_read};
 use crate::words::Words;
 use occ_choices::{Plan, read_choices};
 use occ_files::{CountedReader, read_input};
 use occ_seeds::seeded_plan;
-use std::alloc::Global;
+use occ_sources::{add_text, last_line};
+use std::alloc::{AllocError, Global};
 use std::fs;
 use std::io::{Input, IsTerminal, Read};
 use std::rt::Files;
@@ -24,11 +25,22 @@ const MOST_SOURCE: usize = 1_048_577;
 const NOTICE: &str =
     "the program reads the keyboard: type its input, then Ctrl-D on a line of its own\n";
 
+/// A source: its files, one behind the other.
+#[derive(Drop)]
+pub struct Joined {
+    /// The bytes.
+    pub bytes: Vec<u8>,
+    /// The number of the last line of each file but the last.
+    pub ends: Vec<u32>,
+}
+
 /// What the program plays.
 #[derive(Drop)]
 pub struct Inputs {
-    /// The source's bytes.
+    /// The source's bytes: its files, one behind the other.
     pub source: Vec<u8>,
+    /// The number of the last line of each of its files but the last.
+    pub ends: Vec<u32>,
     /// What is typed.
     pub keyboard: Vec<u8>,
     /// The choices of the run.
@@ -46,25 +58,31 @@ pub fn read_beside<R: Files + Input + Eprint>(
     rt: &R,
     alloc: Global,
     words: &Words<'_>,
-    source: Vec<u8>,
+    source: Joined,
     wanted: bool,
 ) -> Result<Inputs, Failure>
 where
     R::Reader: IsTerminal,
     ensures asked { IfOk result (λ inputs. IsAskedBy words.now inputs.plan) }
-    ensures source { IfOk result (λ inputs. inputs.source ≡ source) }
+    ensures source { IfOk result (λ inputs. inputs.source ≡ source.bytes) }
+    ensures ends { IfOk result (λ inputs. inputs.ends ≡ source.ends) }
     ensures typed { IfOk result (λ inputs. IsTyped words.now.file wanted inputs.keyboard.items) }
 {
     let keyboard = read_keyboard(rt, alloc, words, wanted)?;
     let plan = read_plan(rt, alloc, words)?;
+    let Joined {
+        bytes: source,
+        ends,
+    } = source;
     Ok(Inputs {
         source,
+        ends,
         keyboard,
         plan,
     })
 }
 
-/// Reads the source alone: the file that the words name, or standard input.
+/// Reads the source alone: the files that the words name, or standard input.
 ///
 /// # Errors
 ///
@@ -73,17 +91,82 @@ pub fn read_source<R: Files + Input>(
     rt: &R,
     alloc: Global,
     words: &Words<'_>,
-) -> Result<Vec<u8>, Failure>
-    ensures few { IfOk result (λ source. length source.items ≤ 1048577) }
-    ensures failed { IfErr result (FailsToRead Source) }
+) -> Result<Joined, Failure>
+    ensures few { IfOk result (λ source. length source.bytes.items ≤ 1048577) }
+    ensures joined { IfOk result (IsSourceBy words.now) }
+    ensures failed { IfErr result FailsToReadSource }
 {
     match words.file {
-        None => read_most(alloc, Stream::Source, rt.reader(), MOST_SOURCE),
-        Some(path) => {
-            let file = open(rt, Stream::Source, path)?;
-            read_most(alloc, Stream::Source, file, MOST_SOURCE)
+        None => {
+            let mut source = empty_source(alloc);
+            read_behind(alloc, &mut source, Stream::Source, rt.reader())?;
+            Ok(source)
         }
+        Some(path) => read_files(rt, alloc, path, words.more.as_slice()),
     }
+}
+
+/// A source of no file.
+fn empty_source(alloc: Global) -> Joined
+    ensures bytes { result.bytes.items ≡ [] }
+    ensures ends { result.ends.items ≡ [] }
+{
+    Joined {
+        bytes: Vec::new(alloc),
+        ends: Vec::new(alloc),
+    }
+}
+
+/// The source of these files.
+fn read_files<R: Files>(
+    rt: &R,
+    alloc: Global,
+    first: &str,
+    more: &[&str],
+) -> Result<Joined, Failure>
+    ensures few { IfOk result (λ source. length source.bytes.items ≤ 1048577) }
+    ensures joined { IfOk result (IsJoin (suc (length more.now))) }
+    ensures failed { IfErr result FailsToReadSource }
+{
+    let mut source = empty_source(alloc);
+    let file = open(rt, Stream::Source, first)?;
+    read_behind(alloc, &mut source, Stream::Source, file)?;
+    for place in 0..more.len() {
+        note_end(&mut source)?;
+        let file = open(rt, Stream::More(place), more[place])?;
+        read_behind(alloc, &mut source, Stream::More(place), file)?;
+    }
+    Ok(source)
+}
+
+/// Notes the number of the last line, before another file.
+fn note_end(source: &mut Joined) -> Result<(), AllocError>
+    requires { length source.old.bytes.items ≤ 1048577 }
+    ensures noted { OnOk result (NotesEnd source.old source.new) }
+    ensures bytes { source.new.bytes ≡ source.old.bytes }
+{
+    let end = last_line(source.bytes.as_slice());
+    source.ends.push(end)?;
+    Ok(())
+}
+
+/// Reads a file, and adds its text to those before it.
+fn read_behind<S: Read + Drop>(
+    alloc: Global,
+    source: &mut Joined,
+    stream: Stream,
+    file: S,
+) -> Result<(), Failure>
+    ensures few { OnOk result (length source.new.bytes.items ≤ 1048577) }
+    ensures joined { OnOk result (PutsSome source.old source.new) }
+    ensures text { IfSome (S.remaining file) (λ xs. OnOk result
+        (PutsBehind source.old source.new xs)) }
+    ensures ends { OnOk result (source.new.ends ≡ source.old.ends) }
+    ensures failed { IfErr result (FailsToRead stream) }
+{
+    let text = read_most(alloc, stream, file, MOST_SOURCE)?;
+    add_text(&mut source.bytes, text.as_slice(), MOST_SOURCE)?;
+    Ok(())
 }
 
 /// What is typed: standard input, where the words name a source's file and it is wanted, and else nothing.

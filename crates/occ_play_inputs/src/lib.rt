@@ -9,5 +9,5 @@ pub mod words;
 
 pub use apart::check_files;
 pub use failure::{Failure, Stream, Trouble};
-pub use inputs::{Inputs, read_beside, read_source};
+pub use inputs::{Inputs, Joined, read_beside, read_source};
 pub use words::{Words, read_words};

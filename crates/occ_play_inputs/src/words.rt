@@ -1,13 +1,13 @@
 //! The words of the command line.
-ghost use Rattle.std.specs.Prelude.{◌≡◌, ◌≤◌, ◌<◌, IfOk, IsTrue, unwrap_or};
+ghost use Rattle.std.specs.Prelude.{◌≡◌, ◌≤◌, ◌<◌, All, IfOk, IsTrue, unwrap_or};
 ghost use Rattle.std.specs.Option.{ForSome, option_copied};
 ghost use Rattle.occ_choices.specs.Crews.{IsCrew};
 ghost use Rattle.occ_code.specs.CodeOf.{IsQuantum};
 ghost use Rattle.occ_play_inputs.specs.Modes.{IsMode};
-ghost use Rattle.occ_play_inputs.specs.Paths.{AreApart, IsSourcePath};
+ghost use Rattle.occ_play_inputs.specs.Paths.{AreApart, IsFurther, IsSourcePath, IsUnread, IsUnwritten};
 ghost use Rattle.occ_play_inputs.specs.Searches.{IsFull, IsSearch};
 
-use crate::apart::are_apart;
+use crate::apart::{are_apart, are_further, is_unread, is_unwritten};
 use clap::builder::ValueParser;
 use clap::error::ErrorKind;
 use clap::{Arg, ArgAction, ArgMatches, Command, Error, value_parser};
@@ -51,16 +51,23 @@ pub const MOST_STATES: u32 = 10_000_000;
 static TOLD: [&str; 3] = ["answers", "endings", "full"];
 
 /// How many words there are.
-const WORDS: u32 = 22;
+const WORDS: u32 = 24;
 
 /// The words that say something of one run.
-static OF_ONE_RUN: [&str; 12] = [
+static OF_ONE_RUN: [&str; 14] = [
     "limit", "workers", "choices", "chart", "arrows", "last", "trace", "trace-to", "steps", "seed",
-    "tries", "watch",
+    "tries", "watch", "live", "typed",
 ];
+
+/// The words beside which a run can't be live.
+static NOT_LIVE: [&str; 3] = ["workers", "watch", "tries"];
 
 /// What has no place beside `--check` either.
 static OF_A_SEARCH: [&str; 3] = ["record", "explore", "states"];
+
+/// What is told where two words name one file.
+const ONE_FILE: &str =
+    "--record, --typed, --chart, --trace-to and --steps each write into a file of their own";
 
 /// What is told below the words.
 const MORE_HELP: &str =
@@ -99,6 +106,8 @@ pub struct Words<'a> {
     /// Whether a thread of its own looks at the communications, which are printed to standard error as it was shown them; with
     /// a file of choices it says nothing.
     pub watch: bool,
+    /// Whether the keyboard is read and the screen is written while the run goes on, also where no stream is a terminal.
+    pub live: bool,
     /// Whether more is told behind the line of a refusal or of a failed read or write, and behind an ending that is not that of a
     /// whole run.
     pub explain: bool,
@@ -116,6 +125,8 @@ pub struct Words<'a> {
     pub choices: Option<&'a str>,
     /// The path of the file into which the used choices are written.
     pub record: Option<&'a str>,
+    /// The path of the file into which the keyboard's bytes are written, as far as they were read.
+    pub typed: Option<&'a str>,
     /// The path of the file into which a chart of the trace is written.
     pub chart: Option<&'a str>,
     /// The most communications that the chart shows, of the first ones.
@@ -137,8 +148,10 @@ pub struct Words<'a> {
     pub states: u32,
     /// Whether it is only said whether the source is refused: then nothing is typed and nothing is played.
     pub check: bool,
-    /// The path of the source; none where standard input is the source.
+    /// The path of the source, or of its first file; none where standard input is the source.
     pub file: Option<&'a str>,
+    /// The paths of its further files, in order.
+    pub more: Vec<&'a str>,
     ghost limit_in_range: { limit ≤ 10000000 },
     ghost quantum_in_range: { IsQuantum quantum },
     ghost workers_in_range: { ForSome workers IsCrew },
@@ -148,6 +161,9 @@ pub struct Words<'a> {
     ghost some_tries: { 1 ≤ tries },
     ghost tries_in_range: { tries ≤ 1000000 },
     ghost files_apart: { AreApart file choices «record» chart trace_to steps },
+    ghost typed_unread: { IsUnread typed file choices },
+    ghost typed_apart: { IsUnwritten typed «record» chart trace_to steps },
+    ghost more_apart: { All (IsFurther typed «record» chart trace_to steps) more.items },
 }
 
 /// Reads the words, of which the first is the program's name.
@@ -158,19 +174,42 @@ pub struct Words<'a> {
 /// an error of the kind `DisplayHelp`, and one for the version of the kind `DisplayVersion`.
 pub fn read_words<'a>(alloc: Global, words: &'a [&'a str]) -> Result<Words<'a>, Error> {
     let mut command = command(alloc)?;
-    read_by(&mut command, words)
+    read_by(alloc, &mut command, words)
 }
 
 /// What the command finds in the words.
-fn read_by<'a>(command: &mut Command<'a>, words: &'a [&'a str]) -> Result<Words<'a>, Error> {
+fn read_by<'a>(
+    alloc: Global,
+    command: &mut Command<'a>,
+    words: &'a [&'a str],
+) -> Result<Words<'a>, Error> {
     let matches = command.try_get_matches_from_mut(words)?;
-    match words_of(&matches) {
+    let more = more_of(alloc, &matches)?;
+    match words_of(&matches, more) {
         Ok(words) => Ok(words),
         Err(told) => Err(refused(command, told)),
     }
 }
 
-/// The path of the source, where the words gave this one or none: a hyphen is standard input.
+/// The files of the source behind the first one.
+fn more_of<'a>(alloc: Global, matches: &ArgMatches<'a>) -> Result<Vec<&'a str>, AllocError> {
+    match matches.get_strs("FILE") {
+        Some([_, more @ ..]) => Vec::from_slice(alloc, more),
+        _ => Ok(Vec::new(alloc)),
+    }
+}
+
+/// Whether one of these paths is a hyphen.
+fn has_hyphen(paths: &[&str]) -> bool {
+    for path in paths {
+        if *path == "-" {
+            return true;
+        }
+    }
+    false
+}
+
+/// The path of the source's first file, where the words gave this one or none: a hyphen is standard input.
 fn file_of<'a>(given: Option<&'a str>) -> Option<&'a str>
     ensures { IsSourcePath (option_copied given.entry) (option_copied result) }
 {
@@ -189,7 +228,7 @@ fn refused<'a>(command: &mut Command<'a>, told: &str) -> Error {
 }
 
 /// What the words say that were found, or what is told where one of them says what it may not.
-fn words_of<'a>(matches: &ArgMatches<'a>) -> Result<Words<'a>, &'static str> {
+fn words_of<'a>(matches: &ArgMatches<'a>, more: Vec<&'a str>) -> Result<Words<'a>, &'static str> {
     let limit = limit_of(matches.get_one::<u32>("limit"));
     let limit = number_in(limit, 0, MOST_TURNS, "the limit is 0 to 10000000 turns")?;
     let quantum = quantum_of(matches.get_one::<u32>("quantum"));
@@ -207,10 +246,20 @@ fn words_of<'a>(matches: &ArgMatches<'a>) -> Result<Words<'a>, &'static str> {
     let tries = tries_of(matches.get_one::<u32>("tries"));
     let tries = number_in(tries, 1, MOST_TRIES, "the tries are 1 to 1000000")?;
     let (file, choices) = (file_of(matches.get_str("FILE")), matches.get_str("choices"));
+    if has_hyphen(more.as_slice()) || file.is_none() && !more.is_empty() {
+        return Err("- is standard input as the source, and stands alone");
+    }
     let (record, chart) = (matches.get_str("record"), matches.get_str("chart"));
     let (trace_to, steps) = (matches.get_str("trace-to"), matches.get_str("steps"));
+    let typed = matches.get_str("typed");
     if !are_apart(file, choices, record, chart, trace_to, steps) {
-        return Err("--record, --chart, --trace-to and --steps each write into a file of their own");
+        return Err(ONE_FILE);
+    }
+    if !is_unread(typed, file, choices) || !is_unwritten(typed, record, chart, trace_to, steps) {
+        return Err(ONE_FILE);
+    }
+    if !are_further(more.as_slice(), typed, record, chart, trace_to, steps) {
+        return Err(ONE_FILE);
     }
     let (json, check) = (matches.get_flag("json"), matches.get_flag("check"));
     if json && !check && trace_to.is_none() {
@@ -223,6 +272,7 @@ fn words_of<'a>(matches: &ArgMatches<'a>) -> Result<Words<'a>, &'static str> {
         workers,
         trace: matches.get_flag("trace"),
         watch: matches.get_flag("watch"),
+        live: matches.get_flag("live"),
         explain: matches.get_flag("explain"),
         plain: matches.get_flag("plain"),
         bold: false,
@@ -230,6 +280,7 @@ fn words_of<'a>(matches: &ArgMatches<'a>) -> Result<Words<'a>, &'static str> {
         tries,
         choices,
         record,
+        typed,
         chart,
         arrows: arrows_of(matches.get_one::<u32>("arrows")),
         last: matches.get_one::<u32>("last"),
@@ -241,6 +292,7 @@ fn words_of<'a>(matches: &ArgMatches<'a>) -> Result<Words<'a>, &'static str> {
         states,
         check,
         file,
+        more,
     })
 }
 
@@ -346,7 +398,7 @@ fn command<'a>(alloc: Global) -> Result<Command<'a>, Error> {
     let mut command = Command::new(alloc, "occam")
         .about("Compiles and runs an occam 2 program.")
         .version(VERSION)
-        .override_usage("occam [FILE] [OPTIONS]")
+        .override_usage("occam [FILE..] [OPTIONS]")
         .after_help(MORE_HELP);
     for number in 0..WORDS {
         command = with(command, word_of(alloc, number))?;
@@ -365,19 +417,21 @@ fn word_of<'a>(alloc: Global, number: u32) -> Result<Arg<'a>, AllocError> {
         5 => tries_word(alloc),
         6 => Ok(choices_word(alloc)),
         7 => Ok(record_word(alloc)),
-        8 => Ok(chart_word(alloc)),
-        9 => arrows_word(alloc),
-        10 => last_word(alloc),
-        11 => Ok(trace_word(alloc)),
-        12 => Ok(trace_to_word(alloc)),
-        13 => Ok(json_word(alloc)),
-        14 => Ok(steps_word(alloc)),
-        15 => Ok(watch_word(alloc)),
-        16 => Ok(explain_word(alloc)),
-        17 => plain_word(alloc),
-        18 => explore_word(alloc),
-        19 => states_word(alloc),
-        20 => check_word(alloc),
+        8 => Ok(typed_word(alloc)),
+        9 => Ok(chart_word(alloc)),
+        10 => arrows_word(alloc),
+        11 => last_word(alloc),
+        12 => Ok(trace_word(alloc)),
+        13 => Ok(trace_to_word(alloc)),
+        14 => Ok(json_word(alloc)),
+        15 => Ok(steps_word(alloc)),
+        16 => Ok(watch_word(alloc)),
+        17 => live_word(alloc),
+        18 => Ok(explain_word(alloc)),
+        19 => plain_word(alloc),
+        20 => explore_word(alloc),
+        21 => states_word(alloc),
+        22 => check_word(alloc),
         _ => Ok(file_word(alloc)),
     }
 }
@@ -468,6 +522,13 @@ fn record_word<'a>(alloc: Global) -> Arg<'a> {
         )
 }
 
+fn typed_word<'a>(alloc: Global) -> Arg<'a> {
+    Arg::new(alloc, "typed")
+        .long("typed")
+        .value_name("FILE")
+        .help("Writes what was typed, as far as the run read it, into FILE")
+}
+
 fn chart_word<'a>(alloc: Global) -> Arg<'a> {
     Arg::new(alloc, "chart")
         .long("chart")
@@ -531,6 +592,16 @@ fn watch_word<'a>(alloc: Global) -> Arg<'a> {
         .action(ArgAction::SetTrue)
 }
 
+fn live_word<'a>(alloc: Global) -> Result<Arg<'a>, AllocError> {
+    Arg::new(alloc, "live")
+        .long("live")
+        .help(
+            "Reads the keyboard and writes the screen while the run goes on; on a terminal it does so unasked",
+        )
+        .action(ArgAction::SetTrue)
+        .conflicts_with_all(NOT_LIVE.as_slice())
+}
+
 fn explain_word<'a>(alloc: Global) -> Arg<'a> {
     Arg::new(alloc, "explain")
         .long("explain")
@@ -590,7 +661,10 @@ fn but_a_search<'a>(word: Arg<'a>) -> Result<Arg<'a>, AllocError> {
 }
 
 fn file_word<'a>(alloc: Global) -> Arg<'a> {
-    Arg::new(alloc, "FILE").help(
-        "The source; standard input is then the keyboard. Without it, or with - in its place, standard input is the source",
-    )
+    Arg::new(alloc, "FILE")
+        .help(
+            "The source, in one file or more; standard input is then the keyboard. Without it, or with - in its place, standard input is the source",
+        )
+        .num_args(1..)
+        .action(ArgAction::Append)
 }

@@ -77,7 +77,7 @@ crew_asked true (Some w) None h n e = h n e
 crew_asked true None None h n e = let one : IsCrew 1 = (omega arith, omega arith) in subst IsCrew (ap (λ o. unwrap_or o 0) e) one
 crew_asked false workers None h n e = h n e
 
-refused_by : (workers : Option ℕ) (words : Asked) (source keyboard : List ℕ) (list : List Choice) (f : PlayFault) → ForSome workers IsCrew → Refuses (options_in words) source f → CameToBy workers words source keyboard list (Err f)
+pub refused_by : (workers : Option ℕ) (words : Asked) (source keyboard : List ℕ) (list : List Choice) (f : PlayFault) → ForSome workers IsCrew → Refuses (options_in words) source f → CameToBy workers words source keyboard list (Err f)
 refused_by None words source keyboard list f crew h = came_of_refusal (options_in words) source (IsAnswer (options_in words) source keyboard list words.trace) (Refuses (options_in words) source) f (λ e g. g) h
 refused_by (Some workers) words source keyboard list f crew h =
     came_of_refusal (options_in words) source (IsAnswerWithin (options_in words) source keyboard words.limit words.trace) (WorkersRefuse workers (options_in words) source) f (λ e. workers_refuse workers (options_in words) source e (crew workers refl)) h

@@ -2,23 +2,24 @@
 use Rattle.std.proofs.Common.{◌≡◌, Global, List, Option, None, Some, Vec, inl, inr, subst, true, ℕ}
 use Rattle.std.specs.Prelude.{IfSome}
 use Rattle.occ_explaining.specs.Explaining.{TellsFault, TellsRefusal, refusal_in}
+use Rattle.occ_explaining.specs.Files.{SourceFiles}
 use Rattle.occ_explaining.specs.Typing.{NeedsNoKeyboard}
 use Rattle.occ_play.specs.declared.fault.PlayFault.{PlayFault}
 use Rattle.occ_play.specs.declared.playing.Options.{Options}
 use Rattle.occ_play_inputs.specs.declared.words.Words.{Words}
 use Rattle.occ_program.specs.Coming.{options_in}
-use Rattle.occ_program.specs.Explained.{TellsOf, file_in, has_zero, no_text}
+use Rattle.occ_program.specs.Explained.{TellsOf, files_in, has_zero, no_text, source_name}
 
 -- an explanation, and that the source is no text
-pub told_refusal : (words : Words) (source file : List ℕ) (fault : PlayFault) (told : Option (Vec ℕ Global)) → file ≡ file_in words → TellsFault source file fault told
-    → IfSome told (λ text. TellsOf words source fault text.items)
-told_refusal words source file fault None same h = tt
-told_refusal words source file fault (Some text) same h = inl (subst (λ f. TellsRefusal source f (refusal_in fault) (Some text.items)) same h)
+pub told_refusal : (words : Words) (source ends : List ℕ) (files : SourceFiles) (fault : PlayFault) (told : Option (Vec ℕ Global)) → files ≡ files_in words ends → TellsFault source files fault told
+    → IfSome told (λ text. TellsOf words source ends fault text.items)
+told_refusal words source ends files fault None same h = tt
+told_refusal words source ends files fault (Some text) same h = inl (subst (λ f. TellsRefusal source f (refusal_in fault) (Some text.items)) same h)
 
-pub told_no_text : (words : Words) (source : List ℕ) (fault : PlayFault) (told : Option (Vec ℕ Global)) → has_zero source ≡ true → IfSome told (λ text. text.items ≡ no_text (file_in words))
-    → IfSome told (λ text. TellsOf words source fault text.items)
-told_no_text words source fault None zero h = tt
-told_no_text words source fault (Some text) zero h = inr (zero, h)
+pub told_no_text : (words : Words) (source ends : List ℕ) (fault : PlayFault) (told : Option (Vec ℕ Global)) → has_zero source ≡ true → IfSome told (λ text. text.items ≡ no_text (source_name words))
+    → IfSome told (λ text. TellsOf words source ends fault text.items)
+told_no_text words source ends fault None zero h = tt
+told_no_text words source ends fault (Some text) zero h = inr (zero, h)
 
 -- by the words' options
 pub unneeded : (options other : Options) (source : List ℕ) → options ≡ other → NeedsNoKeyboard options source → NeedsNoKeyboard other source

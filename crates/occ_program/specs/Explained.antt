@@ -1,9 +1,10 @@
 -- What is told behind a refusal's line, behind an ending, and behind the answers of a search.
 -- Manual: nothing; this is (own).
-use Rattle.std.specs.Prelude.{Bool, Err, List, Ok, Result, Some, [], codes, get_or, length, nat_eq, suc, take, true, zero, ℕ, ⊤, ◌++◌, ◌<◌, ◌∷◌, ◌≡◌, ◌≢◌, ◌⊎◌}
+use Rattle.std.specs.Prelude.{Bool, Err, List, Ok, Result, Some, [], codes, get_or, length, map, nat_eq, suc, take, true, zero, ℕ, ⊤, ◌++◌, ◌<◌, ◌∷◌, ◌≡◌, ◌≢◌, ◌⊎◌}
 use Rattle.std.specs.Fmt.{decimal}
 use Rattle.std.specs.List.{list_any}
 use Rattle.occ_explaining.specs.Explaining.{ReportsOn, TellsRefusal, refusal_in}
+use Rattle.occ_explaining.specs.Files.{SourceFiles, beginnings}
 use Rattle.occ_explore.specs.declared.exploration.Answer.{Answer}
 use Rattle.occ_files.specs.Names.{printed_name}
 use Rattle.occ_files.specs.declared.reason.Reason.{Reason}
@@ -21,9 +22,9 @@ use Rattle.occ_play_inputs.specs.declared.words.Words.{Words}
 use Rattle.occ_program.specs.Coming.{options_in}
 use Rattle.occ_program.specs.Troubles.{path_or, trouble_text}
 
--- the path of the source, and a hyphen for standard input
-abbrev pub file_in : Words → List ℕ
-file_in words = path_or (codes "-") words.file
+-- the paths of the source's files, and a hyphen for standard input
+abbrev pub files_in : Words → (ends : List ℕ) → SourceFiles
+files_in words ends = record { first = path_or (codes "-") words.file; more = map (λ m. m.now) words.more.items; ends = ends }
 
 -- one of these bytes is 0, as in no text
 abbrev pub has_zero : List ℕ → Bool
@@ -33,23 +34,28 @@ has_zero source = list_any (λ b. nat_eq b 0) source
 abbrev pub no_text : List ℕ → List ℕ
 no_text file = printed_name file ++ codes ": this is not a text file: it contains NUL bytes\n"
 
+-- what a source is called where no line of it can be named
+abbrev pub source_name : Words → List ℕ
+source_name words = path_or (codes "-") words.file
+
 -- an explanation of a refusal of this source, or that it is no text, where it has a byte that is 0
-abbrev pub TellsOf : Words → (source : List ℕ) → PlayFault → List ℕ → Type 0
-TellsOf words source fault text = TellsRefusal source (file_in words) (refusal_in fault) (Some text) ⊎ ((has_zero source ≡ true) × (text ≡ no_text (file_in words)))
+abbrev pub TellsOf : Words → (source ends : List ℕ) → PlayFault → List ℕ → Type 0
+TellsOf words source ends fault text = TellsRefusal source (files_in words ends) (refusal_in fault) (Some text) ⊎ ((has_zero source ≡ true) × (text ≡ no_text (source_name words)))
 
 -- why standard output was not written, or an explanation
-abbrev pub TellsWhy : Words → (source : List ℕ) → Reason → PlayFault → List ℕ → Type 0
-TellsWhy words source reason (play.Write written) text = text ≡ trouble_text words (trouble Output reason)
-TellsWhy words source reason fault text = TellsOf words source fault text
+abbrev pub TellsWhy : Words → Inputs → Reason → PlayFault → List ℕ → Type 0
+TellsWhy words inputs reason (play.Write written) text = text ≡ trouble_text words (trouble Output reason)
+TellsWhy words inputs reason fault text = TellsOf words inputs.source.items inputs.ends.items fault text
 
--- the report of the run of the inputs by these choices
+-- The report of the run of the inputs by these choices. Where the source has several files, it is told below in which lines they begin.
 abbrev pub ReportsRun : Words → Inputs → List Choice → List ℕ → Type 0
-ReportsRun words inputs choices text = ReportsOn (options_in words) inputs.source.items inputs.keyboard.items choices text
+ReportsRun words inputs choices text =
+    (report : List ℕ) × ReportsOn (options_in words) inputs.source.items inputs.keyboard.items choices report × (text ≡ report ++ beginnings (files_in words inputs.ends.items))
 
 -- of a fault that, and of a run the report by its choices
 abbrev pub Explains : Words → Inputs → Reason → Result Played PlayFault → List ℕ → Type 0
 Explains words inputs reason (Ok played) text = ReportsRun words inputs played.choices.items text
-Explains words inputs reason (Err fault) text = TellsWhy words inputs.source.items reason fault text
+Explains words inputs reason (Err fault) text = TellsWhy words inputs reason fault text
 
 -- ---- the answers of a search
 

@@ -1,4 +1,5 @@
 pub mod Coming
+pub mod Live
 pub mod Pages
 pub mod Lines
 pub mod Troubles

@@ -36,6 +36,10 @@ HasPage Is (Some path) (Ok played) page = HasText (Is played) path page
 abbrev pub Records : Option (Bor (List ℕ)) → Result Played PlayFault → Option Page → Type 0
 Records path played page = HasPage (λ p text. text ≡ choice_text p.choices.items) path played page
 
+-- the keyboard's bytes of the run
+abbrev pub TypedPage : Words → Inputs → Result Played PlayFault → Option Page → Type 0
+TypedPage words inputs played page = HasPage (λ p text. text ≡ inputs.keyboard.items) words.typed played page
+
 -- such a page, or the source was refused
 abbrev pub HasOrRefuses : (Option Page → Type 0) → Words → Inputs → Result (Option Page) PlayFault → Type 0
 HasOrRefuses Is words inputs (Ok page) = Is page

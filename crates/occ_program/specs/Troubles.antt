@@ -1,6 +1,6 @@
 -- Which file or stream failed, and why, as it is told.
 -- Manual: nothing; this is (own).
-use Rattle.std.specs.Prelude.{List, None, Option, Some, [], codes, ℕ, ◌++◌, ◌∷◌}
+use Rattle.std.specs.Prelude.{List, None, Option, Some, [], codes, suc, zero, ℕ, ◌++◌, ◌∷◌}
 use Rattle.std.specs.Borrow.{Bor}
 use Rattle.occ_files.specs.Names.{printed_name}
 use Rattle.occ_files.specs.Reasons.{reason_text}
@@ -9,7 +9,7 @@ use Rattle.occ_files.specs.declared.reason.Reason.TheVariants.{Missing}
 use Rattle.occ_play_inputs.specs.declared.failure.Failure.{Failure}
 use Rattle.occ_play_inputs.specs.declared.failure.Failure.TheVariants.{Read, Write}
 use Rattle.occ_play_inputs.specs.declared.failure.Stream.{Stream}
-use Rattle.occ_play_inputs.specs.declared.failure.Stream.TheVariants.{Source, Keyboard, Choices, Output, Record, Answer, Chart, Trace, Turns}
+use Rattle.occ_play_inputs.specs.declared.failure.Stream.TheVariants.{Source, More, Keyboard, Choices, Output, Record, Answer, Chart, Trace, Turns, Typed}
 use Rattle.occ_play_inputs.specs.declared.failure.Trouble.{Trouble}
 use Rattle.occ_play_inputs.specs.declared.words.Words.{Words}
 use Rattle.occ_program.specs.Pages.{answer_path}
@@ -19,9 +19,16 @@ abbrev pub path_or : List ℕ → Option (Bor (List ℕ)) → List ℕ
 path_or other None = other
 path_or other (Some path) = path.now
 
+-- the path in a place, from 0
+abbrev pub path_at : List (Bor (List ℕ)) → ℕ → List ℕ
+path_at [] n = []
+path_at (path ∷ paths) zero = path.now
+path_at (path ∷ paths) (suc n) = path_at paths n
+
 -- a file by the path that the words give, and a stream by its name
 abbrev pub stream_name : Words → Stream → List ℕ
 stream_name words Source = path_or (codes "standard input") words.file
+stream_name words (More n) = path_at words.more.items n
 stream_name words Keyboard = codes "standard input"
 stream_name words Choices = path_or [] words.choices
 stream_name words Output = codes "standard output"
@@ -30,6 +37,7 @@ stream_name words (Answer number) = answer_path (path_or [] words.record) number
 stream_name words Chart = path_or [] words.chart
 stream_name words Trace = path_or [] words.trace_to
 stream_name words Turns = path_or [] words.steps
+stream_name words Typed = path_or [] words.typed
 
 -- a source that is missing may be a word that was to be another one
 abbrev pub advice_on : Stream → Reason → List ℕ

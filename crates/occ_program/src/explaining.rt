@@ -2,14 +2,16 @@
 ghost use Rattle.std.specs.Prelude.{◌≡◌, IfOk, IfSome, IsTrue, true};
 ghost use Rattle.occ_play_inputs.specs.Failures.{trouble};
 ghost use Rattle.occ_play_inputs.specs.declared.failure.Stream.TheVariants.{Output};
-ghost use Rattle.occ_program.specs.Explained.{Explains, ReportsRun, TellsOf, TellsWhy, file_in, has_zero, no_text};
+ghost use Rattle.occ_program.specs.Explained.{Explains, ReportsRun, TellsOf, TellsWhy, files_in, has_zero, no_text, source_name};
+ghost use Rattle.occ_explaining.specs.Files.{files_of};
 ghost use Rattle.occ_program.specs.Troubles.{trouble_text};
 
 use crate::program::options_of;
 use crate::terminal::in_bold;
 use crate::troubles::{path_or, trouble_text};
-use occ_explaining::{explained_fault, report_of};
+use occ_explaining::{Files, beginnings, explained_fault, report_of};
 use occ_files::{Reason, printed_name};
+use occ_net_replay::Choice;
 use occ_play::{PlayFault, Played};
 use occ_play_inputs::{Inputs, Stream, Trouble, Words};
 use occ_term::Ending;
@@ -39,31 +41,41 @@ pub(crate) fn explain_fault<R: Eprint>(
     alloc: Global,
     words: &Words<'_>,
     source: &[u8],
+    ends: &[u32],
     fault: &PlayFault,
 ) {
     if words.explain
-        && let Some(text) = told_of(alloc, words, source, fault)
+        && let Some(text) = told_of(alloc, words, source, ends, fault)
     {
         print_text(rt, alloc, words, text.as_slice());
     }
 }
 
-/// What a source is called: its path, or a hyphen where standard input is the source.
-pub(crate) fn file_of<'a>(words: &Words<'a>) -> &'a str
-    ensures { result.now ≡ file_in words.now }
+/// What the files of a source are called, the first one by a hyphen where standard input is the source; and where they end.
+pub(crate) fn files_of<'a>(words: &'a Words<'_>, ends: &'a [u32]) -> Files<'a>
+    ensures { files_of result ≡ files_in words.now ends.now }
 {
-    path_or("-", words.file)
+    Files {
+        first: path_or("-", words.file),
+        more: words.more.as_slice(),
+        ends,
+    }
 }
 
 /// The explanation of a fault, where it refuses the source.
-fn told_of(alloc: Global, words: &Words<'_>, source: &[u8], fault: &PlayFault) -> Option<Vec<u8>>
-    ensures { IfSome result (λ text. TellsOf words.now source.now fault.now text.items) }
+fn told_of(
+    alloc: Global,
+    words: &Words<'_>,
+    source: &[u8],
+    ends: &[u32],
+    fault: &PlayFault,
+) -> Option<Vec<u8>>
+    ensures { IfSome result (λ text. TellsOf words.now source.now ends.now fault.now text.items) }
 {
-    if is_no_text(source, fault) {
+    if words.more.is_empty() && is_no_text(source, fault) {
         return no_text(alloc, words);
     }
-    let file = file_of(words);
-    match explained_fault(alloc, source, file.as_bytes(), fault) {
+    match explained_fault(alloc, source, &files_of(words, ends), fault) {
         Ok(told) => told,
         Err(_) => None,
     }
@@ -83,10 +95,9 @@ fn is_no_text(source: &[u8], fault: &PlayFault) -> bool
 
 /// What is told of a source that is no text.
 fn no_text(alloc: Global, words: &Words<'_>) -> Option<Vec<u8>>
-    ensures { IfSome result (λ text. text.items ≡ no_text (file_in words.now)) }
+    ensures { IfSome result (λ text. text.items ≡ no_text (source_name words.now)) }
 {
-    let file = file_of(words);
-    match no_text_in(alloc, file) {
+    match no_text_in(alloc, path_or("-", words.file)) {
         Ok(text) => Some(text),
         Err(_) => None,
     }
@@ -105,15 +116,21 @@ fn no_text_in(alloc: Global, file: &str) -> Result<Vec<u8>, AllocError>
 fn why(
     alloc: Global,
     words: &Words<'_>,
-    source: &[u8],
+    inputs: &Inputs,
     fault: &PlayFault,
     reason: Reason,
 ) -> Option<Vec<u8>>
-    ensures { IfSome result (λ text. TellsWhy words.now source.now reason fault.now text.items) }
+    ensures { IfSome result (λ text. TellsWhy words.now inputs.now reason fault.now text.items) }
 {
     match fault {
         PlayFault::Write { .. } => unwritten(alloc, words, reason),
-        fault => told_of(alloc, words, source, fault),
+        fault => told_of(
+            alloc,
+            words,
+            inputs.source.as_slice(),
+            inputs.ends.as_slice(),
+            fault,
+        ),
     }
 }
 
@@ -141,7 +158,7 @@ fn explanation(
 {
     match came {
         Ok(played) => reported(alloc, words, inputs, played),
-        Err(fault) => why(alloc, words, inputs.source.as_slice(), fault, reason),
+        Err(fault) => why(alloc, words, inputs, fault, reason),
     }
 }
 
@@ -153,17 +170,31 @@ fn reported(alloc: Global, words: &Words<'_>, inputs: &Inputs, played: &Played) 
     if let Ending::Ended = played.ending {
         return None;
     }
-    let report = report_of(
+    match run_report(alloc, words, inputs, played.choices.as_slice()) {
+        Ok(report) => Some(report),
+        Err(_) => None,
+    }
+}
+
+/// What each process stands at behind the run of the inputs by these choices, and where the source's files begin.
+pub(crate) fn run_report(
+    alloc: Global,
+    words: &Words<'_>,
+    inputs: &Inputs,
+    choices: &[Choice],
+) -> Result<Vec<u8>, PlayFault>
+    ensures { IfOk result (λ text. ReportsRun words.now inputs.now choices.now text.items) }
+{
+    let mut text = report_of(
         &options_of(words),
         alloc,
         inputs.source.as_slice(),
         inputs.keyboard.as_slice(),
-        played.choices.as_slice(),
-    );
-    match report {
-        Ok(report) => Some(report),
-        Err(_) => None,
-    }
+        choices,
+    )?;
+    let below = beginnings(alloc, &files_of(words, inputs.ends.as_slice()))?;
+    text.extend_from_slice(below.as_slice())?;
+    Ok(text)
 }
 
 /// Prints a text to standard error, with its first line in bold where that is wanted.

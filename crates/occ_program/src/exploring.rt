@@ -119,7 +119,14 @@ fn refused<R: Eprint>(
     ensures { result ≡ fault_status fault }
 {
     tell(rt, &fault);
-    explain_fault(rt, alloc, words, inputs.source.as_slice(), &fault);
+    explain_fault(
+        rt,
+        alloc,
+        words,
+        inputs.source.as_slice(),
+        inputs.ends.as_slice(),
+        &fault,
+    );
     status_of(&Err(fault))
 }
 
@@ -232,15 +239,31 @@ fn explain_found<R: Eprint>(
             let answers = first_answers(exploration.answers.as_slice());
             explain_answers(rt, alloc, words, inputs, answers);
         }
-        Err(fault) => explain_fault(rt, alloc, words, inputs.source.as_slice(), fault),
+        Err(fault) => explain_fault(
+            rt,
+            alloc,
+            words,
+            inputs.source.as_slice(),
+            inputs.ends.as_slice(),
+            fault,
+        ),
     }
 }
 
-/// Refuses to write the choices of an answer into the file that the source is read from, by whatever path.
+/// Refuses to write the choices of an answer into a file that the source is read from, by whatever path.
 fn check_records<R: Files>(rt: &R, alloc: Global, words: &Words<'_>) -> Result<(), Failure> {
     let (Some(stem), Some(file)) = (words.record, words.file) else {
         return Ok(());
     };
+    check_record(rt, alloc, stem, file)?;
+    for file in words.more.as_slice() {
+        check_record(rt, alloc, stem, *file)?;
+    }
+    Ok(())
+}
+
+/// Refuses to write the choices of an answer into this file.
+fn check_record<R: Files>(rt: &R, alloc: Global, stem: &str, file: &str) -> Result<(), Failure> {
     for number in 1..=MOST_ANSWERS {
         let path = answer_path(alloc, stem, number)?;
         if path.as_str() == file || are_one_file(rt, path.as_str(), file) {

@@ -8,6 +8,7 @@ mod drawing;
 pub mod exit;
 mod explaining;
 mod exploring;
+mod live;
 mod looking;
 mod page;
 pub mod program;
@@ -19,6 +20,7 @@ mod stepping;
 mod terminal;
 mod tracing;
 mod troubles;
+mod typing;
 
 pub use exit::exit_code;
 pub use program::run;

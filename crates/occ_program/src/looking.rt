@@ -1,17 +1,15 @@
 //! Tells whether a source is refused.
 ghost use Rattle.std.specs.Prelude.{◌≡◌, ◌≤◌, IfErr, IfOk};
-ghost use Rattle.occ_explaining.specs.Unreached.{TellsUnreached};
 ghost use Rattle.occ_program.specs.Coming.{IsLookStatus, LookedAt, look_status};
-ghost use Rattle.occ_program.specs.Explained.{file_in};
-ghost use Rattle.occ_program.specs.Looked.{TellsFound, TellsRefused};
+ghost use Rattle.occ_program.specs.Looked.{TellsFound, TellsRefused, TellsUnreachedIn};
 
-use crate::explaining::{explain_fault, file_of, print_text};
+use crate::explaining::{explain_fault, files_of, print_text};
 use crate::exploring::check_printed;
 use crate::program::{options_of, tell};
 use occ_explaining::{refusal_object, unreached_told};
 use occ_files::Noting;
 use occ_play::{PlayFault, code_of, status_of};
-use occ_play_inputs::{Failure, Words, read_source};
+use occ_play_inputs::{Failure, Joined, Words, read_source};
 use occ_shown::{Counted, write_answer};
 use std::alloc::Global;
 use std::io;
@@ -27,12 +25,13 @@ pub(crate) fn look_at_words<R: Files + Input + Print + Eprint>(
     ensures small { IfOk result (λ status. status ≤ 7) }
 {
     let source = read_source(rt, alloc, words)?;
-    let fault = fault_in(alloc, words, source.as_slice());
+    let fault = fault_in(alloc, words, source.bytes.as_slice());
     if let Some(fault) = &fault {
         tell(rt, fault);
-        explain_fault(rt, alloc, words, source.as_slice(), fault);
+        let (bytes, ends) = (source.bytes.as_slice(), source.ends.as_slice());
+        explain_fault(rt, alloc, words, bytes, ends, fault);
     }
-    tell_found(rt, alloc, words, source.as_slice(), &fault)?;
+    tell_found(rt, alloc, words, &source, &fault)?;
     Ok(status_of_look(fault))
 }
 
@@ -41,7 +40,7 @@ fn tell_found<R: Print + Eprint>(
     rt: &R,
     alloc: Global,
     words: &Words<'_>,
-    source: &[u8],
+    source: &Joined,
     fault: &Option<PlayFault>,
 ) -> Result<(), Failure> {
     let text = found_text(alloc, words, source, fault)?;
@@ -64,7 +63,7 @@ fn print_found<R: Print>(rt: &R, text: &[u8]) -> Result<(), Failure> {
 fn found_text(
     alloc: Global,
     words: &Words<'_>,
-    source: &[u8],
+    source: &Joined,
     fault: &Option<PlayFault>,
 ) -> Result<Vec<u8>, Failure>
     ensures found { IfOk result (λ text. TellsFound words.now source.now fault.now text.items) }
@@ -78,12 +77,13 @@ fn found_text(
 }
 
 /// The PROCs that no call reaches.
-fn unreached(alloc: Global, words: &Words<'_>, source: &[u8]) -> Result<Vec<u8>, Failure>
+fn unreached(alloc: Global, words: &Words<'_>, source: &Joined) -> Result<Vec<u8>, Failure>
     ensures told { IfOk result (λ text.
-        TellsUnreached source.now (file_in words.now) words.now.json text.items) }
+        TellsUnreachedIn words.now source.now text.items) }
     ensures memory { IfErr result (λ failure. failure ≡ Failure.Memory) }
 {
-    match unreached_told(alloc, source, file_of(words), words.json) {
+    let files = files_of(words, source.ends.as_slice());
+    match unreached_told(alloc, source.bytes.as_slice(), &files, words.json) {
         Ok(text) => Ok(text),
         Err(_) => Err(Failure::Memory),
     }
@@ -93,13 +93,14 @@ fn unreached(alloc: Global, words: &Words<'_>, source: &[u8]) -> Result<Vec<u8>,
 fn refusal(
     alloc: Global,
     words: &Words<'_>,
-    source: &[u8],
+    source: &Joined,
     fault: &PlayFault,
 ) -> Result<Vec<u8>, Failure>
     ensures told { IfOk result (λ text. TellsRefused words.now source.now fault.now text.items) }
     ensures memory { IfErr result (λ failure. failure ≡ Failure.Memory) }
 {
-    match refusal_object(alloc, source, file_of(words), fault)? {
+    let files = files_of(words, source.ends.as_slice());
+    match refusal_object(alloc, source.bytes.as_slice(), &files, fault)? {
         Some(text) => Ok(text),
         None => Ok(Vec::new(alloc)),
     }

@@ -1,7 +1,7 @@
 //! The program around `play`: what it reads and prints, and its exit status.
 ghost use Rattle.std.specs.Prelude.{◌≡◌, ◌≤◌, ◌<◌, ◌-◌, ◌^◌, ◌⊎◌, IfErr, IfOk, IfSome, None, Some, false, true};
 ghost use Rattle.occ_play_inputs.specs.Asked.{IsAskedBy};
-ghost use Rattle.occ_program.specs.Coming.{IsLookStatus, IsStatusFor, IsStatusOf, PlayedTo, ProgramStatus, RefusesSource, options_in, workers_in};
+ghost use Rattle.occ_program.specs.Coming.{IsLookStatus, IsStatusFor, IsStatusOf, IsTriedBy, PlayedTo, ProgramStatus, RefusesSource, options_in, workers_in};
 ghost use Rattle.occ_shown.specs.Counting.{failures_of};
 ghost use Rattle.occ_play.specs.Status.{status};
 ghost use Rattle.occ_play_inputs.specs.Failures.{failure_status};
@@ -10,6 +10,7 @@ ghost use Rattle.occ_program.specs.Lines.{run_line};
 use crate::drawing::draw;
 use crate::explaining::explain;
 use crate::exploring::explore_words;
+use crate::live::{run_live_words, runs_live};
 use crate::looking::look_at_words;
 use crate::reading::read_inputs;
 use crate::recording::record;
@@ -18,6 +19,7 @@ use crate::stepping::step;
 use crate::terminal::{allows_bold, explains};
 use crate::tracing::trace;
 use crate::troubles::explain_failure;
+use crate::typing::leave_typed;
 use occ_files::{Disk, Folder, Noting, Reason, printed_name, reason_of};
 use occ_play::{
     FreeGate, Options, PlayFault, Played, RunFault, play_in, play_workers_in, status_of,
@@ -146,8 +148,8 @@ where
     }
 }
 
-/// Reads what the words name, plays it, records the used choices, draws a chart and writes the trace and the turns where the words
-/// ask for that. The answer goes to standard output, and a fault's line to standard error.
+/// Reads what the words name, plays it, live or not, records the used choices and what was typed, draws a chart and writes the trace
+/// and the turns where the words ask for that. The answer goes to standard output, and a fault's line to standard error.
 fn run_words<R: Files + Input + Print + Eprint + Threads + Wait + Sync>(
     rt: &R,
     alloc: Global,
@@ -158,6 +160,9 @@ where
     ensures came { IfOk result (IsStatusFor words.now) }
     ensures small { IfOk result (λ status. status ≤ 7) }
 {
+    if runs_live(words, rt.reader().is_terminal()) {
+        return run_live_words(rt, alloc, words);
+    }
     let mut inputs = read_inputs(rt, alloc, words)?;
     run_inputs(rt, alloc, words, &mut inputs)
 }
@@ -177,14 +182,34 @@ fn run_inputs<R: Files + Print + Eprint + Threads + Wait + Sync>(
     take_seed(alloc, words, inputs)?;
     let mut screen = Noting::new(io::writer(rt));
     let played = play_on(rt, alloc, words, inputs, &mut screen)?;
+    finish(rt, alloc, words, inputs, played, screen.reason())
+}
+
+/// Leaves what the words ask for, and tells what was played.
+pub(crate) fn finish<R: Files + Eprint>(
+    rt: &R,
+    alloc: Global,
+    words: &Words<'_>,
+    inputs: &Inputs,
+    played: Result<Played, PlayFault>,
+    reason: Reason,
+) -> Result<u8, Failure>
+    requires asked { IsAskedBy words.now inputs.now.plan }
+    requires tried { IsTriedBy words.now inputs.now.source.items inputs.now.keyboard.items
+        inputs.now.plan }
+    requires came { PlayedTo (workers_in words.now) words.now inputs.now played }
+    ensures came { IfOk result
+        (IsStatusOf words.now inputs.now.source.items inputs.now.keyboard.items) }
+    ensures small { IfOk result (λ status. status ≤ 7) }
+{
     let mut folder = Disk::new(rt, alloc);
     let left = leave(&mut folder, alloc, words, inputs, &played)?;
     let came = left.and(played);
-    Ok(told(rt, alloc, words, inputs, &came, screen.reason()))
+    Ok(told(rt, alloc, words, inputs, &came, reason))
 }
 
-/// Records the used choices, draws a chart, and writes the trace and the turns, in this order, where the words ask for that. Where one
-/// of them fails, the next ones are not begun.
+/// Records the used choices and what was typed, draws a chart, and writes the trace and the turns, in this order, where the words ask
+/// for that. Where one of them fails, the next ones are not begun.
 fn leave<F: Folder>(
     folder: &mut F,
     alloc: Global,
@@ -195,6 +220,7 @@ fn leave<F: Folder>(
     ensures { IfOk result (λ left. IfErr left (RefusesSource words.now inputs.now)) }
 {
     record(folder, alloc, words, played)?;
+    leave_typed(folder, alloc, words, inputs, played)?;
     if let Err(fault) = draw(folder, alloc, words, inputs, played)? {
         return Ok(Err(fault));
     }

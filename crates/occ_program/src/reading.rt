@@ -1,7 +1,7 @@
 //! Reads what is to be played.
-ghost use Rattle.std.specs.Prelude.{IfOk, IsFalse};
+ghost use Rattle.std.specs.Prelude.{◌≡◌, [], IfOk, IsFalse};
 ghost use Rattle.occ_explaining.specs.Typing.{NeedsNoKeyboard};
-ghost use Rattle.occ_play_inputs.specs.Asked.{IsAskedBy};
+ghost use Rattle.occ_play_inputs.specs.Asked.{IsAskedBy, IsSourceIn};
 ghost use Rattle.occ_program.specs.Coming.{options_in};
 ghost use Rattle.occ_program.specs.Terminals.{IsTypedFor};
 
@@ -22,12 +22,29 @@ pub(crate) fn read_inputs<R: Files + Input + Eprint>(
 where
     R::Reader: IsTerminal,
     ensures asked { IfOk result (λ inputs. IsAskedBy words.now inputs.plan) }
+    ensures joined { IfOk result (IsSourceIn words.now) }
     ensures typed { IfOk result (IsTypedFor words.now) }
 {
     check_files(rt, words)?;
     let source = read_source(rt, alloc, words)?;
-    let wanted = is_wanted(rt, alloc, words, source.as_slice());
+    let wanted = is_wanted(rt, alloc, words, source.bytes.as_slice());
     read_beside(rt, alloc, words, source, wanted)
+}
+
+/// Reads what the words name but for the keyboard: the source and the file of choices, in this order.
+pub(crate) fn read_untyped<R: Files + Input + Eprint>(
+    rt: &R,
+    alloc: Global,
+    words: &Words<'_>,
+) -> Result<Inputs, Failure>
+where
+    R::Reader: IsTerminal,
+    ensures asked { IfOk result (λ inputs. IsAskedBy words.now inputs.plan) }
+    ensures untyped { IfOk result (λ inputs. inputs.keyboard.items ≡ []) }
+{
+    check_files(rt, words)?;
+    let source = read_source(rt, alloc, words)?;
+    read_beside(rt, alloc, words, source, false)
 }
 
 /// Whether the keyboard is wanted: where it is no terminal, or what is typed there may change something.

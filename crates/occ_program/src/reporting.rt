@@ -3,9 +3,7 @@ ghost use Rattle.std.specs.Prelude.{◌≡◌, ◌<◌, IfOk, IsFalse, IsTrue, �
 ghost use Rattle.occ_term.specs.declared.ending.Ending.TheVariants.{Ended};
 ghost use Rattle.occ_program.specs.Explained.{IsReported, NoneEnds, SomeEnds, TellsAnswers, TellsAt, answer_head};
 
-use crate::explaining::print_text;
-use crate::program::options_of;
-use occ_explaining::report_of;
+use crate::explaining::{print_text, run_report};
 use occ_exploring::Answer;
 use occ_play::{Ending, PlayFault};
 use occ_play_inputs::{Inputs, Words};
@@ -95,13 +93,7 @@ fn reported(
     ensures { IfOk result (λ text. IsReported words.now inputs.now number answer.now text.items) }
 {
     let mut text = answer_head(alloc, number, answer.ending)?;
-    let report = report_of(
-        &options_of(words),
-        alloc,
-        inputs.source.as_slice(),
-        inputs.keyboard.as_slice(),
-        answer.choices.as_slice(),
-    )?;
+    let report = run_report(alloc, words, inputs, answer.choices.as_slice())?;
     text.extend_from_slice(report.as_slice())?;
     Ok(text)
 }

@@ -1,7 +1,7 @@
 //! Tells which file or stream failed, and why, where the words ask for more.
 ghost use Rattle.std.specs.Prelude.{◌≡◌, IfOk, string_bytes};
 ghost use Rattle.occ_program.specs.Pages.{answer_path};
-ghost use Rattle.occ_program.specs.Troubles.{advice, path_or, stream_name, trouble_in, trouble_text};
+ghost use Rattle.occ_program.specs.Troubles.{advice, path_at, path_or, stream_name, trouble_in, trouble_text};
 
 use crate::explaining::print_text;
 use occ_files::{Reason, printed_name};
@@ -72,12 +72,23 @@ pub(crate) fn path_or<'a>(other: &'a str, path: Option<&'a str>) -> &'a str
     }
 }
 
+/// The path in this place, from 0.
+fn path_at<'a>(paths: &[&'a str], place: usize) -> &'a str
+    ensures { result.now ≡ path_at paths.now place }
+{
+    match paths.get(place) {
+        Some(path) => *path,
+        None => "",
+    }
+}
+
 /// A file by its path, and a stream by its name.
 fn stream_name(alloc: Global, words: &Words<'_>, stream: Stream) -> Result<String, AllocError>
     ensures { IfOk result (λ name. string_bytes name ≡ stream_name words.now stream) }
 {
     match stream {
         Stream::Source => String::from_str(alloc, path_or("standard input", words.file)),
+        Stream::More(number) => String::from_str(alloc, path_at(words.more.as_slice(), number)),
         Stream::Keyboard => String::from_str(alloc, "standard input"),
         Stream::Choices => String::from_str(alloc, path_or("", words.choices)),
         Stream::Output => String::from_str(alloc, "standard output"),
@@ -86,6 +97,7 @@ fn stream_name(alloc: Global, words: &Words<'_>, stream: Stream) -> Result<Strin
         Stream::Chart => String::from_str(alloc, path_or("", words.chart)),
         Stream::Trace => String::from_str(alloc, path_or("", words.trace_to)),
         Stream::Turns => String::from_str(alloc, path_or("", words.steps)),
+        Stream::Typed => String::from_str(alloc, path_or("", words.typed)),
     }
 }
 

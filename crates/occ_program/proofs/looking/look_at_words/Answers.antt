@@ -5,7 +5,7 @@ use Rattle.occ_program.proofs.looking.look_at_words.Goals as goal
 
 pub returns-clause-looked : goal.returns-clause-looked
 returns-clause-looked g c = record {
-  source = c.in_ok-source.source.items;
+  source = c.in_ok-source.source.bytes.items;
   fault = c.fault_in-fault.result;
   looked = subst (λ s. LookedAt c.args.words.now s c.fault_in-fault.result) c.as_slice.ensures.value c.fault_in-fault.ensures;
   is = c.status_of_look.ensures;
