@@ -23,8 +23,8 @@ HEAD = """# Where each rule stands
 
 <!-- tools/tables.py makes this page from docs/rules.txt -->
 
-Look up a rule to find its definition, the code that runs it, what shows that it matters, and its test. Paths in the first three columns
-behind the rule are below `crates/`.
+Look up a rule to find its definition, the code that runs it, what shows that it matters, and its test. Paths are below `crates/`, but for
+those of tests.
 
 - *Definition*: the word of `specs/` that says the rule. The cell is empty where no definition does, as of streams and files.
 - *Function*: the code. Its `ensures` clause says that it does what the definition says, and the prover checks that.
@@ -42,9 +42,9 @@ FORMS = {
 
 @functools.cache
 def declared(path):
-    """Where a file declares names: (place in the text, name), from the top to the bottom."""
+    """The names that a file declares."""
     found = FORMS[path.suffix].finditer(path.read_text(encoding="utf-8"))
-    return [(match.start(), name) for match in found for name in (match[1] or match[2]).split()]
+    return frozenset(name for match in found for name in (match[1] or match[2]).split())
 
 
 @functools.cache
@@ -57,7 +57,7 @@ def files_of(crate):
 def place_of(said):
     """The file that declares such a name, and the name."""
     crate, *within, name = said.split("/")
-    files = [path for path in files_of(crate) if any(name == it for _, it in declared(path))]
+    files = [path for path in files_of(crate) if name in declared(path)]
     for part in within:
         files = [path for path in files if part in path.relative_to(CRATES).with_suffix("").parts]
     if len(files) != 1:
@@ -73,8 +73,8 @@ def shown(places):
     return "; ".join(f"`{path.relative_to(CRATES)}`: {', '.join(names)}" for path, names in files.items())
 
 
-def test_of(said, rule):
-    """A cell of a test; the refusals that its file has stand behind it."""
+def test_of(said):
+    """A cell of a test, and what its file contains."""
     name, _, text = said.partition(": ")
     name = name if name.startswith(("tools/", "docs/", "crates/")) else f"tests/{name}"
     path = TOP / (name if re.search(r"\.\w+$", name) or (TOP / name).is_file() else f"{name}.txt")
@@ -102,11 +102,12 @@ def row_of(line):
     if len(fields) != 4 or len(rule.split()) > MOST_WORDS:
         raise ValueError(f"{len(fields) + 1} fields, or more than {MOST_WORDS} words")
     meant, run = ([place_of(said) for said in field.split()] for field in fields[:2])
-    tests = [test_of(said, rule) for said in fields[3].split("; ") if said]
-    for refusal in re.findall(r"\b\d+ [A-Z]\w+[a-z]\b", rule):
-        if tests and not any(refusal in content or refusal.split()[1] in content for _, content in tests):
+    tests = [test_of(said) for said in fields[3].split("; ") if said]
+    for refusal in re.findall(r"\b\d+ ([A-Z]\w+[a-z])\b", rule):
+        if tests and not any(refusal in content for _, content in tests):
             raise ValueError(f"none of its tests has {refusal}")
-    return f"| {' | '.join([rule, shown(meant), shown(run), '; '.join(map(law_of, fields[2].split())), '; '.join(cell for cell, _ in tests)])} |\n"
+    cells = [rule, shown(meant), shown(run), "; ".join(map(law_of, fields[2].split())), "; ".join(cell for cell, _ in tests)]
+    return f"| {' | '.join(cells)} |\n"
 
 
 def index():
