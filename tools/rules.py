@@ -1,8 +1,8 @@
 """Makes docs/rules.md, the index of rules, from the list docs/rules.txt. tools/tables.py compares the two and writes the page.
 
 A line of the list is a rule, in five fields that ` | ` parts: the rule in about ten words, its definitions, the functions that run it,
-its laws and wrong bodies, and its tests; any of the last four may be empty. A line `## ` begins a section, and any other line is a
-paragraph.
+its laws and wrong bodies, and its tests; any of the last four may be empty. A line `## ` begins a section, `-- ` is a remark, and
+any other line is a paragraph.
 
 A definition, function or law is `crate/name`, or `crate/FILE/name` where several files of the crate declare the name; a wrong body is
 `crate/wrong/name.edit` or `crate/must-fail/name.edit`. A test is a file below tests/, or one that begins with tools/, docs/ or crates/;
@@ -114,6 +114,8 @@ def index():
     """The page."""
     lines, faults, in_table = [HEAD], [], False
     for number, line in enumerate(LIST.read_text(encoding="utf-8").splitlines(), 1):
+        if line.startswith("-- "):
+            continue
         is_row = " |" in line
         try:
             made = row_of(line) if is_row else f"\n{line}\n" if line else ""
