@@ -6,11 +6,14 @@ import os
 import pathlib
 import pty
 import random
+import re
 import select
+import signal
 import subprocess
 import termios
 import time
 
+from .cases import all_cases
 from .running import SECONDS, TOP, Job, put, room, run, shown_on
 from .statuses import ECHO, FAULTS, HEAD, LETTER, NOTICE, SHARED
 
@@ -190,6 +193,73 @@ def same(program, path, words, pieces):
             yield f"{words} {keyboard!r}: played again {again}, and not {plain}"
 
 
+def generated(made):
+    """A network of three processes: one inputs from the keyboard by what the dice say, one sends to it, and one outputs what it sends."""
+
+    def part(level):
+        """A part of the first process, at this level."""
+        margin, kind = "  " * level, made.randrange(9)
+        if kind < 2:
+            return f"{margin}keyboard ? b\n"
+        if kind < 4:
+            return f"{margin}c ! b\n"
+        if kind == 4:
+            return f"{margin}d ? b\n"
+        if kind == 5 and level < 6:
+            return f"{margin}SEQ i{level} = 0 FOR {made.randrange(4)}\n{margin}  SEQ\n" + parts(level + 2)
+        if kind == 6 and level < 6:
+            return f"{margin}IF\n{margin}  b > 'm'\n{margin}    SEQ\n" + parts(level + 3) + f"{margin}  TRUE\n{margin}    SKIP\n"
+        arms = [("keyboard ? b", "b"), made.choice([("TRUE & SKIP", "'-'"), ("d ? b", "b")])]
+        made.shuffle(arms)
+        text = "".join(f"{margin}  {guard}\n{margin}    c ! {said}\n" for guard, said in arms)
+        return f"{margin}{made.choice(['ALT', 'PRI ALT'])}\n{text}"
+
+    def parts(level):
+        return "".join(part(level) for _ in range(made.randrange(1, 4)))
+
+    first = "".join(part(3) for _ in range(made.randrange(2, 7)))
+    return (
+        f"{HEAD}  CHAN OF BYTE c, d:\n  PAR\n    BYTE b:\n    SEQ\n      b := 'a'\n"
+        + first
+        + f"    SEQ i = 0 FOR {made.randrange(5)}\n      d ! BYTE (i + 65)\n"
+        + f"    SEQ i = 0 FOR {made.choice([3, 6, 1000])}\n      BYTE x:\n      SEQ\n        c ? x\n        screen ! x\n:\n"
+    )
+
+
+def all_generated(program, first, count):
+    """What is wrong with the live runs of generated programs."""
+    for number in range(first, first + count):
+        made = random.Random(number)
+        with room({"x.occ": generated(made)}) as folder:
+            path = folder / "x.occ"
+            checked = run(program, folder, ["--check", path])
+            if checked[0]:
+                yield f"{number}: {checked}"
+            pieces = [bytes(made.choice(KEYS) for _ in range(made.randrange(1, 6))) for _ in range(made.randrange(4))]
+            yield from (f"{number}: {fault}" for fault in same(program, path, made.choice(ASKED), pieces))
+
+
+def case_live(program, source, keyboard):
+    """What is wrong with a live run of a source of the tests."""
+    with room() as folder:
+        if not isinstance(source, pathlib.Path):
+            put(folder, {"x.occ": source})
+            source = folder / "x.occ"
+        yield from same(program, source, ["--trace"], [keyboard] if keyboard else [])
+
+
+def interrupted(program):
+    """What is wrong where Ctrl-C ends a run that waits: what was shown stays, and no file is there."""
+    with room({"x.occ": ASKS}) as folder:
+        talk = Talk([program, "--live", "--record=used", "--typed=typed", "--trace-to=trace", "x.occ"], folder, False)
+        talk.types(b"ab")
+        shown = talk.shows(5, SECONDS)
+        talk.running.send_signal(signal.SIGINT)
+        status, rest, _ = talk.ends()
+        if (status, shown + rest) != (-signal.SIGINT, b"?a?b?") or sorted(path.name for path in folder.iterdir()) != ["x.occ"]:
+            yield f"{status} {shown!r} {rest!r} {sorted(folder.iterdir())}"
+
+
 def all_same(program, path, count):
     """What is wrong with the live runs of an example."""
     for number, pieces in enumerate(keyboards_of(path, count)):
@@ -227,14 +297,11 @@ def unwritten(program):
         for source in ("x.occ", "f.occ"):
             ends = []
             for more in ([], ["--live"]):
-                running = subprocess.Popen([program, *more, "--limit=20000", source], cwd=folder, stdin=subprocess.PIPE, stdout=subprocess.PIPE, stderr=subprocess.PIPE)
-                running.stdout.close()
-                try:
-                    running.stdin.write(b"y")
-                    running.stdin.close()
-                except BrokenPipeError:
-                    pass
-                ends.append((running.wait(SECONDS), running.stderr.read()))
+                reader, writer = os.pipe()
+                os.close(reader)
+                done = subprocess.run([program, *more, "--limit=20000", source], cwd=folder, input=b"y", stdout=writer, stderr=subprocess.PIPE, timeout=SECONDS, check=False)
+                os.close(writer)
+                ends.append((done.returncode, done.stderr))
             if ends[0] != ends[1]:
                 yield f"a closed pipe: {ends[1]}, and not {ends[0]}"
 
@@ -305,6 +372,15 @@ def jobs():
         asks = "keyboard ?" in path.read_text() or "(keyboard" in path.read_text().split("PROC main", 1)[-1].split(":\n", 1)[-1]
         yield Job(f"live: {path.name}", lambda program, path=path, asks=asks: all_same(program, path, 24 if asks else 6))
         yield Job(f"live: {path.name}, left open", lambda program, path=path: left_open(program, path))
+    for first in range(0, 200, 20):
+        yield Job(f"live: generated {first}", lambda program, first=first: all_generated(program, first, 20))
+    sources = {}
+    for case in all_cases():
+        if re.match(r"tests/(runs|choices|texts|arrays)/", case.where) and not case.wanted[0].is_refused:
+            sources.setdefault((case.source, case.keyboard), case.where)
+    for (source, keyboard), where in sources.items():
+        yield Job(f"live: {where}", lambda program, of=(source, keyboard): case_live(program, *of))
+    yield Job("live: Ctrl-C", interrupted)
     yield Job("live: unwritten", unwritten)
     yield Job("live: unread", unread)
     yield Job("live: terminals", on_terminals)

@@ -23,6 +23,7 @@ def bold(text):
     return f"\x1b[1m{head}\x1b[0m\n{rest[0]}"
 
 
+PAST = "past: line 2 selects past the last ready process, so its number is taken modulo how many are ready; this may be the schedule of another program\n"
 TOLD = SHARED_TOLD.split("\n", 1)[1]
 REFUSED = "refused 50 SharedVariable line 5 x\n"
 # files, words, what is typed, the streams on the terminal, variables; the status, and what the terminal and the pipes get
@@ -62,6 +63,11 @@ CASES = [
     ("a keyboard in a guard", GUARDED, ["--choices", "c", "x.occ"], "z\n\x04", ALL, {}, (4, "limit\n" + bold("after 0 communications:\n  p0 main: can go on\n"), "")),
     ("a keyboard that is handed on", CALLED, ["x.occ"], "z\n", ALL, {}, (0, "", "")),
     ("a keyboard in a guard, for threads", GUARDED, ["--watch", "x.occ"], "z\n\x04", ALL, {}, (0, NOTICE + "z1 c0 keyboard keyboard>p0 122\n2 c1 screen p0>screen 122\n", "")),
+    ("choices of another program", LETTER, ["--choices", "past", "x.occ"], "", ALL, {}, (0, "A" + bold(PAST), "")),
+    ("choices of another program, by --explain", LETTER, ["--choices", "past", "--explain", "x.occ"], "", (), {}, (0, "", "A" + PAST)),
+    ("choices of another program, unasked", LETTER, ["--choices", "past", "x.occ"], "", (), {}, (0, "", "A")),
+    ("choices that were recorded without any", LETTER, ["--choices", "plain", "x.occ"], "", ALL, {}, (0, "A", "")),
+    ("choices from a seed", LETTER, ["--choices", "seeded", "x.occ"], "", ALL, {}, (0, "A", "")),
     ("no text", b"\x7fELF\x02\x01\0\0\0\n", ["x.occ"], "", ALL, {"NO_COLOR": "1"}, (1, "refused 2 BadByte line 1\nx.occ: this is not a text file: it contains NUL bytes\n", "")),
 ]
 
@@ -80,7 +86,7 @@ COMPLETED = [
 
 def tried(program, source, words, typed, streams, variables, wanted):
     """What is wrong with a run of the table."""
-    with room({"x.occ": source, "c": ""}) as folder:
+    with room({"x.occ": source, "c": "", "past": "0 0\n2 0\n", "plain": "0 0\n1 0\n", "seeded": "15496 24200\n5 5\n"}) as folder:
         came = shown_on([program, *words], folder, typed, streams, **variables)
         if came != wanted:
             yield f"{came}, and not {wanted}"

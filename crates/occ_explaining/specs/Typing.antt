@@ -1,10 +1,13 @@
--- When what is typed changes nothing.
+-- When what is typed changes nothing, and choices that are past who is ready.
 -- Manual: nothing; this is (own).
-use Rattle.std.specs.Prelude.{List, false, ℕ, ◌≡◌}
-use Rattle.occ_play.specs.Playing.{Refuses, Unfolds}
+use Rattle.std.specs.Prelude.{List, Option, false, ℕ, ◌≡◌}
+use Rattle.occ_machine.specs.Compiled.{Program}
+use Rattle.occ_net_replay.specs.declared.choice.Choice.{Choice}
+use Rattle.occ_play.specs.Playing.{IsTextsCode, Refuses, Unfolds}
 use Rattle.occ_play.specs.Status.{fault_status}
 use Rattle.occ_play.specs.declared.fault.PlayFault.{PlayFault}
 use Rattle.occ_play.specs.declared.playing.Options.{Options}
+use Rattle.occ_steps.specs.Past.{IsFirstPast}
 use Rattle.occ_term.specs.UnfoldedProgram.{UnfoldedProgram, meaning}
 use Rattle.occ_term.specs.Uses.{uses_of}
 
@@ -18,3 +21,9 @@ pub record NeverInputs (source : List ℕ) : Type 0 where
 pub data NeedsNoKeyboard (options : Options) (source : List ℕ) : Type 0 where
   by_program : NeverInputs source → NeedsNoKeyboard options source
   by_refusal : (fault : PlayFault) → Refuses options source fault → fault_status fault ≡ 1 → NeedsNoKeyboard options source
+
+-- the first choice, if any, that names none of the processes that are ready then in the run of a source
+pub record PastOf (options : Options) (source keyboard : List ℕ) (list : List Choice) (turn : Option ℕ) : Type 0 where
+  pub program : Program
+  pub code : IsTextsCode options source program
+  pub past : IsFirstPast program keyboard list turn

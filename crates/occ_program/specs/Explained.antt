@@ -1,10 +1,11 @@
 -- What is told behind a refusal's line, behind an ending, and behind the answers of a search.
 -- Manual: nothing; this is (own).
-use Rattle.std.specs.Prelude.{Bool, Err, List, Ok, Result, Some, [], codes, get_or, length, map, nat_eq, suc, take, true, zero, ℕ, ⊤, ◌++◌, ◌<◌, ◌∷◌, ◌≡◌, ◌≢◌, ◌⊎◌}
+use Rattle.std.specs.Prelude.{Bool, Err, List, Ok, Result, Some, [], codes, get_or, length, map, nat_eq, suc, take, true, zero, ℕ, ⊤, ◌++◌, ◌<◌, ◌≤◌, ◌∷◌, ◌≡◌, ◌≢◌, ◌⊎◌}
 use Rattle.std.specs.Fmt.{decimal}
 use Rattle.std.specs.List.{list_any}
 use Rattle.occ_explaining.specs.Explaining.{ReportsOn, TellsRefusal, refusal_in}
 use Rattle.occ_explaining.specs.Files.{SourceFiles, beginnings}
+use Rattle.occ_explaining.specs.Typing.{PastOf}
 use Rattle.occ_explore.specs.declared.exploration.Answer.{Answer}
 use Rattle.occ_files.specs.Names.{printed_name}
 use Rattle.occ_files.specs.declared.reason.Reason.{Reason}
@@ -98,3 +99,17 @@ TellsFirst words inputs answers (suc n) text =
 
 abbrev pub TellsAnswers : Words → Inputs → List Answer → List ℕ → Type 0
 TellsAnswers words inputs answers text = TellsFirst words inputs answers (length answers) text
+
+-- ---- a file of choices
+
+-- which line of the file picks a process that is not there
+abbrev pub past_text : List ℕ → ℕ → List ℕ
+past_text path turn =
+    printed_name path ++ codes ": line " ++ decimal turn ++ codes " selects past the last ready process, so its number is taken modulo how many are ready; this may be the schedule of another program\n"
+
+-- it is the first that does so, and not the first of all, as where choices are made from a seed
+pub record TellsPast (words : Words) (inputs : Inputs) (path : List ℕ) (choices : List Choice) (text : List ℕ) : Type 0 where
+  pub turn : ℕ
+  pub later : 2 ≤ turn
+  pub past : PastOf (options_in words) inputs.source.items inputs.keyboard.items choices (Some turn)
+  pub is : text ≡ past_text path turn

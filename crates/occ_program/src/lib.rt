@@ -3,6 +3,7 @@
 //! [`exit_code`] tells the machine so.
 #![tactic(auto)]
 
+mod choosing;
 mod counting;
 mod drawing;
 pub mod exit;

@@ -7,6 +7,7 @@ ghost use Rattle.occ_play.specs.Status.{status};
 ghost use Rattle.occ_play_inputs.specs.Failures.{failure_status};
 ghost use Rattle.occ_program.specs.Lines.{run_line};
 
+use crate::choosing::explain_choices;
 use crate::drawing::draw;
 use crate::explaining::explain;
 use crate::exploring::explore_words;
@@ -245,6 +246,7 @@ fn told<R: Eprint>(
         tell(rt, fault);
     }
     explain(rt, alloc, words, inputs, came, reason);
+    explain_choices(rt, alloc, words, inputs, came);
     status_of(came)
 }
 
