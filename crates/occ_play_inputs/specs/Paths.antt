@@ -22,17 +22,22 @@ IsNoneOf turns file choices written drawn traced =
 abbrev pub AreApart : (file choices written drawn traced turns : Option (Bor (List ℕ))) → Type 0
 AreApart file choices written drawn traced turns = AreTextsApart file choices written drawn traced × IsNoneOf turns file choices written drawn traced
 
+-- a further file of the source is none of those that are written
+abbrev pub IsUnwritten : (written drawn traced turns : Option (Bor (List ℕ))) → Bor (List ℕ) → Type 0
+IsUnwritten written drawn traced turns path =
+    Differ written (Some path) × Differ drawn (Some path) × Differ traced (Some path) × Differ turns (Some path)
+
 -- nor is what was typed what is read
 abbrev pub IsUnread : (typed file choices : Option (Bor (List ℕ))) → Type 0
 IsUnread typed file choices = Differ typed file × Differ typed choices
 
 -- and it has a file of its own
-abbrev pub IsUnwritten : (typed written drawn traced turns : Option (Bor (List ℕ))) → Type 0
-IsUnwritten typed written drawn traced turns = Differ typed written × Differ typed drawn × Differ typed traced × Differ typed turns
+abbrev pub HasOwnFile : (typed written drawn traced turns : Option (Bor (List ℕ))) → Type 0
+HasOwnFile typed written drawn traced turns = Differ typed written × Differ typed drawn × Differ typed traced × Differ typed turns
 
--- nor is a further file of the source one that is written
-abbrev pub IsFurther : (typed written drawn traced turns : Option (Bor (List ℕ))) → Bor (List ℕ) → Type 0
-IsFurther typed written drawn traced turns path = Differ (Some path) typed × IsUnwritten (Some path) written drawn traced turns
+-- a further file of the source is not that of what was typed
+abbrev pub IsUntyped : (typed : Option (Bor (List ℕ))) → Bor (List ℕ) → Type 0
+IsUntyped typed path = Differ typed (Some path)
 
 -- the path of the source is the one that was given, and none for a hyphen
 abbrev pub IsSourcePath : Option (List ℕ) → Option (List ℕ) → Type 0

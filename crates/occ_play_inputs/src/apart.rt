@@ -1,7 +1,7 @@
 //! That a file which is written is none that is read, and not the other one.
 ghost use Rattle.std.specs.Prelude.{◌≡◌, All, IfErr, IsTrue};
 ghost use Rattle.occ_play_inputs.specs.declared.failure.Failure.{Failure};
-ghost use Rattle.occ_play_inputs.specs.Paths.{AreApart, AreTextsApart, Differ, IsFurther, IsNoneOf, IsUnread, IsUnwritten};
+ghost use Rattle.occ_play_inputs.specs.Paths.{AreApart, AreTextsApart, Differ, HasOwnFile, IsNoneOf, IsUnread, IsUntyped, IsUnwritten};
 
 use crate::failure::Failure;
 use crate::words::Words;
@@ -76,57 +76,67 @@ pub(crate) fn are_apart(
         && are_beside(file, choices, written, drawn, traced, turns)
 }
 
-/// Whether the path of what was typed is none that is read.
+/// Whether the path of a further file of the source is none of those that are written.
+fn is_unwritten(
+    path: &str,
+    written: Option<&str>,
+    drawn: Option<&str>,
+    traced: Option<&str>,
+    turns: Option<&str>,
+) -> bool
+    ensures { IsTrue result → IsUnwritten written.entry drawn.entry traced.entry turns.entry
+        path.entry }
+{
+    let path = Some(path);
+    differ(written, path) && differ(drawn, path) && differ(traced, path) && differ(turns, path)
+}
+
+/// Whether each of these is.
+pub(crate) fn are_unwritten(
+    paths: &[&str],
+    written: Option<&str>,
+    drawn: Option<&str>,
+    traced: Option<&str>,
+    turns: Option<&str>,
+) -> bool
+    ensures { IsTrue result → All (IsUnwritten written.entry drawn.entry traced.entry turns.entry)
+        paths.now }
+{
+    for i in 0..paths.len() {
+        if !is_unwritten(paths[i], written, drawn, traced, turns) {
+            return false;
+        }
+    }
+    true
+}
+
+/// Whether the path of what was typed is none that is read, but for further files of the source.
 pub(crate) fn is_unread(typed: Option<&str>, file: Option<&str>, choices: Option<&str>) -> bool
     ensures { IsTrue result → IsUnread typed.entry file.entry choices.entry }
 {
     differ(typed, file) && differ(typed, choices)
 }
 
-/// Whether a path is none of these that are written.
-pub(crate) fn is_unwritten(
-    path: Option<&str>,
+/// Whether the path of what was typed is none of the others that are written.
+pub(crate) fn has_own_file(
+    typed: Option<&str>,
     written: Option<&str>,
     drawn: Option<&str>,
     traced: Option<&str>,
     turns: Option<&str>,
 ) -> bool
-    ensures { IsTrue result → IsUnwritten path.entry written.entry drawn.entry traced.entry
+    ensures { IsTrue result → HasOwnFile typed.entry written.entry drawn.entry traced.entry
         turns.entry }
 {
-    differ(path, written) && differ(path, drawn) && differ(path, traced) && differ(path, turns)
+    differ(typed, written) && differ(typed, drawn) && differ(typed, traced) && differ(typed, turns)
 }
 
-/// Whether the path of a further file of the source is none of those that are written.
-fn is_further(
-    path: &str,
-    typed: Option<&str>,
-    kept: Option<&str>,
-    drawn: Option<&str>,
-    traced: Option<&str>,
-    turns: Option<&str>,
-) -> bool
-    ensures { IsTrue result → IsFurther typed.entry kept.entry drawn.entry traced.entry
-        turns.entry path.entry }
+/// Whether what was typed goes into none of these further files of the source.
+pub(crate) fn are_untyped(paths: &[&str], typed: Option<&str>) -> bool
+    ensures { IsTrue result → All (IsUntyped typed.entry) paths.now }
 {
-    let path = Some(path);
-    differ(path, typed) && is_unwritten(path, kept, drawn, traced, turns)
-}
-
-/// Whether each of these is.
-pub(crate) fn are_further(
-    more: &[&str],
-    typed: Option<&str>,
-    kept: Option<&str>,
-    drawn: Option<&str>,
-    traced: Option<&str>,
-    turns: Option<&str>,
-) -> bool
-    ensures { IsTrue result → All (IsFurther typed.entry kept.entry drawn.entry traced.entry
-        turns.entry) more.now }
-{
-    for i in 0..more.len() {
-        if !is_further(more[i], typed, kept, drawn, traced, turns) {
+    for i in 0..paths.len() {
+        if !differ(typed, Some(paths[i])) {
             return false;
         }
     }
@@ -181,10 +191,10 @@ fn writes_one<R: Files>(rt: &R, words: &Words<'_>) -> bool {
     for path in words.more.as_slice() {
         let path = Some(*path);
         if name_one(rt, words.record, path)
+            || name_one(rt, words.typed, path)
             || name_one(rt, words.chart, path)
             || name_one(rt, words.trace_to, path)
             || name_one(rt, words.steps, path)
-            || name_one(rt, words.typed, path)
         {
             return true;
         }

@@ -4,10 +4,10 @@ ghost use Rattle.std.specs.Option.{ForSome, option_copied};
 ghost use Rattle.occ_choices.specs.Crews.{IsCrew};
 ghost use Rattle.occ_code.specs.CodeOf.{IsQuantum};
 ghost use Rattle.occ_play_inputs.specs.Modes.{IsMode};
-ghost use Rattle.occ_play_inputs.specs.Paths.{AreApart, IsFurther, IsSourcePath, IsUnread, IsUnwritten};
+ghost use Rattle.occ_play_inputs.specs.Paths.{AreApart, HasOwnFile, IsSourcePath, IsUnread, IsUntyped, IsUnwritten};
 ghost use Rattle.occ_play_inputs.specs.Searches.{IsFull, IsSearch};
 
-use crate::apart::{are_apart, are_further, is_unread, is_unwritten};
+use crate::apart::{are_apart, are_untyped, are_unwritten, has_own_file, is_unread};
 use clap::builder::ValueParser;
 use clap::error::ErrorKind;
 use clap::{Arg, ArgAction, ArgMatches, Command, Error, value_parser};
@@ -161,9 +161,10 @@ pub struct Words<'a> {
     ghost some_tries: { 1 ≤ tries },
     ghost tries_in_range: { tries ≤ 1000000 },
     ghost files_apart: { AreApart file choices «record» chart trace_to steps },
+    ghost more_apart: { All (IsUnwritten «record» chart trace_to steps) more.items },
     ghost typed_unread: { IsUnread typed file choices },
-    ghost typed_apart: { IsUnwritten typed «record» chart trace_to steps },
-    ghost more_apart: { All (IsFurther typed «record» chart trace_to steps) more.items },
+    ghost typed_apart: { HasOwnFile typed «record» chart trace_to steps },
+    ghost more_untyped: { All (IsUntyped typed) more.items },
 }
 
 /// Reads the words, of which the first is the program's name.
@@ -252,13 +253,15 @@ fn words_of<'a>(matches: &ArgMatches<'a>, more: Vec<&'a str>) -> Result<Words<'a
     let (record, chart) = (matches.get_str("record"), matches.get_str("chart"));
     let (trace_to, steps) = (matches.get_str("trace-to"), matches.get_str("steps"));
     let typed = matches.get_str("typed");
-    if !are_apart(file, choices, record, chart, trace_to, steps) {
+    if !are_apart(file, choices, record, chart, trace_to, steps)
+        || !are_unwritten(more.as_slice(), record, chart, trace_to, steps)
+    {
         return Err(ONE_FILE);
     }
-    if !is_unread(typed, file, choices) || !is_unwritten(typed, record, chart, trace_to, steps) {
-        return Err(ONE_FILE);
-    }
-    if !are_further(more.as_slice(), typed, record, chart, trace_to, steps) {
+    if !is_unread(typed, file, choices)
+        || !has_own_file(typed, record, chart, trace_to, steps)
+        || !are_untyped(more.as_slice(), typed)
+    {
         return Err(ONE_FILE);
     }
     let (json, check) = (matches.get_flag("json"), matches.get_flag("check"));

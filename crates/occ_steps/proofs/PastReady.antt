@@ -6,7 +6,7 @@ use Rattle.occ_net_replay.specs.Replay.{Net, Replays, begins, ending_of, first_n
 use Rattle.occ_net_tables.specs.Holding.{Holds}
 use Rattle.occ_net_tables.specs.Settling.{Standing, TurnsTo}
 use Rattle.occ_net_tables.specs.declared.tables.Tables.{Tables}
-use Rattle.occ_steps.specs.Past.{AllNameReady, IsPastAt, NamesReady, NamingSoFar, count_ready, none_named, one_named}
+use Rattle.occ_steps.specs.Past.{AllNameReady, IsPastAt, NamesReady, NamingSoFar, none_named, one_named}
 
 named_replays : (p : Program) (kb : List ℕ) {cs : List Choice} {net : Net} → NamesReady p kb cs net → Replays p kb cs net
 named_replays p kb none_named = begins

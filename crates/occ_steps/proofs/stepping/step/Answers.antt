@@ -1,4 +1,4 @@
-use Rattle.std.proofs.Common.{◌∙◌, ◌-◌, ◌+◌, ◌++◌, ℕ, ap, length, map}
+use Rattle.std.proofs.Common.{◌∙◌, ◌-◌, ◌+◌, ◌++◌, ℕ, ap, length}
 use Rattle.occ_machine.specs.declared.task.Task.{Task}
 use Rattle.occ_shown.specs.Answers.{names_of}
 use Rattle.occ_steps.specs.Steps.{turn_head, turn_tail}
