@@ -1,4 +1,3 @@
-mod Behind
-mod EachPath
-mod Joining
 mod Whole
+mod Joining
+mod EachPath
