@@ -3,4 +3,4 @@ mod Statuses
 mod Ended
 mod Told
 mod Terminals
-mod Live
+mod LiveRuns
