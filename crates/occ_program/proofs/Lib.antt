@@ -1,6 +1,7 @@
+mod Ended
+mod LiveRuns
+mod Paths
 mod Recorded
 mod Statuses
-mod Ended
-mod Told
 mod Terminals
-mod LiveRuns
+mod Told

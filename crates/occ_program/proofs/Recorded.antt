@@ -90,3 +90,12 @@ one_recorded path stem a text old new r named same ok err = subst (λ p. AreReco
     by (Ok done) h g = said h
     by (Err f) h (inl none) = (0, none_more old new none)
     by (Err f) h (inr one) = (1, said one)
+
+-- of the first answers each
+pub each_recorded : (path : Option (Bor (List ℕ))) (stem : Bor (List ℕ)) (answers firsts : List Answer) (old new : Option (List Written)) (r : Result ⊤ Failure) → path ≡ Some stem → firsts ≡ take 100 answers
+    → OnOk r (LeavesAll old new (answer_files stem.now 1 firsts)) → OnErr r ((n : ℕ) × LeavesAll old new (take n (answer_files stem.now 1 firsts))) → AreRecorded path answers old new r
+each_recorded path stem answers firsts old new r named same ok err = subst (λ p. AreRecorded p answers old new r) (sym named) (by r ok err)
+  where
+    by : (r : Result ⊤ Failure) → OnOk r (LeavesAll old new (answer_files stem.now 1 firsts)) → OnErr r ((n : ℕ) × LeavesAll old new (take n (answer_files stem.now 1 firsts))) → AreRecorded (Some stem) answers old new r
+    by (Ok done) h g = subst (λ xs. LeavesAll old new (answer_files stem.now 1 xs)) same h
+    by (Err f) h g = (g.0, subst (λ xs. LeavesAll old new (take g.0 (answer_files stem.now 1 xs))) same g.1)

@@ -105,7 +105,7 @@ TellsAnswers words inputs answers text = TellsFirst words inputs answers (length
 -- which line of the file picks a process that is not there
 abbrev pub past_text : List ℕ → ℕ → List ℕ
 past_text path turn =
-    printed_name path ++ codes ": line " ++ decimal turn ++ codes " selects past the last ready process, so its number is taken modulo how many are ready; this may be the schedule of another program\n"
+    printed_name path ++ (codes ": line " ++ decimal turn ++ codes " selects past the last ready process, so its number is taken modulo how many are ready; this may be the schedule of another program\n")
 
 -- it is the first that does so, and not the first of all, as where choices are made from a seed
 pub record TellsPast (words : Words) (inputs : Inputs) (path : List ℕ) (choices : List Choice) (text : List ℕ) : Type 0 where

@@ -52,14 +52,12 @@ pub(crate) fn explain_fault<R: Eprint>(
 }
 
 /// What the files of a source are called, the first one by a hyphen where standard input is the source; and where they end.
-pub(crate) fn files_of<'a>(words: &'a Words<'_>, ends: &'a [u32]) -> Files<'a>
+pub(crate) fn files_of<'a>(words: &'a Words<'a>, ends: &'a [u32]) -> Files<'a>
     ensures { files_of result ≡ files_in words.now ends.now }
 {
-    Files {
-        first: path_or("-", words.file),
-        more: words.more.as_slice(),
-        ends,
-    }
+    let first = path_or("-", words.file);
+    let more = words.more.as_slice();
+    Files { first, more, ends }
 }
 
 /// The explanation of a fault, where it refuses the source.

@@ -54,6 +54,8 @@ where
     R::Reader: IsTerminal,
     ensures { IsFalse result → NeedsNoKeyboard (options_in words.now) source.now }
 {
-    let keyboard = rt.reader();
-    !keyboard.is_terminal() || may_input(&options_of(words), alloc, source)
+    if !rt.reader().is_terminal() {
+        return true;
+    }
+    may_input(&options_of(words), alloc, source)
 }
