@@ -89,8 +89,9 @@ pub none_typed : {Path : Type 0} (file : Option Path) (keyboard : List ℕ) → 
 none_typed None keyboard h = h
 none_typed (Some path) keyboard h = h
 
-no_crew : ForSome {X = ℕ} None IsCrew
-no_crew n e = absurd cc
+no_crew : (workers : Option ℕ) → workers ≡ None → ForSome workers IsCrew
+no_crew None same n e = absurd cc
+no_crew (Some w) same n e = absurd cc
 
 -- the answer for the bytes that were read
 pub came_live : (words : Words) (inputs : Inputs) (read : List ℕ) (live : LivePlayed) → RunsAlone words → LivesTo words inputs read live
@@ -101,4 +102,4 @@ came_live words inputs read live alone h =
 pub came_refused : (words : Words) (source keyboard : List ℕ) (list : List Choice) (fault : PlayFault) → RunsAlone words → Refuses (options_in words) source fault
     → CameToBy (workers_in words) words source keyboard list (Err fault)
 came_refused words source keyboard list fault alone h =
-    subst (λ w. CameToBy w words source keyboard list (Err fault)) (sym (no_workers words alone)) (refused_by None words source keyboard list fault no_crew h)
+    subst (λ w. CameToBy w words source keyboard list (Err fault)) (sym (no_workers words alone)) (refused_by None words source keyboard list fault (no_crew None refl) h)
