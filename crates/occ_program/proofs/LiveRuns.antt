@@ -1,6 +1,6 @@
 -- What a live run came to is what a run came to that had the bytes from the start.
-use Rattle.std.proofs.Common.{◌≡◌, ◌∙◌, ◌⊎◌, ◌+◌, ◌<◌, ℕ, Bool, true, false, List, Option, Some, None, [], inr, refl, sym, ap, subst, arith}
-use Rattle.std.specs.Prelude.{Ok, Err, is_some, nat_eq, not, ◌&&◌, ◌||◌}
+use Rattle.std.proofs.Common.{◌≡◌, ◌∙◌, ◌+◌, ℕ, Bool, true, false, List, Option, Some, None, [], inr, refl, sym, ap, subst, arith}
+use Rattle.std.specs.Prelude.{Ok, Err, is_some, nat_eq, not, ◌&&◌}
 use Rattle.occ_choices.specs.Crews.{IsCrew}
 use Rattle.std.specs.Option.{ForSome}
 use Rattle.occ_choices.specs.Plans.{choices_of}
@@ -8,13 +8,12 @@ use Rattle.occ_choices.specs.declared.plan.Plan.{Plan}
 use Rattle.occ_net_replay.specs.declared.choice.Choice.{Choice}
 use Rattle.occ_live.specs.declared.playing.LivePlayed.{LivePlayed}
 use Rattle.occ_play.specs.declared.playing.Options.{Options}
-use Rattle.occ_play.specs.declared.playing.Played.{Played}
 use Rattle.occ_play.specs.declared.fault.PlayFault.{PlayFault}
 use Rattle.occ_play.specs.Playing.{Refuses}
 use Rattle.occ_play_inputs.specs.Asked.{IsAsked, IsAskedBy, IsTyped}
 use Rattle.occ_play_inputs.specs.declared.inputs.Inputs.{Inputs}
 use Rattle.occ_play_inputs.specs.declared.words.Words.{Words}
-use Rattle.occ_program.specs.Coming.{CameToBy, IsTriedBy, PlayedTo, options_in, workers_asked, workers_in}
+use Rattle.occ_program.specs.Coming.{CameToBy, IsTriedBy, options_in, workers_asked, workers_in}
 use Rattle.occ_program.specs.Live.{LivesTo, RunsAlone, runs_live}
 use Rattle.occ_program.specs.Trying.{IsTriedPlanFor, by_seed}
 use Rattle.occ_program.proofs.Statuses.{refused_by}
