@@ -1,6 +1,7 @@
 #!/usr/bin/env python3
-"""Keeps four tables equal to what they are taken from: the names and the causes of refusals, which docs/language.md has, and the words
-of the command line, in crates/occ_play_inputs/src/words.rt, from which the manual page and the shells' completions are made.
+"""Keeps files equal to what they are made from: the names and the causes of refusals, which docs/language.md has; the words of the
+command line, in crates/occ_play_inputs/src/words.rt, from which the manual page and the shells' completions are made; and the index of
+rules, docs/rules.md, from docs/rules.txt (tools/rules.py).
 
     python3 tools/tables.py           says which file differs; the status is 1 where one does
     python3 tools/tables.py --write   writes the files
@@ -8,6 +9,10 @@ of the command line, in crates/occ_play_inputs/src/words.rt, from which the manu
 import pathlib
 import re
 import sys
+
+sys.dont_write_bytecode = True
+
+import rules
 
 TOP = pathlib.Path(__file__).resolve().parent.parent
 
@@ -163,13 +168,19 @@ TABLES = {
     "crates/occ_explain/src/cause_table.rt": causes,
     "crates/occ_explaining/src/refusal_names.rt": names,
     "docs/occam.1": manual,
+    "docs/rules.md": rules.index,
     "tools/completions/occam.bash": in_bash,
     "tools/completions/_occam": in_zsh,
     "tools/completions/occam.fish": in_fish,
 }
 for name, table in TABLES.items():
     path = TOP / name
-    text = table()
+    try:
+        text = table()
+    except ValueError as fault:
+        differ = True
+        print(fault)
+        continue
     if "--write" in sys.argv[1:]:
         path.write_text(text)
     elif not path.exists() or path.read_text() != text:

@@ -210,8 +210,7 @@ def document(path):
     number = text.count("\n", 0, begins) + 1
     for part in text[begins:].split("```\n")[0].strip("\n").split("\n\n"):
         lines = part.split("\n")
-        source = "".join(f"{line[WIDTH:]}\n" for line in lines)
-        yield Case(f"{path.relative_to(TOP)}:{number}", source.encode(), wanted_of(lines[0][:WIDTH].strip()))
+        yield Case(f"{path.relative_to(TOP)}:{number}", source_of([line[WIDTH:] for line in lines]), wanted_of(lines[0][:WIDTH].strip()))
         number += len(lines) + 1
 
 

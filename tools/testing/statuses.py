@@ -473,7 +473,7 @@ def starving(program, room, source):
 
 def seeded(program):
     """What is wrong with seeds that are tried, or nothing: the first is found by which philosophers starve, and is recorded; its
-    choices are those that docs/language.md says how to make."""
+    choices are those that docs/formats.md says how to make."""
     with room_of() as room:
         wrong = []
         source = TOP / "examples/faults/dining.occ"

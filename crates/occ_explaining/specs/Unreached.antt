@@ -51,6 +51,6 @@ abbrev pub told_procs : Files → (json : Bool) → List Unchecked → List ℕ
 told_procs files json procs = told_lines (files_of files) json (map unchecked_head procs)
 
 -- the source has no logical lines, or memory was refused
-abbrev pub RefusesLines : (source : List ℕ) → PlayFault → Type 0
-RefusesLines source (play.Memory e) = ⊤
-RefusesLines source fault = RefusesText source fault
+abbrev pub RefusesToTell : (source : List ℕ) → PlayFault → Type 0
+RefusesToTell source (play.Memory e) = ⊤
+RefusesToTell source fault = RefusesText source fault

@@ -1,7 +1,7 @@
 //! The PROCs that no call reaches, as they are told.
 ghost use Rattle.std.specs.Prelude.{◌≡◌, ◌++◌, IfErr, IfOk, OnOk, map};
 ghost use Rattle.occ_explaining.specs.Files.{files_of};
-ghost use Rattle.occ_explaining.specs.Unreached.{RefusesLines, TellsUnreached, as_object, file_told, in_words, told_line, told_procs};
+ghost use Rattle.occ_explaining.specs.Unreached.{RefusesToTell, TellsUnreached, as_object, file_told, in_words, told_line, told_procs};
 ghost use Rattle.occ_reach.specs.Reach.{unchecked_head};
 
 use crate::files::{Files, place_told};
@@ -132,7 +132,7 @@ pub fn unreached_told(
     json: bool,
 ) -> Result<Vec<u8>, PlayFault>
     ensures told { IfOk result (λ text. TellsUnreached source.now (files_of files.now) json text.items) }
-    ensures refused { IfErr result (RefusesLines source.now) }
+    ensures refused { IfErr result (RefusesToTell source.now) }
 {
     let lines = lines_of(alloc, source)?;
     let procs = unchecked_procs(alloc, lines.lines.as_slice())?;
