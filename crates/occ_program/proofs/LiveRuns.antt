@@ -1,6 +1,6 @@
 -- What a live run came to is what a run came to that had the bytes from the start.
-use Rattle.std.proofs.Common.{◌≡◌, ◌∙◌, ◌⊎◌, ◌+◌, ◌<◌, ℕ, Bool, true, false, List, Option, Some, None, [], inr, refl, sym, ap, subst, arith}
-use Rattle.std.specs.Prelude.{Ok, Err, is_some, nat_eq, not, ◌&&◌, ◌||◌}
+use Rattle.std.proofs.Common.{◌≡◌, ◌∙◌, ◌+◌, ℕ, Bool, true, false, List, Option, Some, None, [], inr, refl, sym, ap, subst, arith}
+use Rattle.std.specs.Prelude.{Ok, Err, is_some, nat_eq, not, ◌&&◌}
 use Rattle.occ_choices.specs.Crews.{IsCrew}
 use Rattle.std.specs.Option.{ForSome}
 use Rattle.occ_choices.specs.Plans.{choices_of}
@@ -8,13 +8,12 @@ use Rattle.occ_choices.specs.declared.plan.Plan.{Plan}
 use Rattle.occ_net_replay.specs.declared.choice.Choice.{Choice}
 use Rattle.occ_live.specs.declared.playing.LivePlayed.{LivePlayed}
 use Rattle.occ_play.specs.declared.playing.Options.{Options}
-use Rattle.occ_play.specs.declared.playing.Played.{Played}
 use Rattle.occ_play.specs.declared.fault.PlayFault.{PlayFault}
 use Rattle.occ_play.specs.Playing.{Refuses}
 use Rattle.occ_play_inputs.specs.Asked.{IsAsked, IsAskedBy, IsTyped}
 use Rattle.occ_play_inputs.specs.declared.inputs.Inputs.{Inputs}
 use Rattle.occ_play_inputs.specs.declared.words.Words.{Words}
-use Rattle.occ_program.specs.Coming.{CameToBy, IsTriedBy, PlayedTo, options_in, workers_asked, workers_in}
+use Rattle.occ_program.specs.Coming.{CameToBy, IsTriedBy, options_in, workers_asked, workers_in}
 use Rattle.occ_program.specs.Live.{LivesTo, RunsAlone, runs_live}
 use Rattle.occ_program.specs.Trying.{IsTriedPlanFor, by_seed}
 use Rattle.occ_program.proofs.Statuses.{refused_by}
@@ -89,8 +88,9 @@ pub none_typed : {Path : Type 0} (file : Option Path) (keyboard : List ℕ) → 
 none_typed None keyboard h = h
 none_typed (Some path) keyboard h = h
 
-no_crew : ForSome {X = ℕ} None IsCrew
-no_crew n e = absurd cc
+no_crew : (workers : Option ℕ) → workers ≡ None → ForSome workers IsCrew
+no_crew None same n e = absurd cc
+no_crew (Some w) same n e = absurd cc
 
 -- the answer for the bytes that were read
 pub came_live : (words : Words) (inputs : Inputs) (read : List ℕ) (live : LivePlayed) → RunsAlone words → LivesTo words inputs read live
@@ -101,4 +101,4 @@ came_live words inputs read live alone h =
 pub came_refused : (words : Words) (source keyboard : List ℕ) (list : List Choice) (fault : PlayFault) → RunsAlone words → Refuses (options_in words) source fault
     → CameToBy (workers_in words) words source keyboard list (Err fault)
 came_refused words source keyboard list fault alone h =
-    subst (λ w. CameToBy w words source keyboard list (Err fault)) (sym (no_workers words alone)) (refused_by None words source keyboard list fault no_crew h)
+    subst (λ w. CameToBy w words source keyboard list (Err fault)) (sym (no_workers words alone)) (refused_by None words source keyboard list fault (no_crew None refl) h)

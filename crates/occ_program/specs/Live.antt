@@ -1,6 +1,6 @@
 -- Runs that get the keyboard's bytes while they go on.
 -- Manual: nothing; this is (own).
-use Rattle.std.specs.Prelude.{Bool, List, None, Option, Some, false, is_some, nat_eq, not, ℕ, ⊤, ◌&&◌, ◌≡◌, ◌||◌}
+use Rattle.std.specs.Prelude.{Bool, List, None, false, is_some, nat_eq, not, ℕ, ⊤, ◌&&◌, ◌≡◌, ◌||◌}
 use Rattle.occ_choices.specs.Plans.{choices_of}
 use Rattle.occ_files.specs.declared.reason.Reason.{Reason}
 use Rattle.occ_live.specs.Playing.{IsLiveAnswer}

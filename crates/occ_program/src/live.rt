@@ -1,6 +1,5 @@
 //! Runs whose keyboard is read and whose screen is written while they go on.
 ghost use Rattle.std.specs.Prelude.{◌≡◌, ◌≤◌, ◌<◌, ◌-◌, ◌^◌, [], IfErr, IfOk, OnOk};
-ghost use Rattle.occ_choices.specs.Plans.{choices_of};
 ghost use Rattle.occ_files.specs.Reading.{ReadsNext, failures_of as reads_failed};
 ghost use Rattle.occ_live.specs.Living.{EndsRightly};
 ghost use Rattle.occ_program.specs.Coming.{IsStatusFor};
