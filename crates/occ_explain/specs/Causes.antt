@@ -1,6 +1,6 @@
 -- What is wrong where a text is refused.
 -- Manual: nothing; this is (own).
-use Rattle.std.specs.Prelude.{Bool, IsFalse, List, [], codes, if◌then◌else◌, length, map, ℕ, ◌==◌, ◌||◌, ◌∷◌, ◌≡◌, ◌≤◌, ◌⊎◌}
+use Rattle.std.specs.Prelude.{Bool, IsFalse, List, [], codes, if◌then◌else◌, length, map, ℕ, ◌==◌, ◌||◌, ◌∷◌, ◌≡◌, ◌≤◌, ◌<◌, ◌⊎◌}
 use Rattle.occ_explain.specs.declared.cause_table.TheConstants.{CAUSES}
 use Rattle.occ_explain.specs.declared.headings.TheConstants.{HEADINGS}
 use mathlib.Core.List.{IsPrefix}
@@ -30,10 +30,14 @@ is_told_closer n =
     n == 2 || n == 4 || n == 5 || n == 6 || n == 20 || n == 21 || n == 22
     || n == 30 || n == 31 || n == 50 || n == 51 || n == 52
 
--- what is told begins with the heading, of a refusal that has one
+-- what is told begins with the heading, of a refusal that has one, and goes on behind it
 abbrev pub IsUnderHeading : (number : ℕ) → List ℕ → Type 0
-IsUnderHeading number wrong = (1 ≤ length (heading_of number)) × IsPrefix (heading_of number) wrong
+IsUnderHeading number wrong = (1 ≤ length (heading_of number)) × IsPrefix (heading_of number) wrong × (length (heading_of number) < length wrong)
 
--- what is told of any other refusal is the cause, or stands behind the heading
+-- what is told is the cause, or stands behind the heading
+abbrev pub IsCaused : (number : ℕ) → List ℕ → Type 0
+IsCaused number wrong = (wrong ≡ cause_of number) ⊎ IsUnderHeading number wrong
+
+-- so it is of any other refusal
 abbrev pub TellsCause : (number : ℕ) → List ℕ → Type 0
-TellsCause number wrong = IsFalse (is_told_closer number) → (wrong ≡ cause_of number) ⊎ IsUnderHeading number wrong
+TellsCause number wrong = IsFalse (is_told_closer number) → IsCaused number wrong

@@ -1,12 +1,9 @@
 //! Lines that go on, where none follows or one too far to the left.
 
 use crate::class::Class;
-use crate::finding::Finding;
-use crate::mismatch::found_at;
-use crate::saying::joined;
 use crate::scan::{Text, Word};
+use crate::sentence::{Piece, Told, plain, two};
 use crate::walk::class_at;
-use std::alloc::{AllocError, Global};
 
 /// The place of the last word of a line that stands in the physical line before the one in which the line ends; the last word of all
 /// where there is none.
@@ -37,26 +34,20 @@ fn break_hint(words: &[Word<'_>], at: usize) -> &'static str {
 }
 
 /// A line that goes on: which one, and the word that it ends with.
-pub(crate) fn break_finding(
-    alloc: Global,
-    text: &Text<'_>,
-    index: usize,
-) -> Result<Option<Finding>, AllocError> {
+pub(crate) fn break_finding(text: &Text<'_>, index: usize) -> Option<Told> {
     let words = text.words_at(index);
     let at = break_at(words);
-    let Some(word) = words.get(at) else {
-        return Ok(None);
-    };
-    let line = word.line;
-    let head = format!(in alloc; "line {line} ends with `")?;
+    let line = words.get(at)?.line;
     let is_last = at.saturating_add(1) >= words.len();
-    let tail = if is_last {
-        "`, so it goes on, and no line follows"
+    let says = if is_last {
+        "line @ ends with `@`, so it goes on, and no line follows"
     } else {
-        "`, so it goes on here, where a line begins too far to the left"
+        "line @ ends with `@`, so it goes on here, where a line begins too far to the left"
     };
-    let wrong = joined(alloc, &[head.as_bytes(), word.bytes, tail.as_bytes()])?;
-    let hint = joined(alloc, &[break_hint(words, at).as_bytes()])?;
-    let place = if is_last { at } else { at.saturating_add(1) };
-    Ok(found_at(words, place, wrong, hint))
+    Some(Told {
+        line: index,
+        at: if is_last { at } else { at.saturating_add(1) },
+        wrong: two(says, Piece::Number(u64::from(line)), Piece::Word(index, at)),
+        hint: plain(break_hint(words, at)),
+    })
 }

@@ -1,22 +1,22 @@
 //! Calls whose actuals do not fit the formals.
 
 use crate::class::Class;
-use crate::finding::{Finding, index_of};
-use crate::mismatch::{conversion, found_at};
-use crate::saying::joined;
+use crate::finding::index_of;
+use crate::mismatch::{conversion, expression_count};
 use crate::scan::{Text, Word};
 use crate::scope::{
     Declared, Kind, Spec, behind_sizes, declaration_of, formal_count, formal_numbered,
 };
-use crate::types::{
-    declared_text, expression_end, operand_end, spelled_type, type_at, type_text, words_text,
-};
-use crate::walk::class_at;
+use crate::sentence::{Piece, Sentence, Told, four, plain, three, two, word};
+use crate::telling::are_alike;
+use crate::types::{begins_int, expression_end, operand_end, spelled_type, type_at};
+use crate::walk::{bytes_at, class_at};
 use std::alloc::{AllocError, Global};
 
 /// A call, the head of its PROC, and a formal with its actual.
 #[derive(Clone, Copy)]
 struct Pair {
+    line: usize,
     /// The line of the PROC.
     head: usize,
     formal: usize,
@@ -26,18 +26,12 @@ struct Pair {
 
 /// How many actuals a call has.
 fn actual_count(words: &[Word<'_>], open: usize) -> usize {
-    let mut at = open.saturating_add(1);
+    let at = open.saturating_add(1);
     if class_at(words, at) == Class::CloseParen {
-        return 0;
+        0
+    } else {
+        expression_count(words, at, words.len())
     }
-    for count in 1..words.len().saturating_add(1) {
-        at = expression_end(words, at);
-        if class_at(words, at) != Class::Comma {
-            return count;
-        }
-        at = at.saturating_add(1);
-    }
-    0
 }
 
 /// The place of the actual that has so many before it.
@@ -49,117 +43,48 @@ fn actual_at(words: &[Word<'_>], open: usize, number: usize) -> usize {
     at
 }
 
-/// A number of formals or actuals: `1 actual`.
-fn said_count(alloc: Global, count: usize, word: &str) -> Result<Vec<u8>, AllocError> {
-    let number = format!(in alloc; "{count} ")?;
-    let more = if count == 1 { "" } else { "s" };
-    joined(
-        alloc,
-        &[number.as_bytes(), word.as_bytes(), more.as_bytes()],
-    )
-}
-
-/// The head of a PROC, as a hint.
-fn head_text(alloc: Global, text: &Text<'_>, head: usize) -> Result<Vec<u8>, AllocError> {
-    let words = text.words_at(head);
-    let said = words_text(alloc, words, 0, words.len())?;
-    let number = text.number_at(head);
-    let line = format!(in alloc; "line {number} has `")?;
-    joined(alloc, &[line.as_bytes(), said.as_slice(), b"`".as_slice()])
-}
-
 /// Another number of actuals than of formals.
-fn unequal(
-    alloc: Global,
-    text: &Text<'_>,
-    index: usize,
-    head: usize,
-    formals: usize,
-    actuals: usize,
-) -> Result<Option<Finding>, AllocError> {
-    let words = text.words_at(index);
-    let name = words_text(alloc, words, 0, 1)?;
-    let formals = said_count(alloc, formals, "formal")?;
-    let actuals = said_count(alloc, actuals, "actual")?;
-    let wrong = joined(
-        alloc,
-        &[
-            b"`".as_slice(),
-            name.as_slice(),
-            b"` has ".as_slice(),
-            formals.as_slice(),
-            b", but the call has ".as_slice(),
-            actuals.as_slice(),
-        ],
-    )?;
-    let hint = head_text(alloc, text, head)?;
-    Ok(found_at(
-        words,
-        index_of(words, Class::OpenParen).saturating_add(1),
-        wrong,
-        hint,
-    ))
-}
-
-/// What stands before a type.
-fn article(is_value: bool, spelled: &[u8]) -> &'static str {
-    if is_value {
-        "a VAL "
-    } else if spelled.starts_with(b"INT") {
-        "an "
-    } else {
-        "a "
+fn unequal(words: &[Word<'_>], index: usize, head: usize, formals: usize, actuals: usize) -> Told {
+    Told {
+        line: index,
+        at: index_of(words, Class::OpenParen).saturating_add(1),
+        wrong: three(
+            "`@` has @, but the call has @",
+            word(index, 0),
+            Piece::Counted(formals, "formal"),
+            Piece::Counted(actuals, "actual"),
+        ),
+        hint: two(
+            "line @ has `@`",
+            Piece::Line(head),
+            Piece::Words(head, 0, usize::MAX),
+        ),
     }
 }
 
-/// What a formal is: `n` is a VAL INT.
-fn formal_text(alloc: Global, text: &Text<'_>, pair: &Pair) -> Result<Vec<u8>, AllocError> {
-    let head = text.words_at(pair.head);
-    let name = words_text(alloc, head, pair.formal, pair.formal.saturating_add(1))?;
-    let spelled = words_text(alloc, head, pair.spec.from, pair.spec.to)?;
-    let article = article(pair.spec.kind == Kind::Value, spelled.as_slice());
-    joined(
-        alloc,
-        &[
-            b"but the formal `".as_slice(),
-            name.as_slice(),
-            b"` is ".as_slice(),
-            article.as_bytes(),
-            spelled.as_slice(),
-        ],
-    )
-}
-
 /// An actual that does not fit its formal, and why.
-fn unfit(
-    alloc: Global,
-    text: &Text<'_>,
-    index: usize,
-    pair: &Pair,
-    is: &[u8],
-    hint: &[u8],
-) -> Result<Option<Finding>, AllocError> {
-    let words = text.words_at(index);
-    let said = words_text(
-        alloc,
-        words,
-        pair.actual,
-        expression_end(words, pair.actual),
-    )?;
-    let formal = formal_text(alloc, text, pair)?;
-    let wrong = joined(
-        alloc,
-        &[
-            b"`".as_slice(),
-            said.as_slice(),
-            b"` is ".as_slice(),
+fn unfit(text: &Text<'_>, pair: &Pair, is: Piece, hint: Sentence) -> Option<Told> {
+    let (head, spec) = (pair.head, pair.spec);
+    let end = expression_end(text.words_at(pair.line), pair.actual);
+    let says = match spec.kind {
+        Kind::Value => "`@` is @, but the formal `@` is a VAL @",
+        _ if begins_int(text.words_at(head), spec.from, spec.to) => {
+            "`@` is @, but the formal `@` is an @"
+        }
+        _ => "`@` is @, but the formal `@` is a @",
+    };
+    Some(Told {
+        line: pair.line,
+        at: pair.actual,
+        wrong: four(
+            says,
+            Piece::Words(pair.line, pair.actual, end),
             is,
-            b", ".as_slice(),
-            formal.as_slice(),
-        ],
-    )?;
-    let hint = joined(alloc, &[hint])?;
-    Ok(found_at(words, pair.actual, wrong, hint))
+            word(head, pair.formal),
+            Piece::Words(head, spec.from, spec.to),
+        ),
+        hint,
+    })
 }
 
 /// What the name of an actual is declared as, where the actual is a name with or without subscripts.
@@ -176,122 +101,66 @@ const OWN_TYPE: &str =
     "a protocol with a name is its own type, also where it has one part: use one name for both";
 
 /// An actual of a formal that is a channel.
-fn channel_actual(
-    alloc: Global,
-    text: &Text<'_>,
-    index: usize,
-    pair: &Pair,
-) -> Result<Option<Finding>, AllocError> {
+fn channel_actual(alloc: Global, text: &Text<'_>, pair: &Pair) -> Result<Option<Told>, AllocError> {
     let head = text.words_at(pair.head);
-    let Some(found) = named(text, index, pair.actual) else {
-        return unfit(
-            alloc,
-            text,
-            index,
-            pair,
-            b"no channel",
-            b"hand over the name of a channel",
-        );
+    let name_one = plain("hand over the name of a channel");
+    let Some(found) = named(text, pair.line, pair.actual) else {
+        return Ok(unfit(text, pair, Piece::Text("no channel"), name_one));
     };
-    let own = words_text(
-        alloc,
-        text.words_at(found.line),
-        found.spec.of,
-        found.spec.to,
-    )?;
-    let wanted = words_text(alloc, head, pair.spec.of, pair.spec.to)?;
-    let is = declared_text(alloc, text, &found)?;
+    let is = Piece::Declared(found);
     if found.spec.kind != Kind::Channel {
-        return unfit(
-            alloc,
-            text,
-            index,
-            pair,
-            is.as_slice(),
-            b"hand over the name of a channel",
-        );
+        return Ok(unfit(text, pair, is, name_one));
     }
-    let own_class = class_at(text.words_at(found.line), found.spec.of);
-    let is_named = own_class == Class::Name || class_at(head, pair.spec.of) == Class::Name;
-    if own.as_slice() != wanted.as_slice() && is_named {
-        return unfit(alloc, text, index, pair, is.as_slice(), OWN_TYPE.as_bytes());
+    let own = Piece::Words(found.line, found.spec.of, found.spec.to);
+    let wanted = Piece::Words(pair.head, pair.spec.of, pair.spec.to);
+    if !are_alike(alloc, text, own, wanted)? {
+        let own_class = class_at(text.words_at(found.line), found.spec.of);
+        let is_named = own_class == Class::Name || class_at(head, pair.spec.of) == Class::Name;
+        let hint = if is_named {
+            OWN_TYPE
+        } else {
+            "hand over a channel that carries what the formal does"
+        };
+        return Ok(unfit(text, pair, is, plain(hint)));
     }
-    if own.as_slice() != wanted.as_slice() {
-        let hint = b"hand over a channel that carries what the formal does";
-        return unfit(alloc, text, index, pair, is.as_slice(), hint);
-    }
-    let (_, subscripts) = behind_sizes(text.words_at(index), pair.actual.saturating_add(1));
+    let (_, subscripts) = behind_sizes(text.words_at(pair.line), pair.actual.saturating_add(1));
     if found.spec.sizes.saturating_sub(subscripts) == pair.spec.sizes {
         return Ok(None);
     }
+    let is = if subscripts == 0 {
+        is
+    } else {
+        Piece::Text("a part of an array")
+    };
     let hint = "write as many subscripts behind its name as leave the sizes of the formal";
-    if subscripts == 0 {
-        return unfit(alloc, text, index, pair, is.as_slice(), hint.as_bytes());
-    }
-    unfit(
-        alloc,
-        text,
-        index,
-        pair,
-        b"a part of an array",
-        hint.as_bytes(),
-    )
+    Ok(unfit(text, pair, is, plain(hint)))
 }
 
 /// An actual of a formal that is a variable or a value.
-fn value_actual(
-    alloc: Global,
-    text: &Text<'_>,
-    index: usize,
-    pair: &Pair,
-) -> Result<Option<Finding>, AllocError> {
-    let found = named(text, index, pair.actual);
+fn value_actual(text: &Text<'_>, pair: &Pair) -> Option<Told> {
+    let found = named(text, pair.line, pair.actual);
     let is_variable = pair.spec.kind == Kind::Variable;
     if found.is_none() && is_variable {
-        let hint = b"hand over a variable, or write VAL before the formal";
-        return unfit(alloc, text, index, pair, b"no variable", hint);
+        let hint = plain("hand over a variable, or write VAL before the formal");
+        return unfit(text, pair, Piece::Text("no variable"), hint);
     }
     if let Some(found) = found
         && found.spec.kind == Kind::Channel
     {
-        let is = declared_text(alloc, text, &found)?;
-        return unfit(
-            alloc,
-            text,
-            index,
-            pair,
-            is.as_slice(),
-            b"input from the channel first, and hand over what it gave",
-        );
+        let hint = plain("input from the channel first, and hand over what it gave");
+        return unfit(text, pair, Piece::Declared(found), hint);
     }
-    let (Some(wanted), Some(own)) = (
-        spelled_type(text.words_at(pair.head), pair.spec.from),
-        type_at(text, index, pair.actual),
-    ) else {
-        return Ok(None);
-    };
+    let wanted = spelled_type(text.words_at(pair.head), pair.spec.from)?;
+    let own = type_at(text, pair.line, pair.actual)?;
     if own == wanted {
-        return Ok(None);
+        return None;
     }
-    let is = type_text(alloc, text, index, pair.actual, own)?;
     let hint = match (own.sizes, wanted.sizes) {
-        (0, 0) if is_variable => joined(
-            alloc,
-            &[b"hand over a variable of the formal's type".as_slice()],
-        )?,
-        (0, 0) => conversion(
-            alloc,
-            text.words_at(index),
-            pair.actual,
-            own,
-            wanted.primitive,
-        )?,
-        _ => joined(
-            alloc,
-            &[b"actual and formal have the same number of dimensions".as_slice()],
-        )?,
+        (0, 0) if is_variable => plain("hand over a variable of the formal's type"),
+        (0, 0) => conversion(text, pair.line, pair.actual, own, wanted.primitive),
+        _ => plain("actual and formal have the same number of dimensions"),
     };
-    unfit(alloc, text, index, pair, is.as_slice(), hint.as_slice())
+    unfit(text, pair, Piece::Typed(pair.line, pair.actual, own), hint)
 }
 
 /// What does not fit in a line that is refused for its actuals; nothing where the words do not tell.
@@ -299,12 +168,9 @@ pub(crate) fn call_finding(
     alloc: Global,
     text: &Text<'_>,
     index: usize,
-) -> Result<Option<Finding>, AllocError> {
+) -> Result<Option<Told>, AllocError> {
     let words = text.words_at(index);
-    let Some(name) = words.first() else {
-        return Ok(None);
-    };
-    let Some(found) = declaration_of(text, index, name.bytes) else {
+    let Some(found) = declaration_of(text, index, bytes_at(words, 0)) else {
         return Ok(None);
     };
     if found.spec.kind != Kind::Procedure || class_at(words, 1) != Class::OpenParen {
@@ -314,22 +180,23 @@ pub(crate) fn call_finding(
     let formals = formal_count(head);
     let actuals = actual_count(words, 1);
     if formals != actuals {
-        return unequal(alloc, text, index, found.line, formals, actuals);
+        return Ok(Some(unequal(words, index, found.line, formals, actuals)));
     }
     for number in 0..formals {
         let Some((formal, spec)) = formal_numbered(head, number) else {
             return Ok(None);
         };
         let pair = Pair {
+            line: index,
             head: found.line,
             formal,
             spec,
             actual: actual_at(words, 1, number),
         };
         let unfit = if spec.kind == Kind::Channel {
-            channel_actual(alloc, text, index, &pair)?
+            channel_actual(alloc, text, &pair)?
         } else {
-            value_actual(alloc, text, index, &pair)?
+            value_actual(text, &pair)
         };
         if unfit.is_some() {
             return Ok(unfit);

@@ -179,19 +179,44 @@ fn listed(table: &[(&[u8], Class)], word: &[u8]) -> Option<Class> {
     None
 }
 
-/// The class of a word of letters, digits and dots.
-pub(crate) fn class_of(word: &[u8]) -> Class {
-    for table in [
+/// The tables of reserved words.
+fn reserved_words() -> [&'static [(&'static [u8], Class)]; 4] {
+    [
         OPERATORS.as_slice(),
         CONSTRUCTS.as_slice(),
         DECLARING.as_slice(),
         RESERVED.as_slice(),
-    ] {
+    ]
+}
+
+/// The class of a word of letters, digits and dots.
+pub(crate) fn class_of(word: &[u8]) -> Class {
+    for table in reserved_words() {
         if let Some(class) = listed(table, word) {
             return class;
         }
     }
     Class::Name
+}
+
+/// The spelling in a table that a word is in capitals.
+fn spelled_like(table: &[(&'static [u8], Class)], word: &[u8]) -> Option<&'static [u8]> {
+    for (spelling, _class) in table {
+        if spelling.eq_ignore_ascii_case(word) {
+            return Some(*spelling);
+        }
+    }
+    None
+}
+
+/// The reserved word that a word is in capitals.
+pub(crate) fn reserved_like(word: &[u8]) -> Option<&'static [u8]> {
+    for table in reserved_words() {
+        if let Some(spelling) = spelled_like(table, word) {
+            return Some(spelling);
+        }
+    }
+    None
 }
 
 /// The class of a symbol of two bytes.

@@ -1,7 +1,7 @@
 //! What is found out about a refusal: a place, what is wrong there, and how it is mended.
 
-ghost use Rattle.std.specs.Prelude.{◌≡◌, ◌≤◌, ◌+◌, ◌⊎◌, IfOk, length};
-ghost use Rattle.occ_explain.specs.Causes.{IsUnderHeading, TellsCause, cause_of};
+ghost use Rattle.std.specs.Prelude.{◌≡◌, ◌≤◌, ◌+◌, IfOk, length};
+ghost use Rattle.occ_explain.specs.Causes.{IsCaused, TellsCause, cause_of};
 ghost use mathlib.Core.List.{IsPrefix};
 
 use crate::breaks::break_finding;
@@ -15,13 +15,14 @@ use crate::large::large_finding;
 use crate::levels::{level_finding, missing_finding};
 use crate::messages::{message_finding, tag_finding};
 use crate::mismatch::mismatch;
-use crate::names::name_finding;
+use crate::names::{name_finding, shared_finding};
 use crate::odd::odd_finding;
 use crate::refusal::Refusal;
-use crate::saying::{between, leaving_text};
+use crate::saying::leaving_sentence;
 use crate::scan::{Text, Word};
-use crate::types::types_text;
-use crate::walk::{bytes_at, class_at, first_leaving};
+use crate::sentence::{Piece, Told, one, plain, word};
+use crate::telling::{piece_text, written};
+use crate::walk::{class_at, first_leaving};
 use std::alloc::{AllocError, Global};
 
 /// A place behind so many bytes of a physical line.
@@ -66,6 +67,11 @@ pub(crate) fn index_of(words: &[Word<'_>], class: Class) -> usize {
     words.len()
 }
 
+/// The sign of an output or an input; the number of words where a line has none.
+pub(crate) fn sign_of(words: &[Word<'_>]) -> usize {
+    index_of(words, Class::Exclamation).min(index_of(words, Class::Question))
+}
+
 /// What is found out about a refusal of a text.
 pub(crate) fn finding_of(
     alloc: Global,
@@ -75,34 +81,31 @@ pub(crate) fn finding_of(
     ensures cause { IfOk result (λ f. TellsCause refusal.now.number f.wrong.items) }
     ensures some { IfOk result (λ f. 1 ≤ length f.wrong.items) }
 {
-    let Some(index) = line_index(text, refusal) else {
-        return plain(
-            alloc,
-            Spot {
-                line: refusal.line,
-                before: 0,
-            },
-            refusal.number,
-            b"",
-        );
+    let Some(line) = line_index(text, refusal) else {
+        let spot = Spot {
+            line: refusal.line,
+            before: 0,
+        };
+        return caused(alloc, spot, refusal.number, b"");
     };
     match refusal.number {
-        2 | 4 | 5 | 6 => odd_finding(alloc, text.words_at(index), refusal.number),
-        20 => unexpected(alloc, text, index),
-        21 => level_finding(alloc, text, index),
-        22 => missing_finding(alloc, text, index),
-        30 | 31 | 50 | 51 | 52 => name_finding(alloc, text, index, refusal),
-        _ => headed(alloc, text, index, refusal.number),
+        2 | 4 | 5 | 6 => closer(
+            alloc,
+            text,
+            refusal,
+            &odd_finding(text, line, refusal.number),
+        ),
+        20 => unexpected_finding(alloc, text, line, refusal),
+        21 => closer(alloc, text, refusal, &level_finding(text, line)),
+        22 => closer(alloc, text, refusal, &missing_finding(text, line)),
+        30 | 31 => closer(alloc, text, refusal, &name_finding(text, line, refusal)),
+        50 | 51 | 52 => shared_finding(alloc, text, line, refusal),
+        _ => headed(alloc, text, line, refusal),
     }
 }
 
 /// The cause of a refusal, and a hint.
-pub(crate) fn plain(
-    alloc: Global,
-    spot: Spot,
-    number: u32,
-    hint: &[u8],
-) -> Result<Finding, AllocError>
+fn caused(alloc: Global, spot: Spot, number: u32, hint: &[u8]) -> Result<Finding, AllocError>
     ensures cause { IfOk result (λ f. f.wrong.items ≡ cause_of number) }
     ensures some { IfOk result (λ f. 1 ≤ length f.wrong.items) }
 {
@@ -111,19 +114,21 @@ pub(crate) fn plain(
     Ok(Finding { spot, wrong, hint })
 }
 
-/// A finding whose text has a word between two others.
-pub(crate) fn told_as(
+/// What is told in place of the cause; the cause where it says nothing.
+pub(crate) fn closer(
     alloc: Global,
-    spot: Spot,
-    before: &str,
-    word: &[u8],
-    after: &str,
-    hint: &[u8],
+    text: &Text<'_>,
+    refusal: &Refusal<'_>,
+    told: &Told,
 ) -> Result<Finding, AllocError>
-    ensures { IfOk result (λ f. length before.now + length after.now ≤ length f.wrong.items) }
+    ensures { IfOk result (λ f. 1 ≤ length f.wrong.items) }
 {
-    let wrong = between(alloc, before, word, after)?;
-    let hint = Vec::from_slice(alloc, hint)?;
+    let spot = spot_at(text.words_at(told.line), told.at);
+    let hint = written(alloc, text, refusal.name, &told.hint)?;
+    let wrong = written(alloc, text, refusal.name, &told.wrong)?;
+    if wrong.is_empty() {
+        return caused(alloc, spot, refusal.number, hint.as_slice());
+    }
     Ok(Finding { spot, wrong, hint })
 }
 
@@ -153,66 +158,71 @@ fn unbroken(class: Class) -> &'static str {
 }
 
 /// A line that leaves the grammar.
-fn unexpected(alloc: Global, text: &Text<'_>, index: usize) -> Result<Finding, AllocError>
-    ensures { IfOk result (λ f. 1 ≤ length f.wrong.items) }
-{
-    let words = text.words_at(index);
-    let start = start_of(text, index);
+fn unexpected(alloc: Global, text: &Text<'_>, line: usize) -> Result<Told, AllocError> {
+    let words = text.words_at(line);
+    let start = start_of(text, line);
     let Some(mut leaving) = first_leaving(alloc, words, start)? else {
-        return plain(alloc, spot_at(words, 0), 20, b"");
+        return Ok(Told {
+            line,
+            at: 0,
+            wrong: plain(cause_of(20)),
+            hint: plain(""),
+        });
     };
     if leaving.at == 0 {
         leaving.wanted = Some(start);
     }
     if let Some(at) = break_before(words, leaving.at) {
-        return told_as(
-            alloc,
-            spot_at(words, at),
-            "`",
-            bytes_at(words, at),
-            "` at the end of a line, which then goes on in the next one",
-            unbroken(class_at(words, at)).as_bytes(),
-        );
+        return Ok(Told {
+            line,
+            at,
+            wrong: one(
+                "`@` at the end of a line, which then goes on in the next one",
+                word(line, at),
+            ),
+            hint: plain(unbroken(class_at(words, at))),
+        });
     }
-    let wrong = leaving_text(alloc, words, &leaving)?;
     let met = Met {
+        line,
         words,
         start,
         leaving,
     };
-    let hint = met.hint_text(alloc)?;
-    Ok(Finding {
-        spot: spot_at(words, leaving.at),
-        wrong,
-        hint,
+    Ok(Told {
+        line,
+        at: leaving.at,
+        wrong: leaving_sentence(line, &leaving, class_at(words, leaving.at)),
+        hint: met.advice(),
     })
+}
+
+/// What is told of a line that leaves the grammar.
+fn unexpected_finding(
+    alloc: Global,
+    text: &Text<'_>,
+    line: usize,
+    refusal: &Refusal<'_>,
+) -> Result<Finding, AllocError>
+    ensures { IfOk result (λ f. 1 ≤ length f.wrong.items) }
+{
+    let told = unexpected(alloc, text, line)?;
+    closer(alloc, text, refusal, &told)
 }
 
 /// Where a refusal of types, kinds, constants or actuals points to, as far as the words tell.
 fn typed_at(words: &[Word<'_>], number: u32) -> usize {
-    let class = match number {
-        33 => Class::Assign,
-        34 | 35 => Class::For,
-        36 => Class::OpenBracket,
-        39 | 40 => Class::OpenParen,
-        37 | 38 => return sent_at(words),
-        42 => Class::Proc,
+    let sign = match number {
+        33 => index_of(words, Class::Assign),
+        34 | 35 => index_of(words, Class::For),
+        36 => index_of(words, Class::OpenBracket),
+        37 | 38 => sign_of(words),
+        39 | 40 => index_of(words, Class::OpenParen),
+        42 => index_of(words, Class::Proc),
         _ => return 0,
     };
-    let at = index_of(words, class);
-    if at < words.len() {
-        at.saturating_add(1)
-    } else {
-        0
-    }
-}
-
-/// The first item of an output or an input.
-fn sent_at(words: &[Word<'_>]) -> usize {
-    let output = index_of(words, Class::Exclamation);
-    let at = output.min(index_of(words, Class::Question));
-    if at < words.len() {
-        at.saturating_add(1)
+    if sign < words.len() {
+        sign.saturating_add(1)
     } else {
         0
     }
@@ -235,43 +245,49 @@ fn typed_hint(number: u32) -> &'static str {
 fn looked_up(
     alloc: Global,
     text: &Text<'_>,
-    index: usize,
+    line: usize,
     number: u32,
-) -> Result<Option<Finding>, AllocError> {
+) -> Result<Option<Told>, AllocError> {
     match number {
-        7 => break_finding(alloc, text, index),
-        32 => kind_finding(alloc, text, index),
-        33 => mismatch(alloc, text, index),
-        34 => constant_finding(alloc, text, index),
-        36 => subscript_finding(alloc, text, index),
-        37 => message_finding(alloc, text, index),
-        38 => tag_finding(alloc, text, index),
-        39 => call_finding(alloc, text, index),
-        42 => main_finding(alloc, text, index),
+        7 => Ok(break_finding(text, line)),
+        32 => Ok(kind_finding(text, line)),
+        33 => mismatch(alloc, text, line),
+        34 => Ok(constant_finding(text, line)),
+        36 => Ok(subscript_finding(text, line)),
+        37 => message_finding(alloc, text, line),
+        38 => Ok(tag_finding(text, line)),
+        39 => call_finding(alloc, text, line),
+        42 => Ok(Some(main_finding(text, line))),
         43 => large_finding(alloc, text),
         _ => Ok(None),
     }
 }
 
 /// A refusal whose cause is told with what is found out of it, behind a heading, or else by itself.
-fn headed(alloc: Global, text: &Text<'_>, index: usize, number: u32) -> Result<Finding, AllocError>
-    ensures cause { IfOk result (λ f. (f.wrong.items ≡ cause_of number)
-        ⊎ IsUnderHeading number f.wrong.items) }
+fn headed(
+    alloc: Global,
+    text: &Text<'_>,
+    line: usize,
+    refusal: &Refusal<'_>,
+) -> Result<Finding, AllocError>
+    ensures cause { IfOk result (λ f. IsCaused refusal.now.number f.wrong.items) }
     ensures some { IfOk result (λ f. 1 ≤ length f.wrong.items) }
 {
-    let heading = heading_of(number);
+    let heading = heading_of(refusal.number);
     if !heading.is_empty()
-        && let Some(found) = looked_up(alloc, text, index, number)?
+        && let Some(told) = looked_up(alloc, text, line, refusal.number)?
     {
+        let found = closer(alloc, text, refusal, &told)?;
         return with_heading(alloc, heading, found);
     }
-    typed(alloc, text, index, number)
+    typed(alloc, text, line, refusal.number)
 }
 
 /// A finding behind a heading.
 fn with_heading(alloc: Global, heading: &str, found: Finding) -> Result<Finding, AllocError>
-    ensures { IfOk result (λ f. IsPrefix heading.now f.wrong.items
-        × (length heading.now ≤ length f.wrong.items)) }
+    ensures begun { IfOk result (λ f. IsPrefix heading.now f.wrong.items) }
+    ensures longer { IfOk result (λ f. length heading.now + length found.wrong.items
+        ≤ length f.wrong.items) }
 {
     let mut wrong = Vec::from_slice(alloc, heading.as_bytes())?;
     wrong.extend_from_slice(found.wrong.as_slice())?;
@@ -283,15 +299,17 @@ fn with_heading(alloc: Global, heading: &str, found: Finding) -> Result<Finding,
 }
 
 /// A refusal of types, kinds, constants or actuals.
-fn typed(alloc: Global, text: &Text<'_>, index: usize, number: u32) -> Result<Finding, AllocError>
+fn typed(alloc: Global, text: &Text<'_>, line: usize, number: u32) -> Result<Finding, AllocError>
     ensures cause { IfOk result (λ f. f.wrong.items ≡ cause_of number) }
     ensures some { IfOk result (λ f. 1 ≤ length f.wrong.items) }
 {
-    let words = text.words_at(index);
+    let words = text.words_at(line);
     let spot = spot_at(words, typed_at(words, number));
-    if !matches!(number, 32 | 33 | 37 | 39) {
-        return plain(alloc, spot, number, typed_hint(number).as_bytes());
-    }
-    let types = types_text(alloc, text, index)?;
-    plain(alloc, spot, number, types.as_slice())
+    let hint = if matches!(number, 32 | 33 | 37 | 39) {
+        Piece::Types(line)
+    } else {
+        Piece::Text(typed_hint(number))
+    };
+    let hint = piece_text(alloc, text, hint)?;
+    caused(alloc, spot, number, hint.as_slice())
 }

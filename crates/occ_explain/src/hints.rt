@@ -1,12 +1,12 @@
 //! How a line that leaves the grammar is mended: hints for what people write who know other languages, or the rest of
 //! occam 2.
 
-use crate::class::{Class, class_of};
+use crate::class::{Class, class_of, reserved_like};
 use crate::grammar::Part;
-use crate::saying::{between, is_operator, joined, told};
+use crate::saying::is_operator;
 use crate::scan::Word;
-use crate::walk::{Leaving, class_at};
-use std::alloc::{AllocError, Global};
+use crate::sentence::{Piece, Sentence, four, one, plain, two, word};
+use crate::walk::{Leaving, bytes_at, class_at};
 
 /// Something that has to hold of a place where a line leaves the grammar.
 pub(crate) enum When {
@@ -349,6 +349,7 @@ const NO_PRECEDENCE: &str = "operators have no precedence: write (a + b) * c or 
 /// A place where a line leaves the grammar.
 #[derive(Clone, Copy)]
 pub(crate) struct Met<'a> {
+    pub(crate) line: usize,
     pub(crate) words: &'a [Word<'a>],
     pub(crate) start: Part,
     pub(crate) leaving: Leaving,
@@ -425,14 +426,6 @@ impl Met<'_> {
         }
     }
 
-    /// The bytes of a word, none where there is none.
-    fn bytes_at(&self, at: usize) -> &[u8] {
-        match self.words.get(at) {
-            Some(word) => told(word.bytes),
-            None => b"",
-        }
-    }
-
     /// Whether AND or OR is met.
     fn meets_and_or(&self) -> bool {
         matches!(
@@ -469,100 +462,59 @@ impl Met<'_> {
     }
 
     /// Both ways to put brackets where an operator follows an expression of single words.
-    fn bracketed(&self, alloc: Global) -> Result<Vec<u8>, AllocError> {
-        let at = self.leaving.at;
-        let a = self.bytes_at(at.saturating_sub(3));
-        let first = self.bytes_at(at.saturating_sub(2));
-        let b = self.bytes_at(at.saturating_sub(1));
-        let second = self.bytes_at(at);
-        let c = self.bytes_at(at.saturating_add(1));
-        let space = b" ".as_slice();
-        joined(
-            alloc,
-            &[
-                b"operators have no precedence: write (".as_slice(),
-                a,
-                space,
-                first,
-                space,
-                b,
-                b") ".as_slice(),
-                second,
-                space,
-                c,
-                b" or ".as_slice(),
-                a,
-                space,
-                first,
-                b" (".as_slice(),
-                b,
-                space,
-                second,
-                space,
-                c,
-                b")".as_slice(),
-            ],
-        )
-    }
-
-    /// How a sign is written that stands behind an operator.
-    fn signed(&self, alloc: Global) -> Result<Vec<u8>, AllocError> {
-        let at = self.leaving.at;
-        let operand = self.bytes_at(at.saturating_add(1));
-        joined(
-            alloc,
-            &[
-                b"put brackets round a sign behind an operator: `".as_slice(),
-                self.bytes_at(at.saturating_sub(1)),
-                b" (-".as_slice(),
-                operand,
-                b")`".as_slice(),
-            ],
+    fn bracketed(&self) -> Sentence {
+        let (line, at) = (self.line, self.leaving.at);
+        let first = at.saturating_sub(3);
+        let end = at.saturating_add(2);
+        four(
+            "operators have no precedence: write (@) @ or @ (@)",
+            Piece::Spaced(line, first, at),
+            Piece::Spaced(line, at, end),
+            Piece::Spaced(line, first, at.saturating_sub(1)),
+            Piece::Spaced(line, at.saturating_sub(1), end),
         )
     }
 
     /// The reserved word that a name of the line is in small letters: the name that is met, the one before it, or the first.
-    fn small_letters(&self, alloc: Global) -> Result<Option<Vec<u8>>, AllocError> {
+    fn small_letters(&self) -> Option<&'static [u8]> {
         for at in [self.leaving.at, self.leaving.at.saturating_sub(1), 0] {
-            if class_at(self.words, at) != Class::Name {
-                continue;
-            }
-            let capitals = in_capitals(alloc, self.bytes_at(at))?;
-            if class_of(capitals.as_slice()) != Class::Name {
-                return Ok(Some(capitals));
+            if class_at(self.words, at) == Class::Name {
+                let reserved = reserved_like(bytes_at(self.words, at));
+                if reserved.is_some() {
+                    return reserved;
+                }
             }
         }
-        Ok(None)
+        None
     }
 
     /// Whether a reserved word stands where a new name is wanted.
     fn names_reserved(&self) -> bool {
         self.leaving.wanted == Some(Part::NewName)
-            && class_of(self.bytes_at(self.leaving.at)) != Class::Name
+            && class_of(bytes_at(self.words, self.leaving.at)) != Class::Name
     }
 
-    /// The hint for this place, and nothing where there is none.
-    pub(crate) fn hint_text(&self, alloc: Global) -> Result<Vec<u8>, AllocError> {
-        if let Some(capitals) = self.small_letters(alloc)? {
-            return between(
-                alloc,
-                "write reserved words in capitals: ",
-                capitals.as_slice(),
-                "",
-            );
+    /// The hint for this place; it says nothing where there is none.
+    pub(crate) fn advice(&self) -> Sentence {
+        let (line, at) = (self.line, self.leaving.at);
+        if let Some(reserved) = self.small_letters() {
+            return in_capitals(reserved);
         }
         let listed = self.listed_hint();
         if listed.is_empty() && self.names_reserved() {
-            let word = self.bytes_at(self.leaving.at);
-            return between(alloc, "`", word, "` is a reserved word: use another name");
+            return one("`@` is a reserved word: use another name", word(line, at));
         }
         if self.joins_single_operands() && listed.starts_with("operators have") {
-            return self.bracketed(alloc);
+            return self.bracketed();
         }
-        if listed == SIGNED && self.leaving.at > 0 {
-            return self.signed(alloc);
+        if listed == SIGNED && at > 0 {
+            return two(
+                "put brackets round a sign behind an operator: `@ (-@)`",
+                word(line, at - 1),
+                word(line, at.saturating_add(1)),
+            );
         }
-        between(alloc, listed, b"", "")
+        plain(listed)
     }
 }
 
@@ -574,11 +526,10 @@ fn is_single(class: Class) -> bool {
     )
 }
 
-/// A name in capitals.
-pub(crate) fn in_capitals(alloc: Global, name: &[u8]) -> Result<Vec<u8>, AllocError> {
-    let mut capitals = Vec::new(alloc);
-    for byte in name {
-        capitals.push(byte.to_ascii_uppercase())?;
-    }
-    Ok(capitals)
+/// What to do about a reserved word in small letters.
+pub(crate) fn in_capitals(reserved: &'static [u8]) -> Sentence {
+    one(
+        "write reserved words in capitals: @",
+        Piece::Reserved(reserved),
+    )
 }

@@ -2,16 +2,14 @@
 
 use crate::class::Class;
 use crate::context::start_of;
-use crate::finding::{Finding, index_of};
+use crate::finding::index_of;
 use crate::grammar::Part;
-use crate::mismatch::found_at;
 use crate::names::other_main;
-use crate::saying::{between, joined};
 use crate::scan::{Text, Word};
 use crate::scope::{Declared, Kind, declaration_of, formal_count, formal_numbered, index_at};
-use crate::types::{declared_text, operand_begin, words_text};
+use crate::sentence::{Piece, Sentence, Told, one, plain, three, two, word};
+use crate::types::operand_begin;
 use crate::walk::{bytes_at, class_at};
-use std::alloc::{AllocError, Global};
 
 /// What a name has to be at its place.
 #[derive(Clone, Copy, PartialEq)]
@@ -163,35 +161,31 @@ fn refused_role(role: Role, kind: Kind) -> Option<(&'static str, &'static str)> 
 }
 
 /// A name of a line, what it is declared as, and something of it.
-fn said_of(
-    alloc: Global,
-    text: &Text<'_>,
-    name: &[u8],
-    found: &Declared,
-    says: &str,
-) -> Result<Vec<u8>, AllocError> {
-    let told = declared_text(alloc, text, found)?;
-    joined(
-        alloc,
-        &[
-            b"`".as_slice(),
-            name,
-            b"` is ".as_slice(),
-            told.as_slice(),
-            says.as_bytes(),
-        ],
-    )
+fn told_of(
+    index: usize,
+    at: usize,
+    found: Declared,
+    says: &'static str,
+    hint: &'static str,
+) -> Option<Told> {
+    Some(Told {
+        line: index,
+        at,
+        wrong: three(
+            "`@` is @@",
+            Piece::Word(index, at),
+            Piece::Declared(found),
+            Piece::Text(says),
+        ),
+        hint: plain(hint),
+    })
 }
 
 /// A value or an index that is handed over to a formal that may be set.
-fn handed_over(
-    alloc: Global,
-    text: &Text<'_>,
-    index: usize,
-) -> Result<Option<Finding>, AllocError> {
+fn handed_over(text: &Text<'_>, index: usize) -> Option<Told> {
     let words = text.words_at(index);
     if class_at(words, 0) != Class::Name || class_at(words, 1) != Class::OpenParen {
-        return Ok(None);
+        return None;
     }
     for at in 2..words.len() {
         let word = words[at];
@@ -200,32 +194,28 @@ fn handed_over(
             && matches!(found.spec.kind, Kind::Index | Kind::Value)
             && depth_at(words, at) == 1
         {
-            let says = ", and its formal is a variable, which the PROC may assign";
-            let wrong = said_of(alloc, text, word.bytes, &found, says)?;
-            let hint = joined(
-                alloc,
-                &[b"write VAL before the formal, or hand over a variable".as_slice()],
-            )?;
-            return Ok(found_at(words, at, wrong, hint));
+            return told_of(
+                index,
+                at,
+                found,
+                ", and its formal is a variable, which the PROC may assign",
+                "write VAL before the formal, or hand over a variable",
+            );
         }
     }
-    Ok(None)
+    None
 }
 
 /// What does not fit in a line that is refused for the kind of a name; nothing where the words do not tell.
-pub(crate) fn kind_finding(
-    alloc: Global,
-    text: &Text<'_>,
-    index: usize,
-) -> Result<Option<Finding>, AllocError> {
+pub(crate) fn kind_finding(text: &Text<'_>, index: usize) -> Option<Told> {
     let words = text.words_at(index);
     if class_at(words, 0) == Class::Else {
-        let wrong = joined(alloc, &[b"a second ELSE in one CASE".as_slice()])?;
-        let hint = joined(
-            alloc,
-            &[b"a CASE has one ELSE, for all values without an option".as_slice()],
-        )?;
-        return Ok(found_at(words, 0, wrong, hint));
+        return Some(Told {
+            line: index,
+            at: 0,
+            wrong: plain("a second ELSE in one CASE"),
+            hint: plain("a CASE has one ELSE, for all values without an option"),
+        });
     }
     for at in 0..words.len() {
         let word = words[at];
@@ -235,12 +225,10 @@ pub(crate) fn kind_finding(
             && let Some((says, hint)) = refused_role(role_of(text, index, at), found.spec.kind)
             && !(is_sized && found.spec.kind == Kind::Channel)
         {
-            let wrong = said_of(alloc, text, word.bytes, &found, says)?;
-            let hint = joined(alloc, &[hint.as_bytes()])?;
-            return Ok(found_at(words, at, wrong, hint));
+            return told_of(index, at, found, says, hint);
         }
     }
-    handed_over(alloc, text, index)
+    handed_over(text, index)
 }
 
 /// Where a constant is wanted in a line, and what for.
@@ -262,11 +250,7 @@ fn constant_place(words: &[Word<'_>]) -> (usize, &'static str) {
 }
 
 /// A name that stands for no constant where one is wanted.
-pub(crate) fn constant_finding(
-    alloc: Global,
-    text: &Text<'_>,
-    index: usize,
-) -> Result<Option<Finding>, AllocError> {
+pub(crate) fn constant_finding(text: &Text<'_>, index: usize) -> Option<Told> {
     let words = text.words_at(index);
     let (from, hint) = constant_place(words);
     for at in from..words.len() {
@@ -275,12 +259,10 @@ pub(crate) fn constant_finding(
             && let Some(found) = declaration_of(text, index, word.bytes)
             && found.spec.kind == Kind::Variable
         {
-            let wrong = said_of(alloc, text, word.bytes, &found, ", and may change")?;
-            let hint = joined(alloc, &[hint.as_bytes()])?;
-            return Ok(found_at(words, at, wrong, hint));
+            return told_of(index, at, found, ", and may change", hint);
         }
     }
-    Ok(None)
+    None
 }
 
 /// The number that stands alone in brackets at a place.
@@ -296,27 +278,30 @@ fn bracketed<'a>(words: &[Word<'a>], at: usize) -> Option<&'a [u8]> {
 }
 
 /// A subscript that is outside the size of its array.
-pub(crate) fn subscript_finding(
-    alloc: Global,
-    text: &Text<'_>,
-    index: usize,
-) -> Result<Option<Finding>, AllocError> {
+pub(crate) fn subscript_finding(text: &Text<'_>, index: usize) -> Option<Told> {
     let words = text.words_at(index);
     for at in 0..words.len() {
-        let word = words[at];
+        let name = words[at];
         let place = at.saturating_add(1);
-        if word.class == Class::Name
-            && let Some(found) = declaration_of(text, index, word.bytes)
+        if name.class == Class::Name
+            && let Some(found) = declaration_of(text, index, name.bytes)
             && let Some(size) = bracketed(text.words_at(found.line), found.spec.from)
             && let Some(subscript) = bracketed(words, place)
             && is_at_least(subscript, size)
         {
-            let wrong = said_of(alloc, text, word.bytes, &found, "")?;
-            let hint = between(alloc, "its first subscript is from 0 to below ", size, "")?;
-            return Ok(found_at(words, place.saturating_add(1), wrong, hint));
+            let size_at = found.spec.from.saturating_add(1);
+            return Some(Told {
+                line: index,
+                at: place.saturating_add(1),
+                wrong: two("`@` is @", Piece::Word(index, at), Piece::Declared(found)),
+                hint: one(
+                    "its first subscript is from 0 to below @",
+                    word(found.line, size_at),
+                ),
+            });
         }
     }
-    Ok(None)
+    None
 }
 
 /// Digits as a number, as far as 64 bits go.
@@ -353,67 +338,63 @@ fn is_byte_channel(words: &[Word<'_>], number: usize) -> bool {
 }
 
 /// What to do about a last PROC that is no main process.
-fn main_hint(alloc: Global, text: &Text<'_>, index: usize) -> Result<Vec<u8>, AllocError> {
+fn main_hint(text: &Text<'_>, index: usize) -> Sentence {
     if other_main(text, index).is_some() {
-        let name = words_text(alloc, text.words_at(index), 1, 2)?;
-        return joined(
-            alloc,
-            &[
-                b"the last PROC is the main process: move `".as_slice(),
-                name.as_slice(),
-                b"` above `main`".as_slice(),
-            ],
-        );
+        one(
+            "the last PROC is the main process: move `@` above `main`",
+            word(index, 1),
+        )
+    } else {
+        plain(
+            "the main process comes last, with one to three formals: (CHAN OF BYTE keyboard, screen, error)",
+        )
     }
-    let hint =
-        b"the main process comes last, with one to three formals: (CHAN OF BYTE keyboard, screen, error)";
-    joined(alloc, &[hint.as_slice()])
 }
 
 /// The last PROC, which is no main process.
-pub(crate) fn main_finding(
-    alloc: Global,
-    text: &Text<'_>,
-    index: usize,
-) -> Result<Option<Finding>, AllocError> {
+pub(crate) fn main_finding(text: &Text<'_>, index: usize) -> Told {
     let words = text.words_at(index);
-    let hint = main_hint(alloc, text, index)?;
+    let hint = main_hint(text, index);
     if class_at(words, 0) != Class::Proc {
-        let wrong = joined(alloc, &[b"there is no PROC".as_slice()])?;
-        return Ok(found_at(words, 0, wrong, hint));
+        return Told {
+            line: index,
+            at: 0,
+            wrong: plain("there is no PROC"),
+            hint,
+        };
     }
-    let name = words_text(alloc, words, 1, 2)?;
     let count = formal_count(words);
     for number in 0..count {
         if !is_byte_channel(words, number)
             && let Some((at, spec)) = formal_numbered(words, number)
         {
-            let formal = words_text(alloc, words, at, at.saturating_add(1))?;
             let found = Declared {
                 line: index,
                 at,
                 spec,
             };
-            let kind = declared_text(alloc, text, &found)?;
-            let wrong = joined(
-                alloc,
-                &[
-                    b"the last PROC, `".as_slice(),
-                    name.as_slice(),
-                    b"`, has the formal `".as_slice(),
-                    formal.as_slice(),
-                    b"`, which is ".as_slice(),
-                    kind.as_slice(),
-                ],
-            )?;
-            return Ok(found_at(words, at, wrong, hint));
+            return Told {
+                line: index,
+                at,
+                wrong: three(
+                    "the last PROC, `@`, has the formal `@`, which is @",
+                    word(index, 1),
+                    word(index, at),
+                    Piece::Declared(found),
+                ),
+                hint,
+            };
         }
     }
     let says = if count == 0 {
-        "`, has no formals"
+        "the last PROC, `@`, has no formals"
     } else {
-        "`, has more than three formals"
+        "the last PROC, `@`, has more than three formals"
     };
-    let wrong = between(alloc, "the last PROC, `", name.as_slice(), says)?;
-    Ok(found_at(words, 1, wrong, hint))
+    Told {
+        line: index,
+        at: 1,
+        wrong: one(says, word(index, 1)),
+        hint,
+    }
 }

@@ -2,13 +2,12 @@
 
 use crate::class::Class;
 use crate::context::start_of;
-use crate::finding::{Finding, index_of};
+use crate::finding::index_of;
 use crate::grammar::Part;
 use crate::kinds::number_of;
-use crate::mismatch::found_at;
-use crate::saying::joined;
 use crate::scan::{Text, Word};
 use crate::scope::{Kind, behind_bracket, declaration_of, index_at, spec_at};
+use crate::sentence::{Piece, Told, four, plain, two};
 use crate::walk::class_at;
 use std::alloc::{AllocError, Global};
 
@@ -287,29 +286,73 @@ fn main_tally(alloc: Global, text: &Text<'_>) -> Result<Option<Tally>, AllocErro
     }
 }
 
-/// A count that passes its limit.
-fn passed(
-    alloc: Global,
-    text: &Text<'_>,
+/// What is counted: so many, with those that no line makes, the most that are allowed, what they are, and how there are fewer of them.
+#[derive(Clone, Copy)]
+struct Limit {
     count: Count,
     more: u64,
     most: u64,
-    says: &str,
-    hint: &str,
-) -> Result<Option<Finding>, AllocError> {
-    let least = count.least.saturating_add(more);
-    if least <= most {
-        return Ok(None);
+    says: &'static str,
+    hint: &'static str,
+}
+
+/// The limits, by their numbers.
+fn limit_of(tally: &Tally, number: u32) -> Limit {
+    let calls =
+        "each call, and each copy of a replicated PAR, counts its own: make the arrays smaller, or the copies fewer";
+    match number {
+        0 => Limit {
+            count: tally.cells,
+            more: 0,
+            most: 1_048_576,
+            says: "cells of variables and arrays",
+            hint: calls,
+        },
+        1 => Limit {
+            count: tally.channels,
+            more: 3,
+            most: 4096,
+            says: "channels",
+            hint: calls,
+        },
+        2 => Limit {
+            count: tally.processes,
+            more: 1,
+            most: 4096,
+            says: "processes",
+            hint: "each branch of a PAR is a process: make the count of a replicated PAR smaller",
+        },
+        _ => Limit {
+            count: tally.nodes,
+            more: 0,
+            most: 100_000,
+            says: "nodes of the unfolded program",
+            hint: "each call, and each copy of a replicated PAR, is unfolded where it stands: make the copies fewer, or loop within one",
+        },
     }
-    let number = text.number_at(count.line);
-    let counted = format!(in alloc; "at least {least} ")?;
-    let limit = format!(in alloc; ", of which line {number} makes most; {most} are allowed")?;
-    let wrong = joined(
-        alloc,
-        &[counted.as_bytes(), says.as_bytes(), limit.as_bytes()],
-    )?;
-    let hint = joined(alloc, &[hint.as_bytes()])?;
-    Ok(found_at(text.words_at(count.line), 0, wrong, hint))
+}
+
+/// The first count that passes its limit.
+fn passed(tally: &Tally) -> Option<Told> {
+    for number in 0..4 {
+        let limit = limit_of(tally, number);
+        let least = limit.count.least.saturating_add(limit.more);
+        if least > limit.most {
+            return Some(Told {
+                line: limit.count.line,
+                at: 0,
+                wrong: four(
+                    "at least @ @, of which line @ makes most; @ are allowed",
+                    Piece::Number(least),
+                    Piece::Text(limit.says),
+                    Piece::Line(limit.count.line),
+                    Piece::Number(limit.most),
+                ),
+                hint: plain(limit.hint),
+            });
+        }
+    }
+    None
 }
 
 /// How many levels stand round a line: those of the lines that it stands under, and of what is declared before an arm or a choice.
@@ -355,80 +398,41 @@ fn joined_operands(words: &[Word<'_>]) -> u64 {
 const MOST_LEVELS: u64 = 200;
 
 /// A line that stands too deep, or holds too long a chain.
-fn depth_finding(alloc: Global, text: &Text<'_>) -> Result<Option<Finding>, AllocError> {
+fn depth_finding(text: &Text<'_>) -> Option<Told> {
     for index in 0..text.lines.len() {
-        let words = text.words_at(index);
-        let chain = joined_operands(words);
-        if chain > MOST_LEVELS {
-            let wrong = format!(in alloc;
-                "{chain} times AND or OR in one line, and each is a level deeper; {MOST_LEVELS} levels are allowed"
-            )?;
-            let wrong = joined(alloc, &[wrong.as_bytes()])?;
-            let hint = joined(
-                alloc,
-                &[b"split the expression, and keep its parts in variables".as_slice()],
-            )?;
-            return Ok(found_at(words, 0, wrong, hint));
-        }
+        let chain = joined_operands(text.words_at(index));
         let levels = levels_round(text, index);
-        if levels > MOST_LEVELS {
-            let wrong = format!(in alloc;
-                "this line stands {levels} levels deep; {MOST_LEVELS} are allowed"
-            )?;
-            let wrong = joined(alloc, &[wrong.as_bytes()])?;
-            let hint = joined(
-                alloc,
-                &[
-                    b"each name that is declared before an arm or a choice is a level, and so is each line above it".as_slice(),
-                ],
-            )?;
-            return Ok(found_at(words, 0, wrong, hint));
+        let (count, says, hint) = if chain > MOST_LEVELS {
+            (
+                chain,
+                "@ times AND or OR in one line, and each is a level deeper; @ levels are allowed",
+                "split the expression, and keep its parts in variables",
+            )
+        } else {
+            (
+                levels,
+                "this line stands @ levels deep; @ are allowed",
+                "each name that is declared before an arm or a choice is a level, and so is each line above it",
+            )
+        };
+        if count > MOST_LEVELS {
+            return Some(Told {
+                line: index,
+                at: 0,
+                wrong: two(says, Piece::Number(count), Piece::Number(MOST_LEVELS)),
+                hint: plain(hint),
+            });
         }
     }
-    Ok(None)
+    None
 }
 
 /// Which limit a program passes that is refused as too large; nothing where the words do not tell.
-pub(crate) fn large_finding(alloc: Global, text: &Text<'_>) -> Result<Option<Finding>, AllocError> {
-    if let Some(tally) = main_tally(alloc, text)? {
-        let calls =
-            "each call, and each copy of a replicated PAR, counts its own: make the arrays smaller, or the copies fewer";
-        let found = passed(
-            alloc,
-            text,
-            tally.cells,
-            0,
-            1_048_576,
-            "cells of variables and arrays",
-            calls,
-        )?;
-        if found.is_some() {
-            return Ok(found);
-        }
-        let found = passed(alloc, text, tally.channels, 3, 4096, "channels", calls)?;
-        if found.is_some() {
-            return Ok(found);
-        }
-        let branches =
-            "each branch of a PAR is a process: make the count of a replicated PAR smaller";
-        let found = passed(alloc, text, tally.processes, 1, 4096, "processes", branches)?;
-        if found.is_some() {
-            return Ok(found);
-        }
-        let nodes =
-            "each call, and each copy of a replicated PAR, is unfolded where it stands: make the copies fewer, or loop within one";
-        let found = passed(
-            alloc,
-            text,
-            tally.nodes,
-            0,
-            100_000,
-            "nodes of the unfolded program",
-            nodes,
-        )?;
-        if found.is_some() {
-            return Ok(found);
-        }
+pub(crate) fn large_finding(alloc: Global, text: &Text<'_>) -> Result<Option<Told>, AllocError> {
+    if let Some(tally) = main_tally(alloc, text)?
+        && let Some(found) = passed(&tally)
+    {
+        return Ok(Some(found));
     }
-    depth_finding(alloc, text)
+    Ok(depth_finding(text))
 }

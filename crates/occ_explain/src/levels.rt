@@ -1,13 +1,12 @@
 //! Lines at a level where none may stand, and texts that end too early.
-ghost use Rattle.std.specs.Prelude.{◌≤◌, IfOk, length};
 
 use crate::class::Class;
 use crate::context::{parent_of, start_of, takes_variants};
-use crate::finding::{Finding, Spot, index_of, spot_at, told_as};
+use crate::finding::index_of;
 use crate::grammar::Part;
 use crate::scan::{Text, Word};
+use crate::sentence::{Piece, Told, one, plain, word};
 use crate::walk::class_at;
-use std::alloc::{AllocError, Global};
 
 /// How many lines stand right under a line.
 #[derive(Clone, Copy, PartialEq)]
@@ -50,143 +49,77 @@ fn lines_under(text: &Text<'_>, index: usize) -> Under {
     }
 }
 
-/// The first word of a line, as it is told.
-fn first_word<'a>(text: &Text<'a>, index: usize) -> &'a [u8] {
-    match text.words_at(index).first() {
-        Some(word) => word.bytes,
-        None => b"",
-    }
-}
-
 /// A line at a level where none may stand.
-pub(crate) fn level_finding(
-    alloc: Global,
-    text: &Text<'_>,
-    index: usize,
-) -> Result<Finding, AllocError>
-    ensures { IfOk result (λ f. 1 ≤ length f.wrong.items) }
-{
-    let spot = spot_at(text.words_at(index), 0);
-    if index == 0 {
-        return told_as(
-            alloc,
-            spot,
-            "the first line is indented",
-            b"",
-            "",
-            b"begin it in the first column",
-        );
-    }
-    let last = index - 1;
-    let deeper = text.indent_at(index) > text.indent_at(last);
-    if deeper && lines_under(text, last) == Under::Nothing {
-        return too_deep(alloc, text, index, last, spot);
-    }
-    if deeper {
-        return told_as(
-            alloc,
-            spot,
-            "a line more than one level deeper than the line before",
-            b"",
-            "",
-            b"write two spaces for each level",
-        );
-    }
-    if lines_under(text, last) == Under::One {
-        return wants_process(alloc, text, last, spot);
-    }
-    beside(alloc, text, index, last, spot)
-}
-
-/// A line under one that nothing stands under.
-fn too_deep(
-    alloc: Global,
-    text: &Text<'_>,
-    index: usize,
-    last: usize,
-    spot: Spot,
-) -> Result<Finding, AllocError>
-    ensures { IfOk result (λ f. 1 ≤ length f.wrong.items) }
-{
-    let hint = if class_at(text.words_at(index), 0) == Class::Colon {
-        "write the colon under the first letter of its PROC"
-    } else {
-        "begin all parts of a SEQ or a PAR in one column"
+pub(crate) fn level_finding(text: &Text<'_>, line: usize) -> Told {
+    let last = line.saturating_sub(1);
+    let deeper = text.indent_at(line) > text.indent_at(last);
+    let is_colon = class_at(text.words_at(line), 0) == Class::Colon;
+    let (wrong, hint) = match lines_under(text, last) {
+        _ if line == 0 => (
+            plain("the first line is indented"),
+            "begin it in the first column",
+        ),
+        Under::Nothing if deeper => (
+            one(
+                "a line below `@`, which takes nothing below it",
+                word(last, 0),
+            ),
+            if is_colon {
+                UNDER_PROC
+            } else {
+                "begin all parts of a SEQ or a PAR in one column"
+            },
+        ),
+        _ if deeper => (
+            plain("a line more than one level deeper than the line before"),
+            "write two spaces for each level",
+        ),
+        Under::One => (
+            one("line @ needs a process below it", Piece::Line(last)),
+            "write it in the next line, two spaces deeper; SKIP is a process that does nothing",
+        ),
+        _ => (
+            plain(beside(text, line, is_colon)),
+            beside_hint(text, line, is_colon),
+        ),
     };
-    told_as(
-        alloc,
-        spot,
-        "a line below `",
-        first_word(text, last),
-        "`, which takes nothing below it",
-        hint.as_bytes(),
-    )
+    Told {
+        line,
+        at: 0,
+        wrong,
+        hint: plain(hint),
+    }
 }
 
-/// A line in the place of a process that the line before needs.
-fn wants_process(
-    alloc: Global,
-    text: &Text<'_>,
-    last: usize,
-    spot: Spot,
-) -> Result<Finding, AllocError>
-    ensures { IfOk result (λ f. 1 ≤ length f.wrong.items) }
-{
-    let number = text.number_at(last);
-    let line = format!(in alloc; "{number}")?;
-    told_as(
-        alloc,
-        spot,
-        "line ",
-        line.as_bytes(),
-        " needs a process below it",
-        b"write it in the next line, two spaces deeper; SKIP is a process that does nothing",
-    )
+/// Where the colon of a PROC stands.
+const UNDER_PROC: &str = "write the colon under the first letter of its PROC";
+
+/// What is wrong with a line beside one that has all that it may have.
+fn beside(text: &Text<'_>, line: usize, is_colon: bool) -> &'static str {
+    match parent_of(text, line) {
+        _ if is_colon => "`:` does not stand under the first letter of a PROC or a PROTOCOL",
+        Some(parent) if lines_under(text, parent) == Under::One => {
+            "a second process, where only one may stand"
+        }
+        _ => "a line at a level where none may stand",
+    }
 }
 
-/// A line beside one that has all that it may have.
-fn beside(
-    alloc: Global,
-    text: &Text<'_>,
-    index: usize,
-    last: usize,
-    spot: Spot,
-) -> Result<Finding, AllocError>
-    ensures { IfOk result (λ f. 1 ≤ length f.wrong.items) }
-{
-    let is_colon = class_at(text.words_at(index), 0) == Class::Colon;
-    let hint = match class_at(text.words_at(last), 0) {
-        _ if is_colon => "write the colon under the first letter of its PROC",
-        Class::Seq | Class::Par if text.indent_at(last) == text.indent_at(index) => {
+/// How that is mended.
+fn beside_hint(text: &Text<'_>, line: usize, is_colon: bool) -> &'static str {
+    let last = line.saturating_sub(1);
+    match class_at(text.words_at(last), 0) {
+        _ if is_colon => UNDER_PROC,
+        Class::Seq | Class::Par if text.indent_at(last) == text.indent_at(line) => {
             "write the parts of a SEQ or a PAR two spaces deeper than it"
         }
         _ => "write SEQ or PAR above the processes, and both two spaces deeper",
-    };
-    let is_second = match parent_of(text, index) {
-        Some(parent) => lines_under(text, parent) == Under::One,
-        None => false,
-    };
-    let wrong = if is_colon {
-        "`:` does not stand under the first letter of a PROC or a PROTOCOL"
-    } else if is_second {
-        "a second process, where only one may stand"
-    } else {
-        "a line at a level where none may stand"
-    };
-    told_as(alloc, spot, wrong, b"", "", hint.as_bytes())
+    }
 }
 
 /// A text that ends where a line must follow.
-pub(crate) fn missing_finding(
-    alloc: Global,
-    text: &Text<'_>,
-    index: usize,
-) -> Result<Finding, AllocError>
-    ensures { IfOk result (λ f. 1 ≤ length f.wrong.items) }
-{
-    let words = text.words_at(index);
-    let spot = spot_at(words, words.len());
-    let (wrong, hint) = match lines_under(text, index) {
+pub(crate) fn missing_finding(text: &Text<'_>, line: usize) -> Told {
+    let (wrong, hint) = match lines_under(text, line) {
         Under::One => (
             "the program ends where a process must follow",
             "write it in the next line, two spaces deeper",
@@ -196,5 +129,10 @@ pub(crate) fn missing_finding(
             "end a PROC, and a PROTOCOL with tags, with a colon in a line of its own, under its first letter",
         ),
     };
-    told_as(alloc, spot, wrong, b"", "", hint.as_bytes())
+    Told {
+        line,
+        at: text.words_at(line).len(),
+        wrong: plain(wrong),
+        hint: plain(hint),
+    }
 }

@@ -27,6 +27,8 @@ pub mod refusal;
 mod saying;
 mod scan;
 mod scope;
+mod sentence;
+mod telling;
 pub mod text;
 mod types;
 mod walk;

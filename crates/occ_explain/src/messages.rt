@@ -2,15 +2,15 @@
 
 use crate::class::Class;
 use crate::context::{parent_of, start_of};
-use crate::finding::{Finding, index_of};
+use crate::finding::{index_of, sign_of};
 use crate::grammar::Part;
-use crate::mismatch::{conversion, found_at};
-use crate::saying::{between, joined};
+use crate::mismatch::conversion;
 use crate::scan::{Text, Word};
 use crate::scope::{Declared, Kind, behind_sizes, declaration_of};
+use crate::sentence::{Piece, Sentence, Told, four, one, plain, three, two, word};
+use crate::telling::piece_text;
 use crate::types::{
-    Primitive, Type, expression_end, operand_begin, operand_end, spelled_type, type_at, type_text,
-    words_text,
+    Primitive, Type, expression_end, operand_begin, operand_end, spelled_type, type_at,
 };
 use crate::walk::{bytes_at, class_at};
 use std::alloc::{AllocError, Global};
@@ -33,12 +33,6 @@ struct Parts {
     is_protocol: bool,
 }
 
-/// The sign of an output or an input; the number of words where a line has none.
-fn sign_of(words: &[Word<'_>]) -> usize {
-    let output = index_of(words, Class::Exclamation);
-    output.min(index_of(words, Class::Question))
-}
-
 /// The channel that is named before the sign of a line.
 fn channel_of(text: &Text<'_>, index: usize) -> Option<Declared> {
     let words = text.words_at(index);
@@ -55,12 +49,9 @@ fn channel_of(text: &Text<'_>, index: usize) -> Option<Declared> {
     }
 }
 
-/// The name of the channel as it stands in a line.
-fn channel_name<'a>(text: &Text<'a>, found: &Declared) -> &'a [u8] {
-    match text.words_at(found.line).get(found.at) {
-        Some(word) => word.bytes,
-        None => b"",
-    }
+/// The name of a channel, as it is declared.
+fn channel_name(message: &Message) -> Piece {
+    Piece::Word(message.channel.line, message.channel.at)
 }
 
 /// The line that declares the protocol of a channel, where that has a name.
@@ -125,25 +116,6 @@ fn tag_line(text: &Text<'_>, protocol: usize, tag: &[u8]) -> Option<usize> {
     None
 }
 
-/// The tags of a protocol: `go`, `halt`.
-fn tags_text(alloc: Global, text: &Text<'_>, protocol: usize) -> Result<Vec<u8>, AllocError> {
-    let mut out = Vec::new(alloc);
-    let indent = text.indent_at(protocol);
-    for i in protocol.saturating_add(2)..text.lines.len() {
-        if text.indent_at(i) <= indent {
-            return Ok(out);
-        }
-        if !out.is_empty() {
-            out.extend_from_slice(b", ")?;
-        }
-        let name = words_text(alloc, text.words_at(i), 0, 1)?;
-        for part in [b"`".as_slice(), name.as_slice(), b"`".as_slice()] {
-            out.extend_from_slice(part)?;
-        }
-    }
-    Ok(out)
-}
-
 /// The message of a line: of an output, an input, or a variant below one.
 fn message_of(text: &Text<'_>, index: usize) -> Option<Message> {
     let words = text.words_at(index);
@@ -189,15 +161,8 @@ fn plain_parts(text: &Text<'_>, message: &Message) -> Parts {
     }
 }
 
-/// What a channel carries, in words: `screen` carries BYTE.
-fn carries(
-    alloc: Global,
-    text: &Text<'_>,
-    message: &Message,
-    parts: &Parts,
-    number: usize,
-) -> Result<Vec<u8>, AllocError> {
-    let name = channel_name(text, &message.channel);
+/// What is carried in the place of an item.
+fn carried(text: &Text<'_>, message: &Message, parts: &Parts, number: usize) -> Piece {
     let words = text.words_at(parts.line);
     let at = item_at(words, parts.at, number);
     let end = if parts.is_protocol {
@@ -205,21 +170,7 @@ fn carries(
     } else {
         message.channel.spec.to
     };
-    let spelled = words_text(alloc, words, at, end)?;
-    if parts.count < 2 {
-        return joined(
-            alloc,
-            &[
-                b"`".as_slice(),
-                name,
-                b"` carries ".as_slice(),
-                spelled.as_slice(),
-            ],
-        );
-    }
-    let place = number.saturating_add(1);
-    let place = format!(in alloc; "part {place} of the message is ")?;
-    joined(alloc, &[place.as_bytes(), spelled.as_slice()])
+    Piece::Words(parts.line, at, end)
 }
 
 /// The place where a part of a protocol ends.
@@ -232,76 +183,54 @@ fn part_end(words: &[Word<'_>], at: usize) -> usize {
     words.len()
 }
 
-fn said_count(alloc: Global, count: usize, word: &str) -> Result<Vec<u8>, AllocError> {
-    let number = format!(in alloc; "{count} ")?;
-    let more = if count == 1 { "" } else { "s" };
-    joined(
-        alloc,
-        &[number.as_bytes(), word.as_bytes(), more.as_bytes()],
-    )
-}
-
 /// Another number of items than the protocol has parts.
-fn unequal(
-    alloc: Global,
-    text: &Text<'_>,
-    message: &Message,
-    parts: &Parts,
-    items: usize,
-) -> Result<Option<Finding>, AllocError> {
-    let words = text.words_at(message.line);
-    let name = channel_name(text, &message.channel);
-    let wanted = said_count(alloc, parts.count, "part")?;
+fn unequal(text: &Text<'_>, message: &Message, parts: &Parts, items: usize) -> Told {
     let is_tagged = class_at(text.words_at(parts.line), 0) == Class::Name;
-    let behind = if is_tagged { " behind its tag" } else { "" };
-    let given = said_count(alloc, items, "item")?;
-    let wrong = joined(
-        alloc,
-        &[
-            b"a message on `".as_slice(),
-            name,
-            b"` has ".as_slice(),
-            wanted.as_slice(),
-            behind.as_bytes(),
-            b", but this line has ".as_slice(),
-            given.as_slice(),
-        ],
-    )?;
-    let hint = joined(
-        alloc,
-        &[b"all parts of a message go together, with semicolons between them".as_slice()],
-    )?;
-    Ok(found_at(words, message.at, wrong, hint))
+    let says = if is_tagged {
+        "a message on `@` has @ behind its tag, but this line has @"
+    } else {
+        "a message on `@` has @, but this line has @"
+    };
+    Told {
+        line: message.line,
+        at: message.at,
+        wrong: three(
+            says,
+            channel_name(message),
+            Piece::Counted(parts.count, "part"),
+            Piece::Counted(items, "item"),
+        ),
+        hint: plain("all parts of a message go together, with semicolons between them"),
+    }
 }
 
 /// How an item becomes one of the type that is wanted.
-fn item_hint(
+fn item_hint(text: &Text<'_>, message: &Message, at: usize, found: Type, wanted: Type) -> Sentence {
+    if message.is_input {
+        return plain("input into a variable of the type that the channel carries");
+    }
+    let is_text = class_at(text.words_at(message.line), at) == Class::Text;
+    match (wanted.sizes, wanted.primitive) {
+        (0, Primitive::Byte) if is_text => {
+            plain("send a string byte by byte, in a replicated SEQ; one letter is written 'a'")
+        }
+        (0, to) => conversion(text, message.line, at, found, to),
+        _ => plain(""),
+    }
+}
+
+/// Whether a type is written as a part spells it, or has no sizes that are written.
+fn is_spelled(
     alloc: Global,
-    words: &[Word<'_>],
-    at: usize,
-    found: Type,
-    wanted: Type,
-    is_input: bool,
-) -> Result<Vec<u8>, AllocError> {
-    if is_input {
-        return joined(
-            alloc,
-            &[b"input into a variable of the type that the channel carries".as_slice()],
-        );
-    }
-    let is_letter = class_at(words, at) == Class::Text && wanted.sizes == 0;
-    if is_letter && wanted.primitive == Primitive::Byte {
-        return joined(
-            alloc,
-            &[
-                b"send a string byte by byte, in a replicated SEQ; one letter is written 'a'".as_slice(),
-            ],
-        );
-    }
-    if wanted.sizes > 0 {
-        return Ok(Vec::new(alloc));
-    }
-    conversion(alloc, words, at, found, wanted.primitive)
+    text: &Text<'_>,
+    kind: Piece,
+    part: Piece,
+) -> Result<bool, AllocError> {
+    let kind = piece_text(alloc, text, kind)?;
+    let spelled = piece_text(alloc, text, part)?;
+    let is_same = kind.len() == spelled.len().saturating_add(2)
+        && kind.ends_with(spelled.as_slice());
+    Ok(is_same || !kind.starts_with(b"a ["))
 }
 
 /// An item of another type than its part.
@@ -311,7 +240,7 @@ fn item_finding(
     message: &Message,
     parts: &Parts,
     number: usize,
-) -> Result<Option<Finding>, AllocError> {
+) -> Result<Option<Told>, AllocError> {
     let words = text.words_at(message.line);
     let at = item_at(words, message.at, number);
     let other = text.words_at(parts.line);
@@ -322,37 +251,50 @@ fn item_finding(
     };
     let is_counted = class_at(other, operand_end(other, part)) == Class::DoubleColon;
     let has_count = class_at(words, expression_end(words, at)) == Class::DoubleColon;
-    let kind = type_text(alloc, text, message.line, at, found)?;
-    let said = words_text(alloc, words, at, expression_end(words, at))?;
-    let carried = carries(alloc, text, message, parts, number)?;
+    let (name, place) = (
+        channel_name(message),
+        Piece::Count(number.saturating_add(1)),
+    );
+    let carried = carried(text, message, parts, number);
+    let is_alone = parts.count < 2;
     if is_counted != has_count {
-        let hint = if is_counted {
-            "write the count and the array: `n::a`"
-        } else {
-            "write no count here"
-        };
-        let hint = joined(alloc, &[hint.as_bytes()])?;
-        return Ok(found_at(words, at, carried, hint));
+        return Ok(Some(Told {
+            line: message.line,
+            at,
+            wrong: if is_alone {
+                two("`@` carries @", name, carried)
+            } else {
+                two("part @ of the message is @", place, carried)
+            },
+            hint: plain(if is_counted {
+                "write the count and the array: `n::a`"
+            } else {
+                "write no count here"
+            }),
+        }));
     }
-    let spelled = words_text(alloc, other, part, behind_type(other, part))?;
-    let is_spelled = kind.len() == spelled.len().saturating_add(2)
-        && kind.ends_with(spelled.as_slice());
-    if found == wanted && (found.sizes == 0 || is_spelled || !kind.starts_with(b"a [")) {
+    let kind = Piece::Typed(message.line, at, found);
+    let spelled = Piece::Words(parts.line, part, behind_type(other, part));
+    if found == wanted && (found.sizes == 0 || is_spelled(alloc, text, kind, spelled)?) {
         return Ok(None);
     }
-    let wrong = joined(
-        alloc,
-        &[
-            b"`".as_slice(),
-            said.as_slice(),
-            b"` is ".as_slice(),
-            kind.as_slice(),
-            b", but ".as_slice(),
-            carried.as_slice(),
-        ],
-    )?;
-    let hint = item_hint(alloc, words, at, found, wanted, message.is_input)?;
-    Ok(found_at(words, at, wrong, hint))
+    let said = Piece::Words(message.line, at, expression_end(words, at));
+    Ok(Some(Told {
+        line: message.line,
+        at,
+        wrong: if is_alone {
+            four("`@` is @, but `@` carries @", said, kind, name, carried)
+        } else {
+            four(
+                "`@` is @, but part @ of the message is @",
+                said,
+                kind,
+                place,
+                carried,
+            )
+        },
+        hint: item_hint(text, message, at, found, wanted),
+    }))
 }
 
 /// The place behind a type that is spelled here.
@@ -366,10 +308,10 @@ fn compared(
     text: &Text<'_>,
     message: &Message,
     parts: &Parts,
-) -> Result<Option<Finding>, AllocError> {
+) -> Result<Option<Told>, AllocError> {
     let items = count_from(text.words_at(message.line), message.at);
     if items != parts.count {
-        return unequal(alloc, text, message, parts, items);
+        return Ok(Some(unequal(text, message, parts, items)));
     }
     for number in 0..items {
         let found = item_finding(alloc, text, message, parts, number)?;
@@ -381,17 +323,22 @@ fn compared(
 }
 
 /// A finding about the channel of a message.
-fn about_channel(
-    alloc: Global,
-    text: &Text<'_>,
-    message: &Message,
-    says: &str,
-    hint: &str,
-) -> Result<Option<Finding>, AllocError> {
-    let name = channel_name(text, &message.channel);
-    let wrong = joined(alloc, &[b"`".as_slice(), name, says.as_bytes()])?;
-    let hint = joined(alloc, &[hint.as_bytes()])?;
-    Ok(found_at(text.words_at(message.line), message.at, wrong, hint))
+fn about_channel(message: &Message, says: &'static str, hint: &'static str) -> Told {
+    Told {
+        line: message.line,
+        at: message.at,
+        wrong: one(says, channel_name(message)),
+        hint: plain(hint),
+    }
+}
+
+/// The place of a tag, behind CASE where that stands before it.
+fn tag_at(words: &[Word<'_>], message: &Message) -> usize {
+    if class_at(words, message.at) == Class::Case {
+        message.at.saturating_add(1)
+    } else {
+        message.at
+    }
 }
 
 /// A message on a channel whose protocol has tags.
@@ -400,40 +347,23 @@ fn tagged(
     text: &Text<'_>,
     message: &Message,
     protocol: usize,
-) -> Result<Option<Finding>, AllocError> {
+) -> Result<Option<Told>, AllocError> {
     let words = text.words_at(message.line);
-    let is_case = class_at(words, message.at) == Class::Case;
-    if message.is_input && message.at > 0 && !is_case {
-        let says = "` carries messages with tags, and this input has no CASE";
-        return about_channel(
-            alloc,
-            text,
+    let at = tag_at(words, message);
+    if message.is_input && message.at > 0 && at == message.at {
+        return Ok(Some(about_channel(
             message,
-            says,
+            "`@` carries messages with tags, and this input has no CASE",
             "write `? CASE`, and a tag behind it or variants below",
-        );
+        )));
     }
-    let at = if is_case {
-        message.at.saturating_add(1)
-    } else {
-        message.at
-    };
-    let tag = bytes_at(words, at);
-    let Some(line) = tag_line(text, protocol, tag) else {
-        let tags = tags_text(alloc, text, protocol)?;
-        let wrong = joined(
-            alloc,
-            &[
-                b"a message on `".as_slice(),
-                channel_name(text, &message.channel),
-                b"` begins with a tag".as_slice(),
-            ],
-        )?;
-        let hint = joined(
-            alloc,
-            &[b"the tags of its protocol are ".as_slice(), tags.as_slice()],
-        )?;
-        return Ok(found_at(words, at, wrong, hint));
+    let Some(line) = tag_line(text, protocol, bytes_at(words, at)) else {
+        return Ok(Some(Told {
+            line: message.line,
+            at,
+            wrong: one("a message on `@` begins with a tag", channel_name(message)),
+            hint: one("the tags of its protocol are @", Piece::Tags(protocol)),
+        }));
     };
     let parts = Parts {
         line,
@@ -455,59 +385,41 @@ pub(crate) fn message_finding(
     alloc: Global,
     text: &Text<'_>,
     index: usize,
-) -> Result<Option<Finding>, AllocError> {
+) -> Result<Option<Told>, AllocError> {
     let Some(message) = message_of(text, index) else {
         return Ok(None);
     };
-    let words = text.words_at(index);
-    let protocol = protocol_of(text, &message.channel);
-    if let Some(protocol) = protocol
+    if let Some(protocol) = protocol_of(text, &message.channel)
         && has_tags(text, protocol)
     {
         return tagged(alloc, text, &message, protocol);
     }
-    if class_at(words, message.at) == Class::Case || message.at == 0 {
-        let says = "` carries messages without tags, and CASE takes a tag";
-        return about_channel(
-            alloc,
-            text,
+    if class_at(text.words_at(index), message.at) == Class::Case || message.at == 0 {
+        return Ok(Some(about_channel(
             &message,
-            says,
+            "`@` carries messages without tags, and CASE takes a tag",
             "leave CASE out, and input into variables",
-        );
+        )));
     }
     compared(alloc, text, &message, &plain_parts(text, &message))
 }
 
 /// A tag that the protocol has not, or one that stands twice among the variants of an input.
-pub(crate) fn tag_finding(
-    alloc: Global,
-    text: &Text<'_>,
-    index: usize,
-) -> Result<Option<Finding>, AllocError> {
-    let Some(message) = message_of(text, index) else {
-        return Ok(None);
-    };
-    let Some(protocol) = protocol_of(text, &message.channel) else {
-        return Ok(None);
-    };
+pub(crate) fn tag_finding(text: &Text<'_>, index: usize) -> Option<Told> {
+    let message = message_of(text, index)?;
+    let protocol = protocol_of(text, &message.channel)?;
     let words = text.words_at(index);
-    let is_case = class_at(words, message.at) == Class::Case;
-    let at = if is_case {
-        message.at.saturating_add(1)
+    let at = tag_at(words, &message);
+    let tag = words.get(at)?.bytes;
+    let says = if tag_line(text, protocol, tag).is_some() {
+        "`@` stands twice in this input"
     } else {
-        message.at
+        "`@` is no tag of the protocol"
     };
-    let Some(word) = words.get(at) else {
-        return Ok(None);
-    };
-    let says = if tag_line(text, protocol, word.bytes).is_some() {
-        "` stands twice in this input"
-    } else {
-        "` is no tag of the protocol"
-    };
-    let wrong = between(alloc, "`", word.bytes, says)?;
-    let tags = tags_text(alloc, text, protocol)?;
-    let hint = joined(alloc, &[b"the tags are ".as_slice(), tags.as_slice()])?;
-    Ok(found_at(words, at, wrong, hint))
+    Some(Told {
+        line: index,
+        at,
+        wrong: one(says, word(index, at)),
+        hint: one("the tags are @", Piece::Tags(protocol)),
+    })
 }

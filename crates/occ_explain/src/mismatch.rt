@@ -2,14 +2,16 @@
 
 use crate::class::Class;
 use crate::context::{parent_of, start_of};
-use crate::finding::{Finding, index_of, spot_at};
+use crate::finding::{index_of, sign_of};
 use crate::grammar::Part;
-use crate::saying::{between, joined};
+use crate::kinds::number_of;
 use crate::scan::{Text, Word};
 use crate::scope::{Kind, behind_sizes, declaration_of, index_at};
+use crate::sentence::{Piece, Sentence, Told, four, one, plain, three, two, word};
+use crate::telling::are_alike;
 use crate::types::{
-    Primitive, Type, called, declared_text, expression_end, operand_begin, operand_end,
-    operand_type, spelled_type, type_at, type_text, words_text,
+    Primitive, Type, called, expression_end, operand_begin, operand_end, operand_type,
+    spelled_type, type_at,
 };
 use crate::walk::{bytes_at, class_at};
 use std::alloc::{AllocError, Global};
@@ -56,42 +58,43 @@ fn is_number(words: &[Word<'_>], at: usize) -> bool {
 
 /// How a value of another primitive type is made of the expression at a place, which has this type.
 pub(crate) fn conversion(
-    alloc: Global,
-    words: &[Word<'_>],
+    text: &Text<'_>,
+    index: usize,
     at: usize,
     found: Type,
     to: Primitive,
-) -> Result<Vec<u8>, AllocError> {
-    let end = expression_end(words, at);
-    let is_operand = operand_end(words, at) >= end;
-    converted(alloc, words, at, end, is_operand, found, to)
+) -> Sentence {
+    let end = expression_end(text.words_at(index), at);
+    let typed = Typed {
+        from: at,
+        to: end,
+        found,
+    };
+    let is_operand = operand_end(text.words_at(index), at) >= end;
+    converted(text, index, typed, is_operand, to)
 }
 
 /// How a value of another primitive type is made of these words, which are an operand or a longer expression.
 fn converted(
-    alloc: Global,
-    words: &[Word<'_>],
-    from: usize,
-    end: usize,
+    text: &Text<'_>,
+    index: usize,
+    typed: Typed,
     is_operand: bool,
-    found: Type,
     to: Primitive,
-) -> Result<Vec<u8>, AllocError> {
-    if found.sizes > 0 || found.primitive == to {
-        return Ok(Vec::new(alloc));
+) -> Sentence {
+    if typed.found.sizes > 0 || typed.found.primitive == to {
+        return plain("");
     }
-    let said = words_text(alloc, words, from, end)?;
-    let said = said.as_slice();
-    let is_literal = is_operand && is_number(words, from);
-    let (before, after) = match to {
-        Primitive::Bool => ("compare it, as in `", " <> 0`"),
-        Primitive::Byte if is_literal => ("write it with its type: `", " (BYTE)`"),
-        Primitive::Byte if is_operand => ("convert it: `BYTE ", "`"),
-        Primitive::Byte => ("convert it: `BYTE (", ")`"),
-        Primitive::Int if is_operand => ("convert it: `INT ", "`"),
-        Primitive::Int => ("convert it: `INT (", ")`"),
+    let is_literal = is_operand && is_number(text.words_at(index), typed.from);
+    let says = match to {
+        Primitive::Bool => "compare it, as in `@ <> 0`",
+        Primitive::Byte if is_literal => "write it with its type: `@ (BYTE)`",
+        Primitive::Byte if is_operand => "convert it: `BYTE @`",
+        Primitive::Byte => "convert it: `BYTE (@)`",
+        Primitive::Int if is_operand => "convert it: `INT @`",
+        Primitive::Int => "convert it: `INT (@)`",
     };
-    joined(alloc, &[before.as_bytes(), said, after.as_bytes()])
+    one(says, said(index, typed))
 }
 
 /// The expression at a place, where its type is known.
@@ -112,68 +115,63 @@ fn typed_operand(text: &Text<'_>, index: usize, at: usize) -> Option<Typed> {
     })
 }
 
-/// The words, and what type they have: ``x` is an INT`.
-fn said_type(
-    alloc: Global,
-    text: &Text<'_>,
-    index: usize,
-    typed: Typed,
-) -> Result<Vec<u8>, AllocError> {
-    let words = text.words_at(index);
-    let said = words_text(alloc, words, typed.from, typed.to)?;
-    let is_whole = expression_end(words, typed.from) == typed.to;
-    let kind = if is_whole {
-        type_text(alloc, text, index, typed.from, typed.found)?
-    } else {
-        joined(alloc, &[called(typed.found).as_bytes()])?
-    };
-    joined(
-        alloc,
-        &[
-            b"`".as_slice(),
-            said.as_slice(),
-            b"` is ".as_slice(),
-            kind.as_slice(),
-        ],
-    )
+/// Words of a line.
+fn said(index: usize, typed: Typed) -> Piece {
+    Piece::Words(index, typed.from, typed.to)
 }
 
-/// A finding at a place of a line.
-pub(crate) fn found_at(
-    words: &[Word<'_>],
-    at: usize,
-    wrong: Vec<u8>,
-    hint: Vec<u8>,
-) -> Option<Finding> {
-    Some(Finding {
-        spot: spot_at(words, at),
-        wrong,
+/// What type they have, with its sizes where they are a whole expression.
+fn kind_of(text: &Text<'_>, index: usize, typed: Typed) -> Piece {
+    if expression_end(text.words_at(index), typed.from) == typed.to {
+        Piece::Typed(index, typed.from, typed.found)
+    } else {
+        Piece::Text(called(typed.found))
+    }
+}
+
+/// Words that have another type than is said behind.
+fn unfit(text: &Text<'_>, index: usize, typed: Typed, says: &'static str, hint: Sentence) -> Told {
+    Told {
+        line: index,
+        at: typed.from,
+        wrong: three(
+            "`@` is @@",
+            said(index, typed),
+            kind_of(text, index, typed),
+            Piece::Text(says),
+        ),
         hint,
-    })
+    }
+}
+
+/// Words that do not fit to others before them.
+fn beside(text: &Text<'_>, index: usize, left: Typed, right: Typed, hint: Sentence) -> Told {
+    Told {
+        line: index,
+        at: right.from,
+        wrong: four(
+            "`@` is @, but `@` is @",
+            said(index, left),
+            kind_of(text, index, left),
+            said(index, right),
+            kind_of(text, index, right),
+        ),
+        hint,
+    }
 }
 
 /// An expression that has another type than is wanted at its place.
-fn unwanted(
-    alloc: Global,
-    text: &Text<'_>,
-    index: usize,
-    wanted: Wanted,
-) -> Result<Option<Finding>, AllocError> {
-    let words = text.words_at(index);
-    let Some(typed) = typed_expression(text, index, wanted.at) else {
-        return Ok(None);
-    };
+fn unwanted(text: &Text<'_>, index: usize, wanted: Wanted) -> Option<Told> {
+    let typed = typed_expression(text, index, wanted.at)?;
     if is_taken(typed.found, wanted.takes) {
-        return Ok(None);
+        return None;
     }
     let to = match wanted.takes {
         Takes::Truth => Primitive::Bool,
         _ => Primitive::Int,
     };
-    let mut wrong = said_type(alloc, text, index, typed)?;
-    wrong.extend_from_slice(wanted.says.as_bytes())?;
-    let hint = conversion(alloc, words, wanted.at, typed.found, to)?;
-    Ok(found_at(words, wanted.at, wrong, hint))
+    let hint = conversion(text, index, wanted.at, typed.found, to);
+    Some(unfit(text, index, typed, wanted.says, hint))
 }
 
 /// Which operands an operator takes, and how that is said.
@@ -233,42 +231,25 @@ fn is_replicator(words: &[Word<'_>], at: usize) -> bool {
 
 /// One of two operands that an operator does not take.
 fn refused_operand(
-    alloc: Global,
     text: &Text<'_>,
     index: usize,
     typed: Typed,
+    takes: Takes,
     says: &'static str,
-    to: Option<Primitive>,
-) -> Result<Option<Finding>, AllocError> {
-    let words = text.words_at(index);
-    let mut wrong = said_type(alloc, text, index, typed)?;
-    wrong.extend_from_slice(says.as_bytes())?;
-    let hint = match to {
-        Some(to) if typed.found.sizes == 0 && typed.found.primitive != to => {
-            converted(alloc, words, typed.from, typed.to, true, typed.found, to)?
-        }
-        _ if typed.found.sizes > 0 => joined(
-            alloc,
-            &[b"use its components one by one".as_slice()],
-        )?,
-        _ => Vec::new(alloc),
+) -> Told {
+    let hint = if typed.found.sizes > 0 {
+        plain("use its components one by one")
+    } else if takes == Takes::Int {
+        converted(text, index, typed, true, Primitive::Int)
+    } else {
+        plain("")
     };
-    Ok(found_at(words, typed.from, wrong, hint))
+    unfit(text, index, typed, says, hint)
 }
 
 /// Two operands of different types.
-fn different(
-    alloc: Global,
-    text: &Text<'_>,
-    index: usize,
-    left: Typed,
-    right: Typed,
-) -> Result<Option<Finding>, AllocError> {
+fn different(text: &Text<'_>, index: usize, left: Typed, right: Typed) -> Told {
     let words = text.words_at(index);
-    let mut wrong = said_type(alloc, text, index, left)?;
-    wrong.extend_from_slice(b", but ")?;
-    let mut other = said_type(alloc, text, index, right)?;
-    wrong.append(&mut other)?;
     // a number is written with the other's type, and else the smaller type becomes an INT
     let (odd, to) = match (left.found.primitive, right.found.primitive) {
         (Primitive::Byte, Primitive::Int) if is_number(words, right.from) => (
@@ -280,67 +261,50 @@ fn different(
         _ => (left, right.found.primitive),
     };
     let hint = if odd.found.primitive == Primitive::Byte && to == Primitive::Int {
-        let said = words_text(alloc, words, odd.from, odd.to)?;
-        joined(
-            alloc,
-            &[
-                b"convert it: `(INT ".as_slice(),
-                said.as_slice(),
-                b")`".as_slice(),
-            ],
-        )?
+        one("convert it: `(INT @)`", said(index, odd))
     } else if to == Primitive::Byte {
-        converted(alloc, words, odd.from, odd.to, true, odd.found, to)?
+        converted(text, index, odd, true, to)
     } else {
-        Vec::new(alloc)
+        plain("")
     };
-    Ok(found_at(words, right.from, wrong, hint))
+    beside(text, index, left, right, hint)
 }
 
 /// An operator at a place whose operands do not fit it.
-fn operator_finding(
-    alloc: Global,
-    text: &Text<'_>,
-    index: usize,
-    at: usize,
-) -> Result<Option<Finding>, AllocError> {
+fn operator_finding(text: &Text<'_>, index: usize, at: usize) -> Option<Told> {
     let words = text.words_at(index);
     let left = typed_operand(text, index, operand_begin(words, at));
     let right = typed_operand(text, index, at.saturating_add(1));
     let (first, second, says) = operands_of(words, at);
-    for (typed, takes) in [(left, first), (right, second)] {
-        if let Some(typed) = typed
-            && !is_taken(typed.found, takes)
-        {
-            let to = if takes == Takes::Int {
-                Some(Primitive::Int)
-            } else {
-                None
-            };
-            return refused_operand(alloc, text, index, typed, says, to);
-        }
+    if let Some(left) = left
+        && !is_taken(left.found, first)
+    {
+        return Some(refused_operand(text, index, left, first, says));
     }
-    match (left, right) {
-        (Some(left), Some(right))
-            if first == second && left.found.primitive != right.found.primitive => {
-            different(alloc, text, index, left, right)
-        }
-        _ => Ok(None),
+    let right = right?;
+    if !is_taken(right.found, second) {
+        return Some(refused_operand(text, index, right, second, says));
+    }
+    let left = left?;
+    if first == second && left.found.primitive != right.found.primitive {
+        Some(different(text, index, left, right))
+    } else {
+        None
     }
 }
 
 /// The first operator of a line whose operands do not fit it.
-fn operators(alloc: Global, text: &Text<'_>, index: usize) -> Result<Option<Finding>, AllocError> {
+fn operators(text: &Text<'_>, index: usize) -> Option<Told> {
     let words = text.words_at(index);
     for at in 0..words.len() {
-        if is_between(words, at) && !is_replicator(words, at) {
-            let found = operator_finding(alloc, text, index, at)?;
-            if found.is_some() {
-                return Ok(found);
-            }
+        if is_between(words, at)
+            && !is_replicator(words, at)
+            && let Some(found) = operator_finding(text, index, at)
+        {
+            return Some(found);
         }
     }
-    Ok(None)
+    None
 }
 
 /// Whether a subscript or a size begins behind this place.
@@ -436,27 +400,25 @@ fn wanted_first(text: &Text<'_>, index: usize) -> Option<Wanted> {
 }
 
 /// The first place of a line at which an expression has another type than is wanted there.
-fn places(alloc: Global, text: &Text<'_>, index: usize) -> Result<Option<Finding>, AllocError> {
+fn places(text: &Text<'_>, index: usize) -> Option<Told> {
     let words = text.words_at(index);
-    if let Some(wanted) = wanted_first(text, index) {
-        let found = unwanted(alloc, text, index, wanted)?;
-        if found.is_some() {
-            return Ok(found);
-        }
+    if let Some(wanted) = wanted_first(text, index)
+        && let Some(found) = unwanted(text, index, wanted)
+    {
+        return Some(found);
     }
     for at in 0..words.len() {
-        if let Some(wanted) = wanted_behind(words, at) {
-            let found = unwanted(alloc, text, index, wanted)?;
-            if found.is_some() {
-                return Ok(found);
-            }
+        if let Some(wanted) = wanted_behind(words, at)
+            && let Some(found) = unwanted(text, index, wanted)
+        {
+            return Some(found);
         }
     }
-    Ok(None)
+    None
 }
 
 /// How many expressions stand between two places, with a comma between two.
-fn expressions(words: &[Word<'_>], from: usize, to: usize) -> usize {
+pub(crate) fn expression_count(words: &[Word<'_>], from: usize, to: usize) -> usize {
     let mut at = from;
     for count in 1..words.len().saturating_add(1) {
         at = expression_end(words, at);
@@ -468,23 +430,6 @@ fn expressions(words: &[Word<'_>], from: usize, to: usize) -> usize {
     0
 }
 
-/// Another number of values than of variables.
-fn unequal(
-    alloc: Global,
-    words: &[Word<'_>],
-    sign: usize,
-    targets: usize,
-    values: usize,
-) -> Result<Option<Finding>, AllocError> {
-    let wrong = format!(in alloc; "`:=` has {targets} on its left and {values} on its right")?;
-    let wrong = joined(alloc, &[wrong.as_bytes()])?;
-    let hint = joined(
-        alloc,
-        &[b"write as many values as variables, with commas between them".as_slice()],
-    )?;
-    Ok(found_at(words, sign, wrong, hint))
-}
-
 /// Two sides of an assignment, or a named value and its type.
 fn sides_finding(
     alloc: Global,
@@ -492,43 +437,41 @@ fn sides_finding(
     index: usize,
     left: Typed,
     right: Typed,
-) -> Result<Option<Finding>, AllocError> {
-    let words = text.words_at(index);
-    let kind = type_text(alloc, text, index, left.from, left.found)?;
-    let other = type_text(alloc, text, index, right.from, right.found)?;
-    if left.found == right.found && kind.as_slice() == other.as_slice() {
+) -> Result<Option<Told>, AllocError> {
+    let kind = Piece::Typed(index, left.from, left.found);
+    let other = Piece::Typed(index, right.from, right.found);
+    if left.found == right.found && are_alike(alloc, text, kind, other)? {
         return Ok(None);
     }
-    let mut wrong = said_type(alloc, text, index, left)?;
-    let mut other = said_type(alloc, text, index, right)?;
-    wrong.extend_from_slice(b", but ")?;
-    wrong.append(&mut other)?;
     let hint = match (left.found.sizes, right.found.sizes) {
-        (0, 0) => conversion(alloc, words, right.from, right.found, left.found.primitive)?,
-        (0, _) => joined(
-            alloc,
-            &[b"an array goes into an array of its size".as_slice()],
-        )?,
-        (_, 0) => joined(alloc, &[b"set the components one by one".as_slice()])?,
-        _ => joined(
-            alloc,
-            &[b"both sides of an assignment have one size".as_slice()],
-        )?,
+        (0, 0) => conversion(text, index, right.from, right.found, left.found.primitive),
+        (0, _) => plain("an array goes into an array of its size"),
+        (_, 0) => plain("set the components one by one"),
+        _ => plain("both sides of an assignment have one size"),
     };
-    Ok(found_at(words, right.from, wrong, hint))
+    Ok(Some(beside(text, index, left, right, hint)))
 }
 
 /// The sides of an assignment.
-fn sides(alloc: Global, text: &Text<'_>, index: usize) -> Result<Option<Finding>, AllocError> {
+fn sides(alloc: Global, text: &Text<'_>, index: usize) -> Result<Option<Told>, AllocError> {
     let words = text.words_at(index);
     let sign = index_of(words, Class::Assign);
     if sign == words.len() {
         return Ok(None);
     }
-    let targets = expressions(words, 0, sign);
-    let values = expressions(words, sign.saturating_add(1), words.len());
+    let targets = expression_count(words, 0, sign);
+    let values = expression_count(words, sign.saturating_add(1), words.len());
     if targets != values {
-        return unequal(alloc, words, sign, targets, values);
+        return Ok(Some(Told {
+            line: index,
+            at: sign,
+            wrong: two(
+                "`:=` has @ on its left and @ on its right",
+                Piece::Count(targets),
+                Piece::Count(values),
+            ),
+            hint: plain("write as many values as variables, with commas between them"),
+        }));
     }
     let (mut left, mut right) = (0, sign.saturating_add(1));
     for _ in 0..targets {
@@ -548,36 +491,34 @@ fn sides(alloc: Global, text: &Text<'_>, index: usize) -> Result<Option<Finding>
 }
 
 /// A named value of another type than is given.
-fn named_value(
-    alloc: Global,
-    text: &Text<'_>,
-    index: usize,
-) -> Result<Option<Finding>, AllocError> {
+fn named_value(text: &Text<'_>, index: usize) -> Option<Told> {
     let words = text.words_at(index);
     let is = index_of(words, Class::Is);
     if class_at(words, 0) != Class::Val || is < 3 {
-        return Ok(None);
+        return None;
     }
-    let (Some(given), Some(value)) = (
-        spelled_type(words, 1),
-        typed_expression(text, index, is.saturating_add(1)),
-    ) else {
-        return Ok(None);
-    };
+    let given = spelled_type(words, 1)?;
+    let value = typed_expression(text, index, is.saturating_add(1))?;
     if given == value.found {
-        return Ok(None);
+        return None;
     }
-    let mut wrong = said_type(alloc, text, index, value)?;
-    let name = words_text(alloc, words, is.saturating_sub(1), is)?;
-    let mut other = between(alloc, ", but `", name.as_slice(), "` is declared as ")?;
-    wrong.append(&mut other)?;
-    wrong.extend_from_slice(called(given).as_bytes())?;
     let hint = if given.sizes == 0 {
-        conversion(alloc, words, value.from, value.found, given.primitive)?
+        conversion(text, index, value.from, value.found, given.primitive)
     } else {
-        Vec::new(alloc)
+        plain("")
     };
-    Ok(found_at(words, value.from, wrong, hint))
+    Some(Told {
+        line: index,
+        at: value.from,
+        wrong: four(
+            "`@` is @, but `@` is declared as @",
+            said(index, value),
+            kind_of(text, index, value),
+            word(index, is.saturating_sub(1)),
+            Piece::Text(called(given)),
+        ),
+        hint,
+    })
 }
 
 /// What a type takes, and the most that it does.
@@ -590,113 +531,108 @@ fn range_of(words: &[Word<'_>], at: usize) -> (&'static str, u64) {
 }
 
 /// A number outside the type that stands behind it.
-fn outside(alloc: Global, text: &Text<'_>, index: usize) -> Result<Option<Finding>, AllocError> {
+fn outside(text: &Text<'_>, index: usize) -> Option<Told> {
     let words = text.words_at(index);
     for at in 0..words.len() {
-        let word = words[at];
-        if word.class != Class::Number || operand_end(words, at) != at.saturating_add(4) {
+        let number = words[at];
+        if number.class != Class::Number || operand_end(words, at) != at.saturating_add(4) {
             continue;
         }
         let (range, most) = range_of(words, at.saturating_add(2));
-        if is_above(word.bytes, most) {
-            let wrong = between(alloc, "`", word.bytes, "` is too large for its type")?;
-            let hint = joined(alloc, &[range.as_bytes()])?;
-            return Ok(found_at(words, at, wrong, hint));
+        if let Some(value) = number_of(number.bytes)
+            && value > most
+        {
+            return Some(Told {
+                line: index,
+                at,
+                wrong: one("`@` is too large for its type", word(index, at)),
+                hint: plain(range),
+            });
         }
     }
-    Ok(None)
-}
-
-/// Whether decimal digits are a number above this one.
-fn is_above(digits: &[u8], most: u64) -> bool {
-    let mut value: u64 = 0;
-    for digit in digits {
-        if !digit.is_ascii_digit() {
-            return false;
-        }
-        let digit = u64::from(digit.wrapping_sub(b'0'));
-        value = value.saturating_mul(10).saturating_add(digit);
-    }
-    value > most
+    None
 }
 
 /// More subscripts than an array has sizes.
-fn too_many(alloc: Global, text: &Text<'_>, index: usize) -> Result<Option<Finding>, AllocError> {
+fn too_many(text: &Text<'_>, index: usize) -> Option<Told> {
     let words = text.words_at(index);
     for at in 0..words.len() {
-        let word = words[at];
-        if word.class != Class::Name
-            || class_at(words, at.saturating_add(1)) != Class::OpenBracket
+        let name = words[at];
+        let behind = at.saturating_add(1);
+        if name.class == Class::Name
+            && class_at(words, behind) == Class::OpenBracket
+            && let Some(found) = declaration_of(text, index, name.bytes)
         {
-            continue;
-        }
-        let Some(found) = declaration_of(text, index, word.bytes) else {
-            continue;
-        };
-        let (_, subscripts) = behind_sizes(words, at.saturating_add(1));
-        let is_typed = found.spec.of != usize::MAX;
-        if is_typed && subscripts > found.spec.sizes {
-            let mut wrong = joined(alloc, &[b"`".as_slice(), word.bytes, b"` is ".as_slice()])?;
-            let mut kind = declared_text(alloc, text, &found)?;
-            wrong.append(&mut kind)?;
-            let sizes = found.spec.sizes;
-            let more = format!(in alloc;
-                ", and stands under {subscripts} subscripts; it takes {sizes}"
-            )?;
-            wrong.extend_from_slice(more.as_bytes())?;
-            return Ok(found_at(words, at.saturating_add(1), wrong, Vec::new(alloc)));
+            let (_, subscripts) = behind_sizes(words, behind);
+            if found.spec.of != usize::MAX && subscripts > found.spec.sizes {
+                return Some(Told {
+                    line: index,
+                    at: behind,
+                    wrong: four(
+                        "`@` is @, and stands under @ subscripts; it takes @",
+                        Piece::Word(index, at),
+                        Piece::Declared(found),
+                        Piece::Count(subscripts),
+                        Piece::Count(found.spec.sizes),
+                    ),
+                    hint: plain(""),
+                });
+            }
         }
     }
-    Ok(None)
+    None
 }
 
 /// A constant of an option that has another type than the value of its CASE.
-fn options(alloc: Global, text: &Text<'_>, index: usize) -> Result<Option<Finding>, AllocError> {
-    let Some(parent) = parent_of(text, index) else {
-        return Ok(None);
-    };
-    let words = text.words_at(index);
+fn options(text: &Text<'_>, index: usize) -> Option<Told> {
+    let parent = parent_of(text, index)?;
     if start_of(text, index) != Part::Option {
-        return Ok(None);
+        return None;
     }
-    let Some(selector) = type_at(text, parent, 1) else {
-        return Ok(None);
-    };
+    let words = text.words_at(index);
+    let selector = type_at(text, parent, 1)?;
     let mut at = 0;
     for _ in 0..words.len() {
         if let Some(option) = typed_expression(text, index, at)
             && option.found != selector
         {
-            let mut wrong = said_type(alloc, text, index, option)?;
-            wrong.extend_from_slice(b", but the CASE selects by ")?;
-            wrong.extend_from_slice(called(selector).as_bytes())?;
-            let hint = conversion(alloc, words, at, option.found, selector.primitive)?;
-            return Ok(found_at(words, at, wrong, hint));
+            return Some(Told {
+                line: index,
+                at,
+                wrong: three(
+                    "`@` is @, but the CASE selects by @",
+                    said(index, option),
+                    kind_of(text, index, option),
+                    Piece::Text(called(selector)),
+                ),
+                hint: conversion(text, index, at, option.found, selector.primitive),
+            });
         }
         at = expression_end(words, at).saturating_add(1);
     }
-    Ok(None)
+    None
 }
 
 /// An array of channels in the place of one.
-fn channels(alloc: Global, text: &Text<'_>, index: usize) -> Result<Option<Finding>, AllocError> {
+fn channels(text: &Text<'_>, index: usize) -> Option<Told> {
     let words = text.words_at(index);
-    let sign = index_of(words, Class::Exclamation).min(index_of(words, Class::Question));
+    let sign = sign_of(words);
     let at = operand_begin(words, sign);
-    let name = bytes_at(words, at);
-    let Some(found) = declaration_of(text, index, name) else {
-        return Ok(None);
-    };
+    let found = declaration_of(text, index, bytes_at(words, at))?;
     let (_, subscripts) = behind_sizes(words, at.saturating_add(1));
     if sign == words.len() || found.spec.kind != Kind::Channel || subscripts >= found.spec.sizes {
-        return Ok(None);
+        return None;
     }
-    let mut wrong = between(alloc, "`", name, "` is ")?;
-    let mut kind = declared_text(alloc, text, &found)?;
-    wrong.append(&mut kind)?;
-    wrong.extend_from_slice(b", and a message goes over one of them")?;
-    let hint = between(alloc, "write a subscript for each size: `", name, "[0]`")?;
-    Ok(found_at(words, at, wrong, hint))
+    Some(Told {
+        line: index,
+        at,
+        wrong: two(
+            "`@` is @, and a message goes over one of them",
+            word(index, at),
+            Piece::Declared(found),
+        ),
+        hint: one("write a subscript for each size: `@[0]`", word(index, at)),
+    })
 }
 
 /// What does not fit in a line that is refused for its types; nothing where the words do not tell.
@@ -704,17 +640,17 @@ pub(crate) fn mismatch(
     alloc: Global,
     text: &Text<'_>,
     index: usize,
-) -> Result<Option<Finding>, AllocError> {
+) -> Result<Option<Told>, AllocError> {
     for look in 0..8 {
         let found = match look {
-            0 => operators(alloc, text, index)?,
-            1 => places(alloc, text, index)?,
+            0 => operators(text, index),
+            1 => places(text, index),
             2 => sides(alloc, text, index)?,
-            3 => named_value(alloc, text, index)?,
-            4 => outside(alloc, text, index)?,
-            5 => too_many(alloc, text, index)?,
-            6 => channels(alloc, text, index)?,
-            _ => options(alloc, text, index)?,
+            3 => named_value(text, index),
+            4 => outside(text, index),
+            5 => too_many(text, index),
+            6 => channels(text, index),
+            _ => options(text, index),
         };
         if found.is_some() {
             return Ok(found);

@@ -1,20 +1,22 @@
 //! Names that stand for nothing, stand twice, or are used by two branches.
+
 ghost use Rattle.std.specs.Prelude.{◌≤◌, IfOk, length};
 
-use crate::class::{Class, class_of};
+use crate::class::{Class, reserved_like};
 use crate::context::last_proc;
-use crate::finding::{Finding, Spot, index_of, spot_at, told_as};
+use crate::finding::{Finding, closer, index_of};
 use crate::hints::in_capitals;
 use crate::refusal::Refusal;
-use crate::saying::{between, joined};
 use crate::scan::{Text, Word};
 use crate::scope::{Kind, declaration_of, declares, formal_count, formal_numbered};
-use crate::types::{operand_begin, operand_end, words_text};
+use crate::sentence::{Piece, Sentence, Told, one, plain, three, two, word};
+use crate::telling::written;
+use crate::types::{operand_begin, operand_end};
 use crate::walk::{bytes_at, class_at};
 use std::alloc::{AllocError, Global};
 
 /// A name without subscripts.
-fn base(name: &[u8]) -> &[u8] {
+pub(crate) fn base(name: &[u8]) -> &[u8] {
     match name.iter().position(|byte| *byte == b'[') {
         Some(end) => &name[..end],
         None => name,
@@ -31,26 +33,11 @@ fn name_from(words: &[Word<'_>], from: usize, name: &[u8]) -> usize {
     words.len()
 }
 
-fn has_name(words: &[Word<'_>], name: &[u8]) -> bool {
-    name_from(words, 0, name) < words.len()
-}
-
-/// A refusal of a name.
-pub(crate) fn name_finding(
-    alloc: Global,
-    text: &Text<'_>,
-    index: usize,
-    refusal: &Refusal<'_>,
-) -> Result<Finding, AllocError>
-    ensures { IfOk result (λ f. 1 ≤ length f.wrong.items) }
-{
-    let words = text.words_at(index);
-    let name = base(refusal.name);
-    let first = name_from(words, 0, name);
+/// A name that stands for nothing, or twice.
+pub(crate) fn name_finding(text: &Text<'_>, line: usize, refusal: &Refusal<'_>) -> Told {
     match refusal.number {
-        30 => unknown(alloc, text, index, first, name),
-        31 => twice(alloc, words, refusal.name),
-        number => shared(alloc, text, index, number, first, refusal.name),
+        30 => unknown(text, line, base(refusal.name)),
+        _ => twice(text.words_at(line), line, refusal.name),
     }
 }
 
@@ -73,9 +60,7 @@ fn is_constant(name: &[u8]) -> bool {
 }
 
 /// A name that stands twice in a list, or a constant that does in a CASE, which may be written otherwise than it is told.
-fn twice(alloc: Global, words: &[Word<'_>], name: &[u8]) -> Result<Finding, AllocError>
-    ensures { IfOk result (λ f. 1 ≤ length f.wrong.items) }
-{
+fn twice(words: &[Word<'_>], line: usize, name: &[u8]) -> Told {
     let first = word_from(words, 0, name);
     let second = word_from(words, first.saturating_add(1), name);
     let at = if second < words.len() {
@@ -85,19 +70,16 @@ fn twice(alloc: Global, words: &[Word<'_>], name: &[u8]) -> Result<Finding, Allo
     } else {
         0
     };
-    let hint = if is_constant(name) {
-        "write each constant of a CASE once; it may be spelled in several ways"
-    } else {
-        "give one of them another name"
-    };
-    told_as(
-        alloc,
-        spot_at(words, at),
-        "`",
-        name,
-        "` stands twice",
-        hint.as_bytes(),
-    )
+    Told {
+        line,
+        at,
+        wrong: one("`@` stands twice", Piece::Name),
+        hint: plain(if is_constant(name) {
+            "write each constant of a CASE once; it may be spelled in several ways"
+        } else {
+            "give one of them another name"
+        }),
+    }
 }
 
 /// Whether two names differ in capitals alone.
@@ -106,10 +88,13 @@ fn differs_in_capitals(one: &[u8], other: &[u8]) -> bool {
 }
 
 /// A name of the text that differs from this one in capitals alone.
-fn like_name<'a>(text: &Text<'a>, name: &[u8]) -> Option<&'a [u8]> {
-    for word in &text.words {
-        if word.class == Class::Name && differs_in_capitals(word.bytes, name) {
-            return Some(word.bytes);
+fn like_name(text: &Text<'_>, name: &[u8]) -> Option<Piece> {
+    for line in 0..text.lines.len() {
+        let words = text.words_at(line);
+        for at in 0..words.len() {
+            if words[at].class == Class::Name && differs_in_capitals(words[at].bytes, name) {
+                return Some(word(line, at));
+            }
         }
     }
     None
@@ -142,101 +127,59 @@ fn declaring_line(text: &Text<'_>, index: usize, name: &[u8]) -> Option<usize> {
 }
 
 /// A name that stands for nothing.
-fn unknown(
-    alloc: Global,
-    text: &Text<'_>,
-    index: usize,
-    at: usize,
-    name: &[u8],
-) -> Result<Finding, AllocError>
-    ensures { IfOk result (λ f. 1 ≤ length f.wrong.items) }
-{
-    let words = text.words_at(index);
-    let behind = class_at(words, operand_end(words, at));
+fn unknown(text: &Text<'_>, line: usize, name: &[u8]) -> Told {
+    let words = text.words_at(line);
+    let at = name_from(words, 0, name);
     let is_carried = at > 0 && class_at(words, at.saturating_sub(1)) == Class::Of;
-    let behind = if is_carried { Class::Of } else { behind };
-    let hint = unknown_hint(alloc, text, index, behind, name)?;
-    let spot = spot_at(words, at);
-    told_as(
-        alloc,
-        spot,
-        "`",
-        name,
-        "` is not declared here",
-        hint.as_slice(),
-    )
+    let behind = if is_carried {
+        Class::Of
+    } else {
+        class_at(words, operand_end(words, at))
+    };
+    Told {
+        line,
+        at,
+        wrong: one("`@` is not declared here", Piece::Base),
+        hint: unknown_hint(text, line, behind, name),
+    }
 }
 
 /// A hint for a name that stands for nothing, by the word behind it.
-fn unknown_hint(
-    alloc: Global,
-    text: &Text<'_>,
-    index: usize,
-    behind: Class,
-    name: &[u8],
-) -> Result<Vec<u8>, AllocError> {
-    let capitals = in_capitals(alloc, name)?;
-    if class_of(capitals.as_slice()) != Class::Name {
-        return between(
-            alloc,
-            "write reserved words in capitals: ",
-            capitals.as_slice(),
-            "",
-        );
+fn unknown_hint(text: &Text<'_>, line: usize, behind: Class, name: &[u8]) -> Sentence {
+    if let Some(reserved) = reserved_like(name) {
+        return in_capitals(reserved);
     }
-    if is_within(text, index, name) {
-        return between(
-            alloc,
-            "a PROC cannot call itself: there is no recursion",
-            b"",
-            "",
-        );
+    if is_within(text, line, name) {
+        return plain("a PROC cannot call itself: there is no recursion");
     }
     if let Some(other) = like_name(text, name) {
-        return between(
-            alloc,
-            "capitals and small letters differ: `",
-            other,
-            "` is declared",
-        );
+        return one("capitals and small letters differ: `@` is declared", other);
     }
-    declared_hint(alloc, text, index, behind, name)
-}
-
-/// A hint for a name that is declared elsewhere, or not at all.
-fn declared_hint(
-    alloc: Global,
-    text: &Text<'_>,
-    index: usize,
-    behind: Class,
-    name: &[u8],
-) -> Result<Vec<u8>, AllocError> {
-    let Some(line) = declaring_line(text, index, name) else {
-        return absent_hint(alloc, behind, name);
-    };
-    let number = text.number_at(line);
-    let number = format!(in alloc; "{number}")?;
-    let rest = if line < index {
-        " holds for the process behind it alone: put a SEQ there, round all that uses the name"
-    } else {
-        " comes too late: write it above"
-    };
-    between(alloc, "the declaration in line ", number.as_bytes(), rest)
+    match declaring_line(text, line, name) {
+        Some(other) if other < line => {
+            one(
+                "the declaration in line @ holds for the process behind it alone: put a SEQ there, round all that uses the name",
+                Piece::Line(other),
+            )
+        }
+        Some(other) => {
+            one(
+                "the declaration in line @ comes too late: write it above",
+                Piece::Line(other),
+            )
+        }
+        None => one(absent_hint(behind), Piece::Base),
+    }
 }
 
 /// A hint for a name that no line declares, by the word behind it.
-fn absent_hint(alloc: Global, behind: Class, name: &[u8]) -> Result<Vec<u8>, AllocError> {
-    let (before, after) = match behind {
-        Class::OpenParen => {
-            let says =
-                b"write this PROC above: no library is read, so copy it from there".as_slice();
-            return joined(alloc, &[says]);
-        }
-        Class::Exclamation | Class::Question => ("declare the channel above: `CHAN OF INT ", ":`"),
-        Class::Of => ("declare the protocol above: `PROTOCOL ", " IS INT:`"),
-        _ => ("declare it above, with its type: `INT ", ":`"),
-    };
-    between(alloc, before, name, after)
+fn absent_hint(behind: Class) -> &'static str {
+    match behind {
+        Class::OpenParen => "write this PROC above: no library is read, so copy it from there",
+        Class::Exclamation | Class::Question => "declare the channel above: `CHAN OF INT @:`",
+        Class::Of => "declare the protocol above: `PROTOCOL @ IS INT:`",
+        _ => "declare it above, with its type: `INT @:`",
+    }
 }
 
 /// The PAR round a line, and the branch of it that the line stands in; the innermost first.
@@ -264,7 +207,8 @@ fn elsewhere(text: &Text<'_>, par: usize, branch: usize, name: &[u8]) -> Option<
         if indent == text.indent_at(branch) {
             is_own = i == branch;
         }
-        if !is_own && has_name(text.words_at(i), name) {
+        let words = text.words_at(i);
+        if !is_own && name_from(words, 0, name) < words.len() {
             return Some(i);
         }
     }
@@ -272,59 +216,32 @@ fn elsewhere(text: &Text<'_>, par: usize, branch: usize, name: &[u8]) -> Option<
 }
 
 /// What is told of the other use of a name, which the line has or hasn't: the line of another branch, or the calls that hand it on.
-fn use_hint(
-    alloc: Global,
-    text: &Text<'_>,
-    index: usize,
-    is_there: bool,
-    name: &[u8],
-) -> Result<Vec<u8>, AllocError> {
+fn use_hint(text: &Text<'_>, line: usize, is_there: bool, name: &[u8]) -> Sentence {
     if !is_there {
-        let head = b"it has another name here, and is handed on in line ";
-        return handing_calls(alloc, text, head, name);
+        return one(
+            "@",
+            Piece::Calls("it has another name here, and is handed on in line "),
+        );
     }
-    let hint = other_use(alloc, text, index, name)?;
-    if !hint.is_empty() {
-        return Ok(hint);
+    let Some((par, branch)) = branch_of(text, line) else {
+        return one("@", Piece::Calls("it is handed on in line "));
+    };
+    if let Some(other) = elsewhere(text, par, branch, name) {
+        return one("another branch uses it in line @", Piece::Line(other));
     }
-    handing_calls(alloc, text, b"it is handed on in line ", name)
+    plain(if text.words_at(par).len() > 1 {
+        "each copy of the replicated PAR uses it"
+    } else {
+        "another branch uses it through a call"
+    })
 }
 
 /// What is said of a variable or a channel that two branches use.
-fn told_shared(
-    alloc: Global,
-    spot: Spot,
-    number: u32,
-    name: &[u8],
-    hint: &[u8],
-) -> Result<Finding, AllocError>
-    ensures { IfOk result (λ f. 1 ≤ length f.wrong.items) }
-{
+fn shared_text(number: u32) -> &'static str {
     match number {
-        50 => told_as(
-            alloc,
-            spot,
-            "`",
-            name,
-            "` is written in one branch of a PAR and used in another",
-            hint,
-        ),
-        51 => told_as(
-            alloc,
-            spot,
-            "two branches of a PAR input from `",
-            name,
-            "`",
-            hint,
-        ),
-        _ => told_as(
-            alloc,
-            spot,
-            "two branches of a PAR output to `",
-            name,
-            "`",
-            hint,
-        ),
+        50 => "`@` is written in one branch of a PAR and used in another",
+        51 => "two branches of a PAR input from `@`",
+        _ => "two branches of a PAR output to `@`",
     }
 }
 
@@ -374,27 +291,17 @@ fn other_line(text: &Text<'_>, index: usize, name: &[u8]) -> usize {
 }
 
 /// Why a component counts that another subscript names: one of both is no constant.
-fn whole_array(
-    alloc: Global,
-    text: &Text<'_>,
-    index: usize,
-    name: &[u8],
-) -> Result<Vec<u8>, AllocError> {
-    let other = other_line(text, index, base(name));
-    for line in [index, other] {
+fn whole_array(text: &Text<'_>, line: usize, name: &[u8]) -> Sentence {
+    for line in [line, other_line(text, line, base(name))] {
         if let Some(at) = varying(text, line) {
-            let number = text.number_at(line);
-            let place = format!(in alloc;
-                "` (line {number}), which is no constant, the whole array counts"
-            )?;
-            let said = words_text(alloc, text.words_at(line), at, at.saturating_add(1))?;
-            return joined(
-                alloc,
-                &[b"; under `".as_slice(), said.as_slice(), place.as_bytes()],
+            return two(
+                "; under `@` (line @), which is no constant, the whole array counts",
+                word(line, at),
+                Piece::Line(line),
             );
         }
     }
-    Ok(Vec::new(alloc))
+    plain("")
 }
 
 /// Whether a name has two subscripts or more.
@@ -409,34 +316,46 @@ fn is_in_row(name: &[u8]) -> bool {
 }
 
 /// A variable or a channel's end that two branches use.
-fn shared(
+pub(crate) fn shared_finding(
     alloc: Global,
     text: &Text<'_>,
-    index: usize,
-    number: u32,
-    at: usize,
-    name: &[u8],
+    line: usize,
+    refusal: &Refusal<'_>,
 ) -> Result<Finding, AllocError>
     ensures { IfOk result (λ f. 1 ≤ length f.wrong.items) }
 {
-    if let Some(place) = stream_of(text, number, name) {
-        return stream_finding(alloc, text, index, number, &place);
+    let name = refusal.name;
+    if let Some(place) = stream_of(text, refusal.number, name) {
+        return closer(
+            alloc,
+            text,
+            refusal,
+            &stream_finding(text, line, refusal.number, &place),
+        );
     }
-    let words = text.words_at(index);
-    let spot = spot_at(words, at);
-    let mut hint = use_hint(alloc, text, index, at < words.len(), base(name))?;
+    let words = text.words_at(line);
+    let at = name_from(words, 0, base(name));
+    let told = Told {
+        line,
+        at,
+        wrong: one(shared_text(refusal.number), Piece::Name),
+        hint: use_hint(text, line, at < words.len(), base(name)),
+    };
+    let mut found = closer(alloc, text, refusal, &told)?;
     if base(name).len() < name.len() {
-        let mut whole = whole_array(alloc, text, index, name)?;
-        hint.append(&mut whole)?;
+        let mut whole = written(alloc, text, name, &whole_array(text, line, name))?;
+        found.hint.append(&mut whole)?;
     }
-    if is_in_row(name) {
-        hint.extend_from_slice(b": declare an array of one dimension for each branch")?;
+    let advice = if is_in_row(name) {
+        "declare an array of one dimension for each branch"
     } else {
-        let colon = if hint.is_empty() { "" } else { ": " };
-        hint.extend_from_slice(colon.as_bytes())?;
-        hint.extend_from_slice(shared_advice(number, name).as_bytes())?;
+        shared_advice(refusal.number, name)
+    };
+    if is_in_row(name) || !found.hint.is_empty() {
+        found.hint.extend_from_slice(b": ")?;
     }
-    told_shared(alloc, spot, number, name, hint.as_slice())
+    found.hint.extend_from_slice(advice.as_bytes())?;
+    Ok(found)
 }
 
 /// The keyboard, the screen or the error channel: the line of the main process, the place of its formal, and what it is.
@@ -500,46 +419,26 @@ pub(crate) fn other_main(text: &Text<'_>, head: usize) -> Option<usize> {
 }
 
 /// What to do where a program outputs to the keyboard, or inputs from the screen.
-fn stream_hint(alloc: Global, text: &Text<'_>, place: &Stream) -> Result<Vec<u8>, AllocError> {
-    let words = text.words_at(place.head);
-    let name = words_text(alloc, words, 1, 2)?;
-    if other_main(text, place.head).is_some() {
-        return joined(
-            alloc,
-            &[
-                b"the last PROC is the main process: move `".as_slice(),
-                name.as_slice(),
-                b"` above `main`".as_slice(),
-            ],
+fn stream_hint(text: &Text<'_>, head: usize) -> Sentence {
+    let name = word(head, 1);
+    if other_main(text, head).is_some() {
+        return one(
+            "the last PROC is the main process: move `@` above `main`",
+            name,
         );
     }
-    if formal_count(words) == 1 {
-        return joined(
-            alloc,
-            &[
-                b"the keyboard comes first, and the screen second: `PROC ".as_slice(),
-                name.as_slice(),
-                b" (CHAN OF BYTE keyboard, screen)`".as_slice(),
-            ],
+    if formal_count(text.words_at(head)) == 1 {
+        return one(
+            "the keyboard comes first, and the screen second: `PROC @ (CHAN OF BYTE keyboard, screen)`",
+            name,
         );
     }
-    let hint = "the main process inputs from its first formal, and outputs to the others";
-    joined(alloc, &[hint.as_bytes()])
+    plain("the main process inputs from its first formal, and outputs to the others")
 }
 
 /// A program that outputs to the keyboard, or inputs from the screen or the error channel.
-fn stream_finding(
-    alloc: Global,
-    text: &Text<'_>,
-    index: usize,
-    number: u32,
-    place: &Stream,
-) -> Result<Finding, AllocError>
-    ensures { IfOk result (λ f. 1 ≤ length f.wrong.items) }
-{
-    let words = text.words_at(index);
-    let head = text.words_at(place.head);
-    let name = words_text(alloc, head, place.at, place.at.saturating_add(1))?;
+fn stream_finding(text: &Text<'_>, line: usize, number: u32, place: &Stream) -> Told {
+    let words = text.words_at(line);
     let class = if number == 52 {
         Class::Exclamation
     } else {
@@ -556,92 +455,22 @@ fn stream_finding(
     } else {
         ", which only takes output"
     };
-    let hint = stream_hint(alloc, text, place)?;
-    let mut found = told_as(
-        alloc,
-        spot_at(words, at),
-        "`",
-        name.as_slice(),
-        "` is ",
-        hint.as_slice(),
-    )?;
-    found.wrong.extend_from_slice(place.says.as_bytes())?;
-    found.wrong.extend_from_slice(says.as_bytes())?;
-    Ok(found)
+    Told {
+        line,
+        at,
+        wrong: three(
+            "`@` is @@",
+            word(place.head, place.at),
+            Piece::Text(place.says),
+            Piece::Text(says),
+        ),
+        hint: stream_hint(text, place.head),
+    }
 }
 
-/// How many calls are told of.
-const MOST_CALLS: usize = 6;
-
 /// Whether a line is a call that has the name among its actuals.
-fn hands_on(words: &[Word<'_>], name: &[u8]) -> bool {
+pub(crate) fn hands_on(words: &[Word<'_>], name: &[u8]) -> bool {
     class_at(words, 0) == Class::Name
         && class_at(words, 1) == Class::OpenParen
         && name_from(words, 1, name) < words.len()
-}
-
-/// The calls that hand a name on to PROCs, behind this; nothing where there are none.
-fn handing_calls(
-    alloc: Global,
-    text: &Text<'_>,
-    first: &[u8],
-    name: &[u8],
-) -> Result<Vec<u8>, AllocError> {
-    let mut told = Vec::new(alloc);
-    let mut calls: usize = 0;
-    for i in 0..text.lines.len() {
-        let words = text.words_at(i);
-        if calls < MOST_CALLS && hands_on(words, name) {
-            let head: &[u8] = if calls == 0 { first } else { b", in line " };
-            tell_call(alloc, &mut told, head, text.number_at(i), words)?;
-            calls = calls.saturating_add(1);
-        }
-    }
-    Ok(told)
-}
-
-/// A call in this line, behind these words.
-fn tell_call(
-    alloc: Global,
-    told: &mut Vec<u8>,
-    head: &[u8],
-    line: u32,
-    words: &[Word<'_>],
-) -> Result<(), AllocError> {
-    let line = format!(in alloc; "{line}")?;
-    told.extend_from_slice(head)?;
-    told.extend_from_slice(line.as_bytes())?;
-    told.extend_from_slice(b" to ")?;
-    match words.first() {
-        Some(word) => told.extend_from_slice(word.bytes),
-        None => Ok(()),
-    }
-}
-
-/// Where the other branch uses what a line uses.
-fn other_use(
-    alloc: Global,
-    text: &Text<'_>,
-    index: usize,
-    name: &[u8],
-) -> Result<Vec<u8>, AllocError> {
-    let Some((par, branch)) = branch_of(text, index) else {
-        return Ok(Vec::new(alloc));
-    };
-    if let Some(line) = elsewhere(text, par, branch, name) {
-        let line = text.number_at(line);
-        let line = format!(in alloc; "{line}")?;
-        return between(
-            alloc,
-            "another branch uses it in line ",
-            line.as_bytes(),
-            "",
-        );
-    }
-    let hint = if text.words_at(par).len() > 1 {
-        "each copy of the replicated PAR uses it"
-    } else {
-        "another branch uses it through a call"
-    };
-    between(alloc, hint, b"", "")
 }

@@ -1,12 +1,10 @@
 //! Bytes and literals that stand for nothing.
-ghost use Rattle.std.specs.Prelude.{◌≤◌, IfOk, length};
 
+use crate::causes::cause_of;
 use crate::class::Class;
-use crate::finding::{Finding, plain, spot_at, told_as};
-use crate::scan::Word;
-use crate::types::words_text;
+use crate::scan::{Text, Word};
+use crate::sentence::{Piece, Told, one, plain, two, word};
 use crate::walk::{bytes_at, class_at};
-use std::alloc::{AllocError, Global};
 
 /// What a byte or a character that begins no word is called, and what is written in its place.
 static BYTES: [(&[u8], &str, &str); 17] = [
@@ -75,56 +73,41 @@ fn first_odd(words: &[Word<'_>]) -> usize {
 }
 
 /// A text in which a byte or a literal stands for nothing.
-pub(crate) fn odd_finding(
-    alloc: Global,
-    words: &[Word<'_>],
-    number: u32,
-) -> Result<Finding, AllocError>
-    ensures { IfOk result (λ f. 1 ≤ length f.wrong.items) }
-{
+pub(crate) fn odd_finding(text: &Text<'_>, line: usize, number: u32) -> Told {
+    let words = text.words_at(line);
     let at = first_odd(words);
-    let spot = spot_at(words, at);
-    let Some(word) = words.get(at) else {
-        return plain(alloc, spot, number, b"");
+    let bytes = bytes_at(words, at);
+    let found = word(line, at);
+    let (wrong, hint) = match class_at(words, at) {
+        Class::End => (plain(cause_of(number)), ""),
+        Class::BadByte if is_real(words, at) => return real(words, line, at),
+        Class::BadByte => match bytes {
+            [byte, ..] if byte.is_ascii_graphic() && !is_listed(bytes) => (
+                one("`@`, which begins no word", found),
+                "occam has no such sign: it may stand in comments and strings alone",
+            ),
+            [byte, ..] if !is_listed(bytes) => (
+                one(
+                    "a byte that is no ASCII character: @",
+                    Piece::Number(u64::from(*byte)),
+                ),
+                "write ASCII alone, but for comments",
+            ),
+            _ => {
+                let (called, hint) = byte_text(bytes);
+                (one("@, which begins no word", Piece::Text(called)), hint)
+            }
+        },
+        class => {
+            let (wrong, hint) = literal_text(class, bytes);
+            (two("`@@", found, Piece::Text(wrong)), hint)
+        }
     };
-    if word.class != Class::BadByte {
-        let (wrong, hint) = literal_text(word.class, word.bytes);
-        return told_as(alloc, spot, "`", word.bytes, wrong, hint.as_bytes());
-    }
-    if is_real(words, at) {
-        return real(alloc, words, at);
-    }
-    match word.bytes {
-        [byte, ..] if byte.is_ascii_graphic() && !is_listed(word.bytes) => told_as(
-            alloc,
-            spot,
-            "`",
-            &[*byte],
-            "`, which begins no word",
-            b"occam has no such sign: it may stand in comments and strings alone",
-        ),
-        [byte, ..] if !is_listed(word.bytes) => {
-            let code = format!(in alloc; "{byte}")?;
-            told_as(
-                alloc,
-                spot,
-                "a byte that is no ASCII character: ",
-                code.as_bytes(),
-                "",
-                b"write ASCII alone, but for comments",
-            )
-        }
-        bytes => {
-            let (called, hint) = byte_text(bytes);
-            told_as(
-                alloc,
-                spot,
-                "",
-                called.as_bytes(),
-                ", which begins no word",
-                hint.as_bytes(),
-            )
-        }
+    Told {
+        line,
+        at,
+        wrong,
+        hint: plain(hint),
     }
 }
 
@@ -136,25 +119,19 @@ fn is_real(words: &[Word<'_>], at: usize) -> bool {
 }
 
 /// A real number.
-fn real(alloc: Global, words: &[Word<'_>], at: usize) -> Result<Finding, AllocError>
-    ensures { IfOk result (λ f. 1 ≤ length f.wrong.items) }
-{
+fn real(words: &[Word<'_>], line: usize, at: usize) -> Told {
     let from = at.saturating_sub(1);
     let is_digits = class_at(words, at.saturating_add(1)) == Class::Number;
-    let to = if is_digits {
-        at.saturating_add(2)
-    } else {
-        at.saturating_add(1)
-    };
-    let said = words_text(alloc, words, from, to)?;
-    told_as(
-        alloc,
-        spot_at(words, from),
-        "`",
-        said.as_slice(),
-        "` is a real number, and this profile of occam 2 has none",
-        b"use INT, for example in hundredths",
-    )
+    let to = at.saturating_add(if is_digits { 2 } else { 1 });
+    Told {
+        line,
+        at: from,
+        wrong: one(
+            "`@` is a real number, and this profile of occam 2 has none",
+            Piece::Brief(line, from, to),
+        ),
+        hint: plain("use INT, for example in hundredths"),
+    }
 }
 
 /// Whether a byte or a character has a name of its own.

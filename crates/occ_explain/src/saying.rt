@@ -1,12 +1,9 @@
 //! What is told of a place where a line leaves the grammar.
 
-ghost use Rattle.std.specs.Prelude.{◌≤◌, ◌+◌, IfOk, length};
-
 use crate::class::Class;
 use crate::grammar::Part;
-use crate::scan::Word;
-use crate::walk::{Leaving, class_at};
-use std::alloc::{AllocError, Global};
+use crate::sentence::{Piece, Sentence, one, two, word};
+use crate::walk::Leaving;
 
 /// What may stand at the parts of a process.
 static OF_PROCESSES: [(Part, &str); 16] = [
@@ -105,71 +102,24 @@ pub(crate) fn is_operator(class: Class) -> bool {
     )
 }
 
-/// The most bytes of a word that are told.
-const MOST_TOLD: usize = 40;
-
-/// The beginning of a word, as far as it is told.
-pub(crate) fn told(bytes: &[u8]) -> &[u8] {
-    &bytes[..MOST_TOLD.min(bytes.len())]
-}
-
-/// The texts one after the other.
-pub(crate) fn joined(alloc: Global, texts: &[&[u8]]) -> Result<Vec<u8>, AllocError> {
-    let mut all = Vec::new(alloc);
-    for text in texts {
-        all.extend_from_slice(text)?;
+/// What is wrong where a line leaves the grammar: the word that is met, and what may stand in its place. Behind the last word none is.
+pub(crate) fn leaving_sentence(line: usize, leaving: &Leaving, met: Class) -> Sentence {
+    let found = word(line, leaving.at);
+    if met == Class::End {
+        let wanted = leaving.wanted.map_or("more", |part| wanted_text(part));
+        return one("the line ends where @ must stand", Piece::Text(wanted));
     }
-    Ok(all)
-}
-
-/// What is told behind the word that is met.
-fn phrase(leaving: &Leaving, met: Class) -> (&'static str, &'static str, &'static str) {
     if let Some(over) = leaving.over
         && (leaving.wanted.is_none() || is_operator(met))
     {
-        return ("` after ", over_text(over), "");
+        return two("`@` after @", found, Piece::Text(over_text(over)));
     }
     match leaving.wanted {
-        Some(part) => ("` where ", wanted_text(part), " must stand"),
-        None => ("` where the line must end", "", ""),
+        Some(part) => two(
+            "`@` where @ must stand",
+            found,
+            Piece::Text(wanted_text(part)),
+        ),
+        None => one("`@` where the line must end", found),
     }
-}
-
-/// A word between two texts.
-pub(crate) fn between(
-    alloc: Global,
-    before: &str,
-    word: &[u8],
-    after: &str,
-) -> Result<Vec<u8>, AllocError>
-    ensures { IfOk result (λ v. length before.now + length after.now ≤ length v.items) }
-{
-    let mut all = Vec::from_slice(alloc, before.as_bytes())?;
-    all.extend_from_slice(told(word))?;
-    all.extend_from_slice(after.as_bytes())?;
-    Ok(all)
-}
-
-/// What is wrong where a line leaves the grammar: the word that is met, and what may stand in its place.
-pub(crate) fn leaving_text(
-    alloc: Global,
-    words: &[Word<'_>],
-    leaving: &Leaving,
-) -> Result<Vec<u8>, AllocError>
-    ensures { IfOk result (λ v. 1 ≤ length v.items) }
-{
-    let Some(word) = words.get(leaving.at) else {
-        let wanted = leaving.wanted.map_or("more", |part| wanted_text(part));
-        return between(
-            alloc,
-            "the line ends where ",
-            wanted.as_bytes(),
-            " must stand",
-        );
-    };
-    let (before, text, after) = phrase(leaving, word.class);
-    let mut all = between(alloc, "`", word.bytes, before)?;
-    all.extend_from_slice(text.as_bytes())?;
-    all.extend_from_slice(after.as_bytes())?;
-    Ok(all)
 }

@@ -1,11 +1,9 @@
 //! Types: those with which names are declared, and those of expressions, as far as the words of a text tell.
 
 use crate::class::Class;
-use crate::saying::{between, told};
 use crate::scan::{Text, Word};
-use crate::scope::{Declared, Kind, behind_bracket, behind_sizes, declaration_of};
+use crate::scope::{Kind, behind_bracket, behind_sizes, declaration_of};
 use crate::walk::{bytes_at, class_at};
-use std::alloc::{AllocError, Global};
 
 #[derive(Clone, Copy, PartialEq)]
 pub(crate) enum Primitive {
@@ -285,158 +283,7 @@ pub(crate) fn called(found: Type) -> &'static str {
     }
 }
 
-/// The words from one place up to another, as they stand in the text: with a space between two where it has one.
-pub(crate) fn words_text(
-    alloc: Global,
-    words: &[Word<'_>],
-    from: usize,
-    to: usize,
-) -> Result<Vec<u8>, AllocError> {
-    let mut out = Vec::new(alloc);
-    let mut end: Option<(u32, usize)> = None;
-    for i in from..to.min(words.len()) {
-        let word = words[i];
-        let is_beside = match end {
-            Some((line, place)) => line == word.line && place == word.before,
-            None => true,
-        };
-        if !is_beside {
-            out.extend_from_slice(b" ")?;
-        }
-        out.extend_from_slice(told(word.bytes))?;
-        end = Some((word.line, word.before.saturating_add(word.bytes.len())));
-    }
-    Ok(out)
-}
-
-/// How many characters a string has.
-fn characters(literal: &[u8]) -> usize {
-    let mut count: usize = 0;
-    let mut code: usize = 0;
-    for (i, byte) in literal.iter().enumerate() {
-        if i == 0 {
-            continue;
-        }
-        match code {
-            // behind a star, and in its two digits
-            3 if *byte == b'#' => code = 2,
-            3 => code = 0,
-            0 if *byte == b'"' => return count,
-            0 => {
-                count = count.saturating_add(1);
-                code = if *byte == b'*' { 3 } else { 0 };
-            }
-            _ => code = code.saturating_sub(1),
-        }
-    }
-    count
-}
-
-/// A type with its sizes as they are written, where the expression is a name or a string alone, or how it is called.
-pub(crate) fn type_text(
-    alloc: Global,
-    text: &Text<'_>,
-    line: usize,
-    at: usize,
-    found: Type,
-) -> Result<Vec<u8>, AllocError> {
-    let words = text.words_at(line);
-    let is_alone = expression_end(words, at) == at.saturating_add(1);
-    if let Some(word) = words.get(at)
-        && found.sizes > 0
-        && is_alone
-    {
-        if word.class == Class::Text {
-            let size = characters(word.bytes);
-            let size = format!(in alloc; "{size}")?;
-            return between(alloc, "a [", size.as_bytes(), "]BYTE");
-        }
-        if let Some(found) = declaration_of(text, line, word.bytes)
-            && found.spec.of < text.words_at(found.line).len()
-        {
-            let spelled = spelled_text(alloc, text, &found)?;
-            return between(alloc, "a ", spelled.as_slice(), "");
-        }
-    }
-    between(alloc, called(found), b"", "")
-}
-
-/// What stands before a name where it is declared.
-pub(crate) fn spelled_text(
-    alloc: Global,
-    text: &Text<'_>,
-    found: &Declared,
-) -> Result<Vec<u8>, AllocError> {
-    words_text(
-        alloc,
-        text.words_at(found.line),
-        found.spec.from,
-        found.spec.to,
-    )
-}
-
-/// Whether the word stands among those before it.
-fn is_again(words: &[Word<'_>], at: usize) -> bool {
-    let Some(word) = words.get(at) else {
-        return false;
-    };
-    words.iter().take(at).any(|other| other.bytes == word.bytes)
-}
-
-/// What the names of a line are declared as: ``b` is a BYTE (line 2)`, with a comma between two.
-pub(crate) fn types_text(
-    alloc: Global,
-    text: &Text<'_>,
-    index: usize,
-) -> Result<Vec<u8>, AllocError> {
-    let mut out = Vec::new(alloc);
-    let words = text.words_at(index);
-    for (i, word) in words.iter().enumerate() {
-        if word.class == Class::Name
-            && !is_again(words, i)
-            && let Some(found) = declaration_of(text, index, word.bytes)
-        {
-            write_type(alloc, &mut out, text, word.bytes, &found)?;
-        }
-    }
-    Ok(out)
-}
-
-fn write_type(
-    alloc: Global,
-    out: &mut Vec<u8>,
-    text: &Text<'_>,
-    name: &[u8],
-    found: &Declared,
-) -> Result<(), AllocError> {
-    if !out.is_empty() {
-        out.extend_from_slice(b", ")?;
-    }
-    let named = between(alloc, "`", name, "` is ")?;
-    out.extend_from_slice(named.as_slice())?;
-    let mut told = declared_text(alloc, text, found)?;
-    out.append(&mut told)
-}
-
-/// What a name is declared as, and in which line.
-pub(crate) fn declared_text(
-    alloc: Global,
-    text: &Text<'_>,
-    found: &Declared,
-) -> Result<Vec<u8>, AllocError> {
-    let number = text.number_at(found.line);
-    let place = format!(in alloc; " (line {number})")?;
-    let spelled = spelled_text(alloc, text, found)?;
-    let kind = match found.spec.kind {
-        Kind::Procedure => "a PROC",
-        Kind::Protocol => "a protocol",
-        Kind::Index => "the index of a replicator",
-        Kind::Value if found.spec.of == usize::MAX => "a value named by VAL",
-        Kind::Value => "a VAL ",
-        Kind::Variable if spelled.starts_with(b"INT") => "an ",
-        Kind::Variable | Kind::Channel => "a ",
-    };
-    let mut told = between(alloc, kind, spelled.as_slice(), "")?;
-    told.extend_from_slice(place.as_bytes())?;
-    Ok(told)
+/// Whether what is spelled from one word up to another begins with INT.
+pub(crate) fn begins_int(words: &[Word<'_>], from: usize, to: usize) -> bool {
+    from < to && bytes_at(words, from).starts_with(b"INT")
 }
