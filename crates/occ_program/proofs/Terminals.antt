@@ -8,7 +8,6 @@ use Rattle.occ_net_replay.specs.declared.choice.Choice.{Choice}
 use Rattle.occ_play.specs.declared.fault.PlayFault.{PlayFault}
 use Rattle.occ_play.specs.declared.playing.Options.{Options}
 use Rattle.occ_play_inputs.specs.declared.words.Words.{Words}
-use Rattle.occ_program.specs.Coming.{options_in}
 use Rattle.occ_program.specs.Explained.{TellsOf, files_in, has_zero, no_text, source_name}
 
 -- an explanation, and that the source is no text
