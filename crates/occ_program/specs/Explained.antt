@@ -1,6 +1,6 @@
 -- What is told behind a refusal's line, behind an ending, and behind the answers of a search.
 -- Manual: nothing; this is (own).
-use Rattle.std.specs.Prelude.{Bool, Err, List, Ok, Result, Some, [], codes, get_or, length, map, nat_eq, suc, take, true, zero, ℕ, ⊤, ◌++◌, ◌<◌, ◌≤◌, ◌∷◌, ◌≡◌, ◌≢◌, ◌⊎◌}
+use Rattle.std.specs.Prelude.{Bool, Err, List, None, Ok, Option, Result, Some, [], codes, get_or, length, map, nat_eq, suc, take, true, zero, ℕ, ⊤, ◌++◌, ◌<◌, ◌≤◌, ◌∷◌, ◌≡◌, ◌≢◌, ◌⊎◌}
 use Rattle.std.specs.Fmt.{decimal}
 use Rattle.std.specs.List.{list_any}
 use Rattle.occ_explaining.specs.Explaining.{ReportsOn, TellsRefusal, refusal_in}
@@ -12,11 +12,12 @@ use Rattle.occ_files.specs.declared.reason.Reason.{Reason}
 use Rattle.occ_net_replay.specs.declared.choice.Choice.{Choice}
 use Rattle.occ_term.specs.Endings.{ending_text}
 use Rattle.occ_term.specs.declared.ending.Ending.{Ending}
-use Rattle.occ_term.specs.declared.ending.Ending.TheVariants.{Ended}
+use Rattle.occ_term.specs.declared.ending.Ending.TheVariants.{Ended, Limit}
 use Rattle.occ_play.specs.declared.fault.PlayFault.{PlayFault}
 use Rattle.occ_play.specs.declared.fault.PlayFault.TheVariants as play
 use Rattle.occ_play.specs.declared.playing.Played.{Played}
 use Rattle.occ_play_inputs.specs.Failures.{trouble}
+use Rattle.occ_text.specs.declared.fault.TextFault.TheVariants as text
 use Rattle.occ_play_inputs.specs.declared.failure.Stream.TheVariants.{Output}
 use Rattle.occ_play_inputs.specs.declared.inputs.Inputs.{Inputs}
 use Rattle.occ_play_inputs.specs.declared.words.Words.{Words}
@@ -39,9 +40,21 @@ no_text file = printed_name file ++ codes ": this is not a text file: it contain
 abbrev pub source_name : Words → List ℕ
 source_name words = path_or (codes "-") words.file
 
--- an explanation of a refusal of this source, or that it is no text, where it has a byte that is 0
+-- the bytes themselves are refused: there are too many, or one is none of a text
+abbrev pub RefusesBytes : PlayFault → Type 0
+RefusesBytes (play.Text text.TooLong) = ⊤
+RefusesBytes (play.Text (text.BadByte n)) = ⊤
+RefusesBytes fault = ⊥
+
+-- of a source of one file that is no text: its bytes are refused, and one of them is 0
+pub record IsNoText (words : Words) (source : List ℕ) (fault : PlayFault) : Type 0 where
+  pub single : words.more.items ≡ []
+  pub refused : RefusesBytes fault
+  pub zero : has_zero source ≡ true
+
+-- an explanation of a refusal of this source, or that it is no text
 abbrev pub TellsOf : Words → (source ends : List ℕ) → PlayFault → List ℕ → Type 0
-TellsOf words source ends fault text = TellsRefusal source (files_in words ends) (refusal_in fault) (Some text) ⊎ ((has_zero source ≡ true) × (text ≡ no_text (source_name words)))
+TellsOf words source ends fault text = TellsRefusal source (files_in words ends) (refusal_in fault) (Some text) ⊎ (IsNoText words source fault × (text ≡ no_text (source_name words)))
 
 -- why standard output was not written, or an explanation
 abbrev pub TellsWhy : Words → Inputs → Reason → PlayFault → List ℕ → Type 0
@@ -53,9 +66,24 @@ abbrev pub ReportsRun : Words → Inputs → List Choice → List ℕ → Type 0
 ReportsRun words inputs choices text =
     (report : List ℕ) × ReportsOn (options_in words) inputs.source.items inputs.keyboard.items choices report × (text ≡ report ++ beginnings (files_in words inputs.ends.items))
 
--- of a fault that, and of a run the report by its choices
+-- what allows more turns: a larger limit and longer turns, or a longer schedule where a file has it
+abbrev pub limit_told : {Path : Type 0} → Option Path → List ℕ
+limit_told None = codes "  the limit is reached: --limit N allows more turns, --quantum N makes each longer\n"
+limit_told (Some path) = codes "  the schedule ends here: a longer one lets the run go on\n"
+
+-- that, where the choices were used up
+abbrev pub told_below : {Path : Type 0} → Option Path → Ending → List ℕ
+told_below choices Limit = limit_told choices
+told_below choices ending = []
+
+-- the report of a run, and that below it
+abbrev pub ReportsEnd : Words → Inputs → Played → List ℕ → Type 0
+ReportsEnd words inputs played text =
+    (report : List ℕ) × ReportsRun words inputs played.choices.items report × (text ≡ report ++ told_below words.choices played.ending)
+
+-- of a fault that, and of a run the report of its end
 abbrev pub Explains : Words → Inputs → Reason → Result Played PlayFault → List ℕ → Type 0
-Explains words inputs reason (Ok played) text = ReportsRun words inputs played.choices.items text
+Explains words inputs reason (Ok played) text = ReportsEnd words inputs played text
 Explains words inputs reason (Err fault) text = TellsWhy words inputs reason fault text
 
 -- ---- the answers of a search

@@ -2,7 +2,7 @@
 ghost use Rattle.std.specs.Prelude.{◌≡◌, IfOk, IfSome, IsTrue, true};
 ghost use Rattle.occ_play_inputs.specs.Failures.{trouble};
 ghost use Rattle.occ_play_inputs.specs.declared.failure.Stream.TheVariants.{Output};
-ghost use Rattle.occ_program.specs.Explained.{Explains, ReportsRun, TellsOf, TellsWhy, files_in, has_zero, no_text, source_name};
+ghost use Rattle.occ_program.specs.Explained.{Explains, RefusesBytes, ReportsEnd, ReportsRun, TellsOf, TellsWhy, files_in, has_zero, limit_told, no_text, source_name, told_below};
 ghost use Rattle.occ_explaining.specs.Files.{files_of};
 ghost use Rattle.occ_program.specs.Troubles.{trouble_text};
 
@@ -81,7 +81,8 @@ fn told_of(
 
 /// Whether a source is refused for what it is, and has a byte that is 0, as no text has.
 fn is_no_text(source: &[u8], fault: &PlayFault) -> bool
-    ensures { IsTrue result → has_zero source.now ≡ true }
+    ensures zero { IsTrue result → has_zero source.now ≡ true }
+    ensures refused { IsTrue result → RefusesBytes fault.now }
 {
     match fault {
         PlayFault::Text(TextFault::BadByte { .. }) | PlayFault::Text(TextFault::TooLong) => {
@@ -162,15 +163,51 @@ fn explanation(
 
 /// What each process stands at where a run has not ended.
 fn reported(alloc: Global, words: &Words<'_>, inputs: &Inputs, played: &Played) -> Option<Vec<u8>>
-    ensures { IfSome result (λ text.
-        ReportsRun words.now inputs.now played.now.choices.items text.items) }
+    ensures { IfSome result (λ text. ReportsEnd words.now inputs.now played.now text.items) }
 {
     if let Ending::Ended = played.ending {
         return None;
     }
-    match run_report(alloc, words, inputs, played.choices.as_slice()) {
+    match cut_report(alloc, words, inputs, played) {
         Ok(report) => Some(report),
         Err(_) => None,
+    }
+}
+
+/// The report of a run, and where its choices were used up what allows more turns.
+fn cut_report(
+    alloc: Global,
+    words: &Words<'_>,
+    inputs: &Inputs,
+    played: &Played,
+) -> Result<Vec<u8>, PlayFault>
+    ensures { IfOk result (λ text. ReportsEnd words.now inputs.now played.now text.items) }
+{
+    let mut text = run_report(alloc, words, inputs, played.choices.as_slice())?;
+    let below = told_below(words.choices, played.ending);
+    text.extend_from_slice(below.as_bytes())?;
+    Ok(text)
+}
+
+/// What allows more turns, where a run has used up its choices, which are those of a file where this is its path.
+fn told_below(choices: Option<&str>, ending: Ending) -> &'static str
+    ensures { result.now ≡ told_below choices.entry ending }
+{
+    match ending {
+        Ending::Limit => limit_told(choices),
+        Ending::Ended | Ending::Stopped | Ending::Fault(_) | Ending::StoppedBy(_) => "",
+    }
+}
+
+/// What allows more turns than a run had, whose choices are those of a file where this is its path.
+fn limit_told(choices: Option<&str>) -> &'static str
+    ensures { result.now ≡ limit_told choices.entry }
+{
+    match choices {
+        None => {
+            "  the limit is reached: --limit N allows more turns, --quantum N makes each longer\n"
+        }
+        Some(_) => "  the schedule ends here: a longer one lets the run go on\n",
     }
 }
 
