@@ -1,20 +1,14 @@
--- What is told of a refusal and of choices, by what was asked and read.
-use Rattle.std.proofs.Common.{◌≡◌, Global, List, Option, None, Some, Vec, inl, inr, subst, true, ℕ}
-use Rattle.std.specs.Prelude.{IfSome}
-use Rattle.occ_explaining.specs.Explaining.{TellsFault, TellsRefusal, refusal_in}
-use Rattle.occ_explaining.specs.Files.{SourceFiles}
-use Rattle.occ_explaining.specs.Typing.{NeedsNoKeyboard, PastOf}
-use Rattle.occ_net_replay.specs.declared.choice.Choice.{Choice}
-use Rattle.occ_play.specs.declared.fault.PlayFault.{PlayFault}
+-- Keyboards that are left unread.
+use Rattle.std.proofs.Common.{◌≡◌, Bool, List, None, Option, Some, subst, true, ℕ}
+use Rattle.occ_explaining.specs.Typing.{NeedsNoKeyboard}
 use Rattle.occ_play.specs.declared.playing.Options.{Options}
-use Rattle.occ_play_inputs.specs.declared.words.Words.{Words}
-use Rattle.occ_program.specs.Explained.{TellsOf, files_in, has_zero, no_text, source_name}
+use Rattle.occ_play_inputs.specs.Asked.{IsTyped}
 
--- of the words' options and of the bytes that were read
-pub past_for : (options other : Options) (source text keyboard keys : List ℕ) (list choices : List Choice) (turn : Option ℕ) → options ≡ other → source ≡ text → keyboard ≡ keys → list ≡ choices
-    → PastOf options source keyboard list turn → PastOf other text keys choices turn
-past_for options other source text keyboard keys list choices turn same from typed used h =
-    subst (λ o. PastOf o text keys choices turn) same (subst (λ s. PastOf options s keys choices turn) from (subst (λ k. PastOf options source k choices turn) typed (subst (λ cs. PastOf options source keyboard cs turn) used h)))
-
+-- of the words' options
 pub unneeded : (options other : Options) (source : List ℕ) → options ≡ other → NeedsNoKeyboard options source → NeedsNoKeyboard other source
 unneeded options other source same h = subst (λ o. NeedsNoKeyboard o source) same h
+
+-- nothing is typed where no file is named, whether or not the keyboard is wanted
+pub typed_or : {Path : Type 0} (file : Option Path) (wanted : Bool) (keyboard : List ℕ) → IsTyped file wanted keyboard → IsTyped file true keyboard
+typed_or None wanted keyboard h = h
+typed_or (Some path) wanted keyboard h = tt

@@ -1,9 +1,8 @@
 //! Reads what is to be played.
-ghost use Rattle.std.specs.Prelude.{◌≡◌, [], IfOk, IsFalse};
+ghost use Rattle.std.specs.Prelude.{◌≡◌, [], IfOk, IsFalse, true};
 ghost use Rattle.occ_explaining.specs.Typing.{NeedsNoKeyboard};
-ghost use Rattle.occ_play_inputs.specs.Asked.{IsAskedBy, IsSourceIn};
+ghost use Rattle.occ_play_inputs.specs.Asked.{IsAskedBy, IsSourceIn, IsTyped};
 ghost use Rattle.occ_program.specs.Coming.{options_in};
-ghost use Rattle.occ_program.specs.Terminals.{IsTypedFor};
 
 use crate::program::options_of;
 use occ_explaining::may_input;
@@ -23,7 +22,7 @@ where
     R::Reader: IsTerminal,
     ensures asked { IfOk result (λ inputs. IsAskedBy words.now inputs.plan) }
     ensures joined { IfOk result (IsSourceIn words.now) }
-    ensures typed { IfOk result (IsTypedFor words.now) }
+    ensures typed { IfOk result (λ inputs. IsTyped words.now.file true inputs.keyboard.items) }
 {
     check_files(rt, words)?;
     let source = read_source(rt, alloc, words)?;
