@@ -19,6 +19,7 @@ FEW_TURNS = [2, 5, 13, 10000]
 STANDS = re.compile(r"  p\d+ (?P<name>[\w.]+)(?:, line (?P<line>\d+))?: (?P<text>.*)")
 # whom it waits for
 WAITS = re.compile(r"  (?P<one>p\d+) [^:]*: (?:offers|awaits) .*, which (?P<other>p\d+) (?:reads|writes)")
+LIMIT = "  the limit is reached: --limit N allows more turns, --quantum N makes each longer"
 CIRCLE = "  in a circle, each waits for the next: "
 # how what a process stands at begins, or ends, and what the line then has
 HAS = {
@@ -67,6 +68,10 @@ def misplaced(program, folder, source, turns):
     """The lines of the report of a run of so many turns that tell no place, or another one."""
     status, _, err = run(program, folder, ["x.occ", "--explain", "--limit", str(turns)])
     told = err.decode("utf-8").split("\n")[1:-1] if status in (2, 3, 4) else []
+    if status == 4:
+        if told[-1:] != [LIMIT]:
+            yield f"another last line: {told[-1:]}"
+        told = told[:-1]
     others = {}
     for line in told:
         if line.startswith(CIRCLE):
