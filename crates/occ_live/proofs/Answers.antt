@@ -128,6 +128,7 @@ module _ (options : Options) (source : List ℕ) (list : List Choice) (trace : B
   module _ (read : List ℕ) (lived : Lived) (small : length lived.outcome.choices.items < 2 ^ 64) (x : IsLive p read list lived) where
     pub live_answer : (live : LivePlayed) (bytes : List ℕ) → live.played.ending ≡ lived.outcome.ending → live.played.choices ≡ lived.outcome.choices → live.is_open ≡ lived.is_open
         → bytes ≡ text_of p lived.outcome trace → IsLiveAnswer options source read list trace live bytes
+    unfolding is_answer
     live_answer live bytes same_end same_choices same_open is = record {
       answer = is_answer read lived.outcome live.played bytes x.bytes small x.is same_end same_choices is;
       run = subst (λ cs. LiveRun p list read live.is_open cs x.is.net) (ap (λ v. v.items) (sym same_choices)) (subst (λ o. LiveRun p list read o lived.outcome.choices.items x.is.net) (sym same_open) x.run);

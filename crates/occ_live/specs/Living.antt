@@ -7,6 +7,8 @@ use Rattle.occ_term.specs.declared.ending.Ending.{Ending}
 use Rattle.occ_machine.specs.Compiled.{Program}
 use Rattle.occ_term.specs.declared.message.Part.{Part}
 use Rattle.occ_live_laws.specs.Live.{ReplaysWithin, StaysWithin, with_more}
+use Rattle.occ_choices.specs.Plans.{choices_of}
+use Rattle.occ_choices.specs.declared.plan.Plan.{Plan}
 use Rattle.occ_net_replay.specs.declared.choice.Choice.{Choice}
 use Rattle.occ_net_replay.specs.Following.{AreBytes}
 use Rattle.occ_net_replay.specs.Replay.{Net, OneTurn, Replays, ending_of, first_net}
@@ -203,11 +205,12 @@ HearsNothing p read is_open n begun pick fault =
     → FailsWhereDue p list is_open kept x.from.stands.net fault
 
 -- a fault in a turn of a run that stood so
-pub record FailsAt {W : Type 0} (contents : W → Option (List ℕ)) (p : Program) (list : List Choice) (read : List ℕ) (kept : List Choice) (old : Counted W) (mark : Place) (n : Tables) (new : Counted W) (fault : LiveFault) : Type 0 where
+pub record FailsAt {W : Type 0} (contents : W → Option (List ℕ)) (p : Program) (list : List Choice) (read : List ℕ) (old : Counted W) (mark : Place) (n : Tables) (new : Counted W) (fault : LiveFault) : Type 0 where
   pub is_open : Bool
+  pub used : List Choice
   pub net : Net
-  pub run : LiveRun p list read is_open kept net
-  pub due : FailsWhereDue p list is_open kept net fault
+  pub run : LiveRun p list read is_open used net
+  pub due : FailsWhereDue p list is_open used net fault
   pub trace : net.trace ≡ trace_in n
   pub part : FailsBehind contents old mark (trace_in n) new fault
 
@@ -236,19 +239,16 @@ ScreenShowsPart contents old s n new fault = ShowsPart contents old s.mark (trac
 abbrev pub ScreenFails : {W : Type 0} → (W → Option (List ℕ)) → (old : Counted W) → Screen → Tables → (new : Counted W) → LiveFault → Type 0
 ScreenFails contents old s n new fault = FailsBehind contents old s.mark (trace_in n) new fault
 
--- it can go on so by some list
-abbrev pub CanGoOn : Program → List ℕ → Bool → List Choice → Choice → Tables → Type 0
-CanGoOn p read is_open kept choice n = (list : List Choice) × MayGoOn p list read is_open kept choice n
+-- it can go on so by this choice of the plan
+abbrev pub MayTurn : {A : Type 0} → Program → Plan → (read : Vec ℕ A) → Bool → (kept : Vec Choice A) → Choice → Tables → Type 0
+MayTurn p plan read is_open kept choice n = MayGoOn p (choices_of plan) read.items is_open kept.items choice n
 
--- whatever list that is, it stands there now, and whether the keyboard may have more is said last
-abbrev pub TurnsOn : {A : Type 0} → Program → (read : Vec ℕ A) → Bool → (kept : Vec Choice A) → Choice → Tables → (longer : Vec ℕ A) → (after : Vec Choice A) → Tables → Bool → Type 0
-TurnsOn p read is_open kept choice n longer after next still_open =
-    (list : List Choice) → MayGoOn p list read.items is_open kept.items choice n → StandsLive p list longer.items still_open after.items next
+-- it stands there, and whether the keyboard may have more is said last
+abbrev pub StandsBy : {A : Type 0} → Program → Plan → (read : Vec ℕ A) → (kept : Vec Choice A) → Tables → Bool → Type 0
+StandsBy p plan read kept n is_open = StandsLive p (choices_of plan) read.items is_open kept.items n
 
--- or it failed there
-abbrev pub FailsIn : {W A : Type 0} → (W → Option (List ℕ)) → Program → (read : Vec ℕ A) → Bool → (kept : Vec Choice A) → Choice → Tables → (longer : Vec ℕ A) → (old : Counted W) → Screen → (new : Counted W) → LiveFault → Type 0
-FailsIn contents p read is_open kept choice n longer old s new fault =
-    (list : List Choice) → MayGoOn p list read.items is_open kept.items choice n → FailsAt contents p list longer.items kept.items old s.mark n new fault
+abbrev pub FailsIn : {W A : Type 0} → (W → Option (List ℕ)) → Program → Plan → (read : Vec ℕ A) → (old : Counted W) → Screen → Tables → (new : Counted W) → LiveFault → Type 0
+FailsIn contents p plan read old s n new fault = FailsAt contents p (choices_of plan) read.items old s.mark n new fault
 
 -- where the keyboard had no more before, or has no more now, its reader is at its end
 abbrev pub EndsOn : {K : Type 0} → (K → Option (List ℕ)) → (old new : CountedReader K) → (was is : Bool) → Type 0

@@ -8,7 +8,7 @@ use Rattle.occ_net_replay.specs.Replay.{ending_of, first_net}
 use Rattle.occ_net_tables.specs.Holding.{trace_in}
 use Rattle.occ_net_tables.proofs.Rerun.{all_taken}
 use Rattle.occ_files.specs.Reading.{failures_of as reads_failed}
-use Rattle.occ_live.specs.Living.{LiveRun, MayGoOn, StandsLive, WroteSome, starts}
+use Rattle.occ_live.specs.Living.{LiveRun, StandsLive, WroteSome, starts}
 use Rattle.occ_live.proofs.Runs.{live_used}
 use Rattle.occ_shown.specs.Counting.{writer_of}
 use Rattle.occ_shown.proofs.Growth.{Appends-none}
@@ -127,8 +127,7 @@ live_turn-turned-requires-clause-stands g c =
     let count : c.len.result ≡ length c.loop-ending.kept.items = c.len.ensures ∙ c.loop-ending.kept.ok.0 in
     let at = ap (slice_get list) (sym count) ∙ sym c.at.ensures ∙ c.in-Some-at.is in
     let few : 1 + length c.loop-ending.kept.items < 2 ^ 64 = search rules in
-    let goes : MayGoOn p list read c.loop-ending.is_open c.loop-ending.kept.items c.in-Some-at.choice n = record { stands = h.stands; few = few; next = at; going = sym ends } in
-    (list, goes)
+    record { stands = h.stands; few = few; next = at; going = sym ends }
 
 pub returns-in-Err-turned-clause-fault : goal.returns-in-Err-turned-clause-fault
 returns-in-Err-turned-clause-fault g c =
@@ -137,15 +136,10 @@ returns-in-Err-turned-clause-fault g c =
     let read = c.loop-ending.bytes.items in
     let n = c.loop-ending.tables in
     let h = c.loop-ending.invariant in
-    let ends : None ≡ ending_of p.errors h.stands.net = sym c.in_default.is ∙ c.ending.ensures p read h.stands.net h.stands.holds ∙ ap (λ e. ending_of e h.stands.net) c.errors.ensures in
-    let count : c.len.result ≡ length c.loop-ending.kept.items = c.len.ensures ∙ c.loop-ending.kept.ok.0 in
-    let at = ap (slice_get list) (sym count) ∙ sym c.at.ensures ∙ c.in-Some-at.is in
-    let few : 1 + length c.loop-ending.kept.items < 2 ^ 64 = search rules in
-    let goes : MayGoOn p list read c.loop-ending.is_open c.loop-ending.kept.items c.in-Some-at.choice n = record { stands = h.stands; few = few; next = at; going = sym ends } in
-    let x = c.in-Err-turned.ensures.part list goes in
+    let x = c.in-Err-turned.ensures.part in
     record {
       is_open = x.is_open;
-      used = c.loop-ending.kept.items;
+      used = x.used;
       net = x.net;
       run = x.run;
       due = x.due;
@@ -182,14 +176,9 @@ loop-ending-preserved g c =
     let read = c.loop-ending.bytes.items in
     let n = c.loop-ending.tables in
     let h = c.loop-ending.invariant in
-    let ends : None ≡ ending_of p.errors h.stands.net = sym c.in_default.is ∙ c.ending.ensures p read h.stands.net h.stands.holds ∙ ap (λ e. ending_of e h.stands.net) c.errors.ensures in
-    let count : c.len.result ≡ length c.loop-ending.kept.items = c.len.ensures ∙ c.loop-ending.kept.ok.0 in
-    let at = ap (slice_get list) (sym count) ∙ sym c.at.ensures ∙ c.in-Some-at.is in
-    let few : 1 + length c.loop-ending.kept.items < 2 ^ 64 = search rules in
-    let goes : MayGoOn p list read c.loop-ending.is_open c.loop-ending.kept.items c.in-Some-at.choice n = record { stands = h.stands; few = few; next = at; going = sym ends } in
     let t = c.in-Ok-turned.ensures in
     record {
-      stands = t.stands list goes;
+      stands = t.stands;
       shown = c.in-Ok-show_at_times.ensures.shown c.args.out.now (t.shown c.args.out.now h.shown);
       read = t.read c.args.keys.now h.read;
       end = t.end h.end;
@@ -206,15 +195,10 @@ returns-in-Err-show_at_times-clause-fault g c =
     let read = c.loop-ending.bytes.items in
     let n = c.loop-ending.tables in
     let h = c.loop-ending.invariant in
-    let ends : None ≡ ending_of p.errors h.stands.net = sym c.in_default.is ∙ c.ending.ensures p read h.stands.net h.stands.holds ∙ ap (λ e. ending_of e h.stands.net) c.errors.ensures in
-    let count : c.len.result ≡ length c.loop-ending.kept.items = c.len.ensures ∙ c.loop-ending.kept.ok.0 in
-    let at = ap (slice_get list) (sym count) ∙ sym c.at.ensures ∙ c.in-Some-at.is in
-    let few : 1 + length c.loop-ending.kept.items < 2 ^ 64 = search rules in
-    let goes : MayGoOn p list read c.loop-ending.is_open c.loop-ending.kept.items c.in-Some-at.choice n = record { stands = h.stands; few = few; next = at; going = sym ends } in
     let t = c.in-Ok-turned.ensures in
     let now = trace_in c.live_turn-turned.new.tables in
     let told = c.in-Err-show_at_times.ensures.told in
-    fails_live p list c.live_turn-turned.new.bytes.items c.in-Ok-turned.still_open c.live_turn-turned.new.kept.items c.live_turn-turned.new.tables (t.stands list goes) g.W.Write.contents c.args.out.now c.live_turn-turned.new.out c.show_at_times.new.out
+    fails_live p list c.live_turn-turned.new.bytes.items c.in-Ok-turned.still_open c.live_turn-turned.new.kept.items c.live_turn-turned.new.tables (t.stands) g.W.Write.contents c.args.out.now c.live_turn-turned.new.out c.show_at_times.new.out
     c.live_turn-turned.new.screen.mark c.in-Err-show_at_times.unshown told (t.shown c.args.out.now h.shown)
     (part_fails g.W.Write.contents c.live_turn-turned.new.out c.show_at_times.new.out c.live_turn-turned.new.screen.mark now c.in-Err-show_at_times.unshown c.in-Err-show_at_times.ensures.part)
 
