@@ -6,14 +6,18 @@ use Rattle.occ_term.specs.declared.communication.Communication.{Communication}
 use Rattle.occ_term.specs.declared.ending.Ending.{Ending}
 use Rattle.occ_term.specs.declared.message.Part.{Part}
 use Rattle.occ_machine.specs.Compiled.{IsCompiled, Program}
-use Rattle.occ_live_laws.specs.Live.{with_more}
+use Rattle.occ_machine.specs.SameStop.{ready_with}
+use Rattle.occ_machine.specs.declared.task.Task.{Task}
+use Rattle.occ_proc.specs.Turns.{standing_at}
+use Rattle.std.specs.Prelude.{slice_get, ◌%◌}
+use Rattle.occ_live_laws.specs.Live.{StaysWithin, with_more}
 use Rattle.occ_live_laws.proofs.Live.{more_bytes, within_replays}
 use Rattle.occ_live_laws.proofs.Shown.{settled_says}
 use Rattle.occ_net_replay.specs.declared.choice.Choice.{Choice}
 use Rattle.occ_net_replay.specs.Following.{AreBytes, or_limit}
-use Rattle.occ_net_replay.specs.Replay.{Net, Replays, ending_of, first_net}
+use Rattle.occ_net_replay.specs.Replay.{Net, Replays, ending_of, first_net, ready_from, selected_process}
 use Rattle.occ_net_replay.proofs.Law.{replays_are_runs}
-use Rattle.occ_net_tables.specs.Halves.{AllTaken, StaysWithinBytes, with_used}
+use Rattle.occ_net_tables.specs.Halves.{LooksPastBytes, StaysWithinBytes, with_used}
 use Rattle.occ_net_trace.specs.Places.{Place}
 use Rattle.occ_net_tables.specs.Holding.{Holds, HoldsFirst, trace_in}
 use Rattle.occ_net_tables.specs.Outcomes.{Begins}
@@ -23,7 +27,7 @@ use Rattle.occ_net_tables.specs.Rows.{HasTakenTurn, SettlesEnd}
 use Rattle.occ_net_tables.specs.Settling.{Standing, TurnsTo}
 use Rattle.occ_net_tables.specs.declared.tables.Tables.{Tables}
 use Rattle.occ_net_tables.specs.declared.turning.Begun.{Begun}
-use Rattle.occ_net_tables.proofs.Halves.{began_with, has_taken, has_turned, held_before, stays_as_turn, stays_where_some}
+use Rattle.occ_net_tables.proofs.Halves.{began_with, has_taken, has_turned, held_before, left_here, stays_as_turn, stays_where_some}
 use Rattle.occ_shown.specs.Answers.{AreByteMessages, channel_bytes}
 use Rattle.occ_shown.specs.Counting.{AppendsTo, writer_of}
 use Rattle.occ_shown.specs.declared.counted.Counted.{Counted}
@@ -66,12 +70,42 @@ module _ (p : Program) (list : List Choice) (read : List ℕ) (is_open : Bool) (
   pub heard_same : (IsTrue is_open → StaysWithinBytes read n begun choice.pick) → HasHeard p list read is_open kept choice begun items n
   heard_same stays = record { begun_so = x; stays = stays }
 
-  module _ (still : IsTrue is_open) (taken : AllTaken read n) where
+  module _ (still : IsTrue is_open) (asks : LooksPastBytes read n begun choice.pick) where
+    abbrev after : Task
+    after = ready_with x.began.left (standing_at begun.end items x.began.left.wait)
+
+    past : StaysWithin choice.pick its.net begun.number after → ⊥
+    past = asks p x.began.first x.began.left items its.net (held_before p read choice x.old begun items n x.began its.net its.holds) x.began.may (left_here p read choice x.old begun items n x.began)
+
     none_left : its.net.keyboard ≡ []
-    none_left = taken p begun.number x.began.first its.net (held_before p read choice x.old begun items n x.began its.net its.holds)
+    none_left = by its.net.keyboard refl
+      where
+        by : (l : List ℕ) → its.net.keyboard ≡ l → its.net.keyboard ≡ []
+        by [] e = e
+        by (b ∷ bs) e = absurd (past (λ none. let never : b ∷ bs ≡ [] = sym e ∙ none in absurd cc))
+
+    selects : selected_process (ready_from 0 its.net.tasks) choice.which ≡ Some begun.number
+    selects =
+        let ready : x.old.ready.items ≡ ready_from 0 its.net.tasks = its.holds.sound.ready_is ∙ ap (ready_from 0) (sym its.holds.tasks) in
+        sym (ap (λ (l : List ℕ). slice_get l (choice.which % length l)) ready) ∙ ap (slice_get x.old.ready.items) (sym x.began.selects) ∙ x.began.turn.at
 
     due : IsDue p list kept its.net
-    due = record { choice = choice; next = x.from.next; going = x.from.going; none_left = none_left }
+    due = record {
+      choice = choice;
+      next = x.from.next;
+      going = x.from.going;
+      looks = record {
+        number = begun.number;
+        body = x.began.turn.body;
+        before = x.began.turn.before;
+        after = after;
+        selects = selects;
+        has_body = x.began.turn.has_body;
+        has_task = ap (λ l. slice_get l begun.number) its.holds.tasks ∙ x.began.turn.there;
+        stops = x.began.turn.stops;
+        past = past;
+      };
+    }
 
     was_open : LiveRun p list read true kept its.net
     was_open = subst (λ o. LiveRun p list read o kept its.net) still its.run

@@ -5,13 +5,17 @@ use Rattle.std.specs.Io.KnownBytes.{IsAtEnd}
 use Rattle.occ_term.specs.declared.communication.Communication.{Communication}
 use Rattle.occ_term.specs.declared.ending.Ending.{Ending}
 use Rattle.occ_machine.specs.Compiled.{Program}
+use Rattle.occ_machine.specs.Machine.{Body, Stopping}
+use Rattle.occ_machine.specs.declared.task.Task.{Task}
+use Rattle.occ_net_replay.specs.Waiting.{IsReplay}
+use Rattle.occ_term.specs.UnfoldedProgram.{UnfoldedProgram}
 use Rattle.occ_term.specs.declared.message.Part.{Part}
 use Rattle.occ_live_laws.specs.Live.{ReplaysWithin, StaysWithin, with_more}
 use Rattle.occ_choices.specs.Plans.{choices_of}
 use Rattle.occ_choices.specs.declared.plan.Plan.{Plan}
 use Rattle.occ_net_replay.specs.declared.choice.Choice.{Choice}
 use Rattle.occ_net_replay.specs.Following.{AreBytes}
-use Rattle.occ_net_replay.specs.Replay.{Net, OneTurn, Replays, ending_of, first_net}
+use Rattle.occ_net_replay.specs.Replay.{HasTask, Net, OneTurn, Replays, ending_of, first_net, ready_from, selected_process}
 use Rattle.occ_net_trace.specs.Places.{Place, place_behind}
 use Rattle.occ_net_tables.specs.Halves.{BeganTurn, StaysWithinBytes}
 use Rattle.occ_net_tables.specs.Holding.{Holds, trace_in}
@@ -30,12 +34,24 @@ use Rattle.occ_live.specs.declared.screen.Screen.{Screen}
 
 -- ---- when a live run reads
 
--- a read is due: the run goes on by the next choice of the list, and no byte is left
+-- The process that the choice selects comes to a stop at which it looks past the bytes: what comes next depends on whether there is another one.
+pub record LooksPast (p : Program) (c : Choice) (net : Net) : Type 0 where
+  pub number : ℕ
+  pub body : Body
+  pub before : Task
+  pub after : Task
+  pub selects : selected_process (ready_from 0 net.tasks) c.which ≡ Some number
+  pub has_body : slice_get p.bodies number ≡ Some body
+  pub has_task : HasTask net.tasks number before
+  pub stops : Stopping body before after
+  pub past : StaysWithin c.pick net number after → ⊥
+
+-- a read is due: the run goes on by the next choice of the list, and that turn looks past the bytes
 pub record IsDue (p : Program) (list cs : List Choice) (net : Net) : Type 0 where
   pub choice : Choice
   pub next : slice_get list (length cs) ≡ Some choice
   pub going : ending_of p.errors net ≡ None
-  pub none_left : net.keyboard ≡ []
+  pub looks : LooksPast p choice net
 
 -- What a run has come to by some first choices of the list. It begins without a byte. Where a read is due it gets some bytes, or meets the end of
 -- the keyboard. Until then it takes no turn that looks past its bytes.
@@ -46,6 +62,12 @@ pub data LiveRun (p : Program) (list : List Choice) : (read : List ℕ) → (is_
   meets_end : {read : List ℕ} {cs : List Choice} {net : Net} → LiveRun p list read true cs net → IsDue p list cs net → LiveRun p list read false cs net
   takes_turn : {read : List ℕ} {is_open : Bool} {cs : List Choice} {c : Choice} {a b : Net} → LiveRun p list read is_open cs a → slice_get list (length cs) ≡ Some c → ending_of p.errors a ≡ None
       → (o : OneTurn p c a b) → (IsTrue is_open → StaysWithin c.pick a o.number o.after) → LiveRun p list read is_open (cs ++ c ∷ []) b
+
+-- where a read is due in a run of a lawful program, the turn is another one with a byte more, whatever that byte is
+abbrev pub DueReadsMatter : Type 0
+DueReadsMatter =
+    (u : UnfoldedProgram) (p : Program) (quantum : ℕ) (list : List Choice) (read : List ℕ) (cs : List Choice) (a b other : Net) (byte : ℕ)
+    → IsReplay u p quantum read cs a → (d : IsDue p list cs a) → OneTurn p d.choice a b → OneTurn p d.choice (with_more (byte ∷ []) a) other → other ≡ with_more (byte ∷ []) b → ⊥
 
 -- It is the replay of these choices for the bytes that were read, and one within them while the keyboard may have more.
 pub record IsReplayed (p : Program) (list : List Choice) (read : List ℕ) (is_open : Bool) (cs : List Choice) (net : Net) : Type 0 where

@@ -1,6 +1,6 @@
 use Rattle.std.proofs.Common.{◌≡◌, ◌∙◌, ◌<◌, ◌^◌, refl, sym, ap, subst, length, arith}
 use Rattle.occ_live.specs.Living.{HasHeard, Shows, ShowsPart}
-use Rattle.occ_net_tables.specs.Halves.{AllTaken, with_used}
+use Rattle.occ_net_tables.specs.Halves.{LooksPastBytes, with_used}
 use Rattle.occ_net_tables.specs.Holding.{trace_in}
 use Rattle.occ_live.proofs.Shown.{part_fails, read_fails, read_told, shown_now, write_told}
 use Rattle.occ_live.proofs.Standing.{are_bytes, fails_due, heard_by, never_due, screen_has_bytes, trace_is}
@@ -34,11 +34,12 @@ returns-in-Ok-read_more-clause-heard g c = λ list kept choice items same x.
     let read = c.args.keyboard.now.items in
     let n = c.args.tables.now in
     let r = c.in-Ok-read_more.ensures in
+    let asks = subst (λ k. LooksPastBytes read n c.args.begun k) (sym same) (subst (λ l. LooksPastBytes l n c.args.begun c.args.pick) c.deref.ensures.value (c.asks.ensures.past c.if-not-asks.false)) in
     let longer = c.read_more.new.keyboard.items in
     let known : c.len-known.result ≡ length read = c.len-known.ensures ∙ c.args.keyboard.now.ok.0 in
     let there : c.reach.new.self ≡ with_used n (length read) = c.reach.ensures ∙ ap (with_used n) known in
     subst (λ z. HasHeard p list longer c.in-Ok-read_more.some kept choice c.args.begun items z) (sym there)
-    (heard_by p list read c.args.is_open kept choice c.args.begun items n x c.if-not-is_open.false (subst (λ l. AllTaken l n) c.deref.ensures.value (c.asks.ensures.taken c.if-not-asks.false)) c.in-Ok-read_more.some longer (are_bytes longer c.type_inv.keyboard) r.read.more r.read.added r.some r.none)
+    (heard_by p list read c.args.is_open kept choice c.args.begun items n x c.if-not-is_open.false asks c.in-Ok-read_more.some longer (are_bytes longer c.type_inv.keyboard) r.read.more r.read.added r.some r.none)
 
 pub returns-in-Ok-read_more-clause-shown : goal.returns-in-Ok-read_more-clause-shown
 returns-in-Ok-read_more-clause-shown g c = λ first h.
@@ -56,5 +57,7 @@ returns-in-Err-clause-due g c = λ list kept choice items same x. never_due c.ar
 
 pub returns-in-Err-read_more-clause-due : goal.returns-in-Err-read_more-clause-due
 returns-in-Err-read_more-clause-due g c = λ list kept choice items same x.
-    fails_due c.args.code.now list c.args.keyboard.now.items c.args.is_open kept choice c.args.begun items c.args.tables.now x c.if-not-is_open.false
-    (subst (λ l. AllTaken l c.args.tables.now) c.deref.ensures.value (c.asks.ensures.taken c.if-not-asks.false)) c.in-Err-read_more.unread
+    let read = c.args.keyboard.now.items in
+    let n = c.args.tables.now in
+    let asks = subst (λ k. LooksPastBytes read n c.args.begun k) (sym same) (subst (λ l. LooksPastBytes l n c.args.begun c.args.pick) c.deref.ensures.value (c.asks.ensures.past c.if-not-asks.false)) in
+    fails_due c.args.code.now list read c.args.is_open kept choice c.args.begun items n x c.if-not-is_open.false asks c.in-Err-read_more.unread

@@ -1,4 +1,4 @@
-use Rattle.std.proofs.Common.{◌≡◌, ◌∙◌, sym, ap, None, Some, arith}
+use Rattle.std.proofs.Common.{◌≡◌, ◌∙◌, ◌≤◌, sym, ap, None, Some, length, arith}
 use Rattle.std.proofs.lemmas.Option.{get_or_from_slice_get, slice_get_within}
 use mathlib.Core.Bool.{true≢false}
 use Rattle.occ_net_tables.proofs.Halves.{looks_elsewhere, stays_elsewhere, stays_where_some}
@@ -26,4 +26,5 @@ returns-in-Some-clause-within c =
 pub returns-in-Some-clause-past : goal.returns-in-Some-clause-past
 returns-in-Some-clause-past c =
     let same : Some c.requires.task ≡ Some c.in-Some.task = sym (get_or_from_slice_get c.args.self.now.tasks.items c.args.begun.number (Some c.requires.task) c.index.result.now c.requires.there) ∙ sym c.index.ensures ∙ c.in-Some.is in
-    λ yes. looks_elsewhere c.args.keyboard.now c.args.self.now c.args.begun c.args.pick ? c.in-Other.is c.in-Some.task (c.requires.there ∙ ap Some same) (λ deaf. true≢false (sym yes ∙ c.hears.ensures.1 deaf))
+    let most : length c.args.keyboard.now ≤ c.args.self.now.used = omega arith in
+    λ yes. looks_elsewhere c.args.keyboard.now c.args.self.now c.args.begun c.args.pick most c.in-Other.is c.in-Some.task (c.requires.there ∙ ap Some same) (λ deaf. true≢false (sym yes ∙ c.hears.ensures.1 deaf))
