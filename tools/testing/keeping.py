@@ -48,7 +48,7 @@ RUNS = [
     ("--within a.occ a.occ", "", (0, SAME.format("1 answer") + "each run ends within 2 turns\n", "")),
     ("a.occ --within=b.occ", "", (2, '1 ended "a" by 2 choices\nnot one of the specification\'s: 1 answer\n', "")),
     ("--explore=endings --within b.occ a.occ", "", (0, SAME.format("1 answer") + "each run ends within 2 turns\n", "")),
-    ("--within ab.occ four.occ", "", (0, "each answer is one of the specification's: 1 of 2 answers\neach run ends within 3 turns\n", "")),
+    ("--within ab.occ four.occ", "", (0, "each answer is one of the specification's: 1 of 2 answers\neach run ends within 4 turns\n", "")),
     ("--explore --within ab.occ ab.occ", "", (0, SAME.format("2 answers") + "each run ends within 14 turns\n", "")),
     ("--explore=full --within ab.occ ab.occ", "", (0, SAME.format("2 answers") + "each run ends within 14 turns\n", "")),
     ("--within four.occ ab.occ", "", (2, '1 ended "84*n" by 14 choices\nnot one of the specification\'s: 1 answer\n', "")),

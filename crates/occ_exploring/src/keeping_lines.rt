@@ -62,7 +62,8 @@ fn write_keeping(
         }
         Keeping::Within => {
             let text = format!(in alloc;
-                "each answer is one of the specification's: {} of ", answers.len()
+                "each answer is one of the specification's: {} of ",
+                answers.len()
             )?;
             write_answers(alloc, out, text.as_bytes(), told.specified)?;
             write_lasting(alloc, out, &told.own.lasting)
@@ -74,12 +75,7 @@ fn write_keeping(
 }
 
 /// That this one has more states than were allowed.
-fn write_passed(
-    alloc: Global,
-    out: &mut Vec<u8>,
-    which: &[u8],
-    most: u32,
-) -> Result<(), AllocError>
+fn write_passed(alloc: Global, out: &mut Vec<u8>, which: &[u8], most: u32) -> Result<(), AllocError>
     ensures { OnOk result (AddsText out.old out.new (passed_text which.now most)) }
 {
     out.extend_from_slice(b"no verdict: the ")?;
@@ -96,12 +92,7 @@ fn write_passed(
 /// # Errors
 ///
 /// A refused growth.
-pub fn kept_text(
-    alloc: Global,
-    kept: &Kept,
-    asked: Asked,
-    most: u32,
-) -> Result<Vec<u8>, AllocError>
+pub fn kept_text(alloc: Global, kept: &Kept, asked: Asked, most: u32) -> Result<Vec<u8>, AllocError>
     ensures { IfOk result (λ bytes. bytes.items ≡ kept_text asked most kept.now) }
 {
     let mut out = Vec::new(alloc);

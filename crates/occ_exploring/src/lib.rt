@@ -4,8 +4,8 @@
 #![tactic(auto)]
 
 pub mod exploring;
-pub mod laws;
 mod keeping_lines;
+pub mod laws;
 mod lines;
 pub mod only;
 mod strings;

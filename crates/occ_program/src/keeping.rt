@@ -14,7 +14,9 @@ use crate::program::{options_of, tell};
 use crate::reading::read_inputs;
 use crate::reporting::explain_answers;
 use occ_explaining::{Files as Named, explained_fault};
-use occ_exploring::{Asked, KeepFault, Kept, Progress, keep_in, kept_text, outside_of, status_of_kept};
+use occ_exploring::{
+    Asked, KeepFault, Kept, Progress, keep_in, kept_text, outside_of, status_of_kept,
+};
 use occ_files::{Disk, Folder, Noting};
 use occ_play::{PlayFault, status_of};
 use occ_play_inputs::{Failure, Inputs, Joined, Words, read_specification};
@@ -178,12 +180,7 @@ fn refused_as<R: Eprint>(
 }
 
 /// The explanation of a fault, where it refuses the specification in the file of this path.
-fn told_of(
-    alloc: Global,
-    path: &str,
-    source: &[u8],
-    fault: &PlayFault,
-) -> Option<Vec<u8>>
+fn told_of(alloc: Global, path: &str, source: &[u8], fault: &PlayFault) -> Option<Vec<u8>>
     ensures { IfSome result (λ text.
         TellsOfSpecification path.now source.now fault.now text.items) }
 {

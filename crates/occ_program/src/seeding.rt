@@ -1,10 +1,9 @@
 //! Tries the seeds that the words ask for.
-ghost use Rattle.std.specs.Prelude.{◌≡◌, ◌≢◌, ◌+◌, ◌-◌, ◌^◌, ◌≤◌, ◌<◌, IfOk, IfSome, IsFalse, IsTrue, OnOk};
-ghost use Rattle.occ_term.specs.declared.ending.Ending.TheVariants.{Ended};
+ghost use Rattle.std.specs.Prelude.{◌≡◌, ◌+◌, ◌-◌, ◌^◌, ◌≤◌, ◌<◌, IfOk, IfSome, OnOk};
 ghost use Rattle.occ_choices.specs.Plans.{choices_of};
 ghost use Rattle.occ_play_inputs.specs.Asked.{IsAskedBy, IsSeeded};
 ghost use Rattle.occ_program.specs.Coming.{IsTriedBy, IsTriedFrom, IsTriedIn, TriesFrom};
-ghost use Rattle.occ_program.specs.Trying.{IsTriedSeed, RefusesWith1, TellsEnd, TellsSeed, seed_line};
+ghost use Rattle.occ_program.specs.Trying.{IsTriedSeed, RefusesWith1, TellsEnd, TellsSeed, has_ended, seed_line};
 ghost use Rattle.occ_seeds.specs.Seeds.{seeded};
 ghost use Rattle.occ_shown.specs.Counting.{failures_of};
 
@@ -150,10 +149,12 @@ fn ends_on<W: Write>(
 }
 
 fn has_ended(played: &Played) -> bool
-    ensures ends { IsTrue result → played.now.ending ≡ Ended }
-    ensures other { IsFalse result → played.now.ending ≢ Ended }
+    ensures { result ≡ has_ended played.now.ending }
 {
-    played.ending == Ending::Ended
+    match played.ending {
+        Ending::Ended => true,
+        Ending::Stopped | Ending::StoppedBy(_) | Ending::Fault(_) | Ending::Limit => false,
+    }
 }
 
 /// What is told of the seed that was tried last, where several are: that the run by it is the first one that does not end, or that each
