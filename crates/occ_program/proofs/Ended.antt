@@ -1,8 +1,6 @@
 -- Runs that end, seed by seed.
-use Rattle.std.proofs.Common.{◌≡◌, ◌≢◌, ◌⊎◌, ◌+◌, ◌<◌, ◌≤◌, ℕ, List, Option, inl, inr, refl, subst, arith}
-use Rattle.std.specs.Prelude.{Err, IsFalse, IsTrue, Ok, OnOk, Result, false}
-use Rattle.occ_term.specs.declared.ending.Ending.{Ending}
-use Rattle.occ_term.specs.declared.ending.Ending.TheVariants.{Ended, Stopped, Fault, StoppedBy, Limit}
+use Rattle.std.proofs.Common.{◌≡◌, ◌⊎◌, ◌+◌, ◌<◌, ◌≤◌, ℕ, List, Option, inl, inr, subst, arith}
+use Rattle.std.specs.Prelude.{Err, Ok, OnOk, Result, false}
 use Rattle.occ_net_replay.specs.declared.choice.Choice.{Choice}
 use Rattle.occ_play.specs.declared.playing.Options.{Options}
 use Rattle.occ_play.specs.declared.fault.PlayFault.{PlayFault}
@@ -10,22 +8,7 @@ use Rattle.occ_play.specs.declared.fault.PlayFault.TheVariants as play
 use Rattle.occ_play.specs.Playing.{AfterFault, IsSomeAnswer, Refuses}
 use Rattle.occ_play.specs.Status.{fault_status}
 use Rattle.occ_shown.specs.declared.counted.Counted.{Counted}
-use Rattle.occ_program.specs.Trying.{IsTriedSeed, has_ended}
-
--- an ending that is one, or is another one
-pub ended_if : (e : Ending) → IsTrue (has_ended e) → e ≡ Ended
-ended_if Ended h = refl
-ended_if Stopped h = absurd h
-ended_if (Fault f) h = absurd h
-ended_if (StoppedBy f) h = absurd h
-ended_if Limit h = absurd h
-
-pub other_if : (e : Ending) → IsFalse (has_ended e) → e ≢ Ended
-other_if Ended h same = absurd h
-other_if Stopped h same = cc
-other_if (Fault f) h same = cc
-other_if (StoppedBy f) h same = cc
-other_if Limit h same = cc
+use Rattle.occ_program.specs.Trying.{IsTriedSeed}
 
 -- what is told with status 1 is no failed write
 pub refused_by : {W : Type 0} (contents : W → Option (List ℕ)) (options : Options) (source keyboard : List ℕ) (list : List Choice) (old new : Counted W) (fault : PlayFault)

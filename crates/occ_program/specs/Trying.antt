@@ -1,8 +1,7 @@
 -- Seeds that are tried one after the other.
 -- Manual: nothing; this is (own).
-use Rattle.std.specs.Prelude.{Bool, Err, IfErr, IfOk, IsFalse, IsTrue, List, None, Ok, Option, Result, Some, codes, false, true, ℕ, ⊤, ◌+◌, ◌++◌, ◌<◌, ◌≡◌, ◌≢◌, ◌⊎◌}
+use Rattle.std.specs.Prelude.{Bool, Err, IfErr, IfOk, IsFalse, IsTrue, List, None, Ok, Option, Result, Some, codes, false, ℕ, ⊤, ◌+◌, ◌++◌, ◌<◌, ◌≡◌, ◌≢◌, ◌⊎◌}
 use Rattle.std.specs.Fmt.{decimal}
-use Rattle.occ_term.specs.declared.ending.Ending.{Ending}
 use Rattle.occ_net_replay.specs.declared.choice.Choice.{Choice}
 use Rattle.occ_choices.specs.Plans.{choices_of}
 use Rattle.occ_choices.specs.declared.plan.Plan.{Plan}
@@ -50,19 +49,13 @@ IsTriedPlanFor options source keyboard limit None None tries plan = ⊤
 
 -- ---- what is told of them
 
--- that the run by this seed is the first one that does not end, or that each run has ended
-abbrev pub seed_line : (seed : ℕ) → (ended : Bool) → List ℕ
-seed_line seed true = codes "seed " ++ decimal seed ++ codes ": each run has ended\n"
-seed_line seed false = codes "seed " ++ decimal seed ++ codes ": the first one by which the run does not end\n"
+-- that the run by this seed is the first one that does not end
+abbrev pub seed_line : ℕ → List ℕ
+seed_line seed = codes "seed " ++ decimal seed ++ codes ": the first one by which the run does not end\n"
 
--- whether it is that of a whole run
-abbrev pub has_ended : Ending → Bool
-has_ended Ended = true
-has_ended ending = false
-
--- that, of the seed that was tried last, where there were several and there is a run
+-- that, of the seed that was tried last, where there were several and its run does not end
 abbrev pub TellsSeed : (tries : ℕ) → Option ℕ → Result Played PlayFault → (text : List ℕ) → Type 0
-TellsSeed tries (Some seed) (Ok played) text = (tries ≢ 1) × (text ≡ seed_line seed (has_ended played.ending))
+TellsSeed tries (Some seed) (Ok played) text = (tries ≢ 1) × (played.ending ≢ Ended) × (text ≡ seed_line seed)
 TellsSeed tries seed played text = ⊥
 
 -- ---- private contracts alone cite what follows

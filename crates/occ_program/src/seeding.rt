@@ -1,9 +1,10 @@
 //! Tries the seeds that the words ask for.
-ghost use Rattle.std.specs.Prelude.{◌≡◌, ◌+◌, ◌-◌, ◌^◌, ◌≤◌, ◌<◌, IfOk, IfSome, OnOk};
+ghost use Rattle.std.specs.Prelude.{◌≡◌, ◌≢◌, ◌+◌, ◌-◌, ◌^◌, ◌≤◌, ◌<◌, IfOk, IfSome, IsFalse, IsTrue, OnOk};
+ghost use Rattle.occ_term.specs.declared.ending.Ending.TheVariants.{Ended};
 ghost use Rattle.occ_choices.specs.Plans.{choices_of};
 ghost use Rattle.occ_play_inputs.specs.Asked.{IsAskedBy, IsSeeded};
 ghost use Rattle.occ_program.specs.Coming.{IsTriedBy, IsTriedFrom, IsTriedIn, TriesFrom};
-ghost use Rattle.occ_program.specs.Trying.{IsTriedSeed, RefusesWith1, TellsEnd, TellsSeed, has_ended, seed_line};
+ghost use Rattle.occ_program.specs.Trying.{IsTriedSeed, RefusesWith1, TellsEnd, TellsSeed, seed_line};
 ghost use Rattle.occ_seeds.specs.Seeds.{seeded};
 ghost use Rattle.occ_shown.specs.Counting.{failures_of};
 
@@ -149,16 +150,13 @@ fn ends_on<W: Write>(
 }
 
 fn has_ended(played: &Played) -> bool
-    ensures { result ≡ has_ended played.now.ending }
+    ensures ends { IsTrue result → played.now.ending ≡ Ended }
+    ensures other { IsFalse result → played.now.ending ≢ Ended }
 {
-    match played.ending {
-        Ending::Ended => true,
-        Ending::Stopped | Ending::StoppedBy(_) | Ending::Fault(_) | Ending::Limit => false,
-    }
+    played.ending == Ending::Ended
 }
 
-/// What is told of the seed that was tried last, where several are: that the run by it is the first one that does not end, or that each
-/// run has ended. Nothing is told where there is no run.
+/// What is told of the seed that was tried last, where there are several and the run by it does not end; else nothing is.
 pub(crate) fn seed_told(
     alloc: Global,
     words: &Words<'_>,
@@ -170,24 +168,19 @@ pub(crate) fn seed_told(
     let (Some(seed), Ok(played)) = (seed, came) else {
         return None;
     };
-    if words.tries == 1 {
+    if words.tries == 1 || has_ended(played) {
         return None;
     }
-    match seed_line(alloc, seed, has_ended(played)) {
+    match seed_line(alloc, seed) {
         Ok(text) => Some(text),
         Err(_) => None,
     }
 }
 
 /// The line of a seed.
-fn seed_line(alloc: Global, seed: u32, ended: bool) -> Result<Vec<u8>, AllocError>
-    ensures { IfOk result (λ text. text.items ≡ seed_line seed ended) }
+fn seed_line(alloc: Global, seed: u32) -> Result<Vec<u8>, AllocError>
+    ensures { IfOk result (λ text. text.items ≡ seed_line seed) }
 {
-    let told = if ended {
-        "each run has ended"
-    } else {
-        "the first one by which the run does not end"
-    };
-    let text = format!(in alloc; "seed {seed}: {told}\n")?;
+    let text = format!(in alloc; "seed {seed}: the first one by which the run does not end\n")?;
     Ok(text.into_bytes())
 }

@@ -1,14 +1,12 @@
 use Rattle.occ_choices.specs.Plans.{choices_of}
-use Rattle.std.proofs.Common.{subst}
-use Rattle.std.specs.Prelude.{IsFalse, IsTrue}
-use Rattle.occ_program.proofs.Ended.{ended_if, other_if, refused_by}
+use Rattle.occ_program.proofs.Ended.{refused_by}
 use Rattle.occ_program.proofs.seeding.ends_on.Goals as goal
 
 pub returns-in-Ok-clause-ends : goal.returns-in-Ok-clause-ends
 returns-in-Ok-clause-ends g c =
     let h = c.in-Ok.ensures.played in (
-      λ e. record { played = c.in-Ok.played; answer = h.0; run = h.1; ended = ended_if c.in-Ok.played.ending (subst IsTrue c.has_ended.ensures e) },
-      λ e. record { played = c.in-Ok.played; answer = h.0; run = h.1; other = other_if c.in-Ok.played.ending (subst IsFalse c.has_ended.ensures e) },
+      λ e. record { played = c.in-Ok.played; answer = h.0; run = h.1; ended = c.has_ended.ensures.ends e },
+      λ e. record { played = c.in-Ok.played; answer = h.0; run = h.1; other = c.has_ended.ensures.other e },
     )
 
 pub returns-in-Err-clause-refused : goal.returns-in-Err-clause-refused
