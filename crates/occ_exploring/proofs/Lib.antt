@@ -4,4 +4,4 @@ mod OfRuns
 mod OfStepRuns
 mod AnyQuantum
 mod Among
-mod Within
+mod KeptRuns
