@@ -1,25 +1,26 @@
 //! Says how a source stands to its specification.
 ghost use Rattle.std.specs.Prelude.{◌≡◌, IfOk, OnOk};
 ghost use Rattle.std.specs.Option.{option_copied};
-ghost use Rattle.occ_exploring.specs.Within.{comparison_text, counted_text, kept_text, outside_text, passed_text};
+ghost use Rattle.occ_exploring.specs.Within.{counted_text, keeping_text, kept_text, outside_text, share_text};
 ghost use Rattle.occ_shown.specs.Answers.{AddsText};
 
 use crate::lines::{write_answer, write_counted, write_lasting};
-use crate::within::{Comparison, Keeping, Kept};
+use crate::within::{AllAnswers, Keeping, Kept, answer_at};
 use occ_explore::{Answer, Asked};
 use std::alloc::{AllocError, Global};
 
-/// So many answers, behind this text.
-fn write_answers(
+/// So many of a thing, behind this text.
+fn write_many(
     alloc: Global,
     out: &mut Vec<u8>,
     text: &[u8],
     count: usize,
+    word: &[u8],
 ) -> Result<(), AllocError>
-    ensures { OnOk result (AddsText out.old out.new (counted_text text.now count)) }
+    ensures { OnOk result (AddsText out.old out.new (counted_text text.now count word.now)) }
 {
     out.extend_from_slice(text)?;
-    write_counted(alloc, out, count, b"answer")?;
+    write_counted(alloc, out, count, word)?;
     out.push(b'\n')?;
     Ok(())
 }
@@ -38,10 +39,19 @@ fn write_outside(
     match answer {
         Some(answer) => {
             write_answer(alloc, out, asked, 1, answer)?;
-            write_answers(alloc, out, b"not one of the specification's: ", specified)
+            let text = b"not one of the specification's: ";
+            write_many(alloc, out, text, specified, b"answer")
         }
         None => Ok(()),
     }
+}
+
+/// How many answers are among those of the specification.
+fn share_text(alloc: Global, count: usize) -> Result<Vec<u8>, AllocError>
+    ensures { IfOk result (λ text. text.items ≡ share_text count) }
+{
+    let text = format!(in alloc; "each answer is one of the specification's: {count} of ")?;
+    Ok(text.into_bytes())
 }
 
 /// How the answers of a source stand to those of its specification, and how long its runs go on.
@@ -49,41 +59,29 @@ fn write_keeping(
     alloc: Global,
     out: &mut Vec<u8>,
     asked: Asked,
-    told: &Comparison,
+    own: &AllAnswers,
+    specified: usize,
+    keeping: Keeping,
 ) -> Result<(), AllocError>
-    ensures { OnOk result (AddsText out.old out.new (comparison_text asked told.now)) }
+    ensures { OnOk result
+        (AddsText out.old out.new (keeping_text asked own.now specified keeping)) }
 {
-    let answers = told.own.answers.as_slice();
-    match told.keeping {
+    match keeping {
         Keeping::Same => {
             let text = b"same answers as the specification: ";
-            write_answers(alloc, out, text, told.specified)?;
-            write_lasting(alloc, out, &told.own.lasting)
+            write_many(alloc, out, text, specified, b"answer")?;
+            write_lasting(alloc, out, &own.lasting)
         }
         Keeping::Within => {
-            let text = format!(in alloc;
-                "each answer is one of the specification's: {} of ",
-                answers.len()
-            )?;
-            write_answers(alloc, out, text.as_bytes(), told.specified)?;
-            write_lasting(alloc, out, &told.own.lasting)
+            let text = share_text(alloc, own.answers.len())?;
+            write_many(alloc, out, text.as_slice(), specified, b"answer")?;
+            write_lasting(alloc, out, &own.lasting)
         }
         Keeping::Outside(place) => {
-            write_outside(alloc, out, asked, answers.get(place), told.specified)
+            let answer = answer_at(own.answers.as_slice(), place);
+            write_outside(alloc, out, asked, answer, specified)
         }
     }
-}
-
-/// That this one has more states than were allowed.
-fn write_passed(alloc: Global, out: &mut Vec<u8>, which: &[u8], most: u32) -> Result<(), AllocError>
-    ensures { OnOk result (AddsText out.old out.new (passed_text which.now most)) }
-{
-    out.extend_from_slice(b"no verdict: the ")?;
-    out.extend_from_slice(which)?;
-    out.extend_from_slice(b" passed the bound of ")?;
-    write_counted(alloc, out, most as usize, b"state")?;
-    out.push(b'\n')?;
-    Ok(())
 }
 
 /// What is printed of a source and its specification, each of which might come to `most` states: whether each answer of the source is
@@ -97,9 +95,18 @@ pub fn kept_text(alloc: Global, kept: &Kept, asked: Asked, most: u32) -> Result<
 {
     let mut out = Vec::new(alloc);
     match kept {
-        Kept::Compared(told) => write_keeping(alloc, &mut out, asked, told)?,
-        Kept::SourcePassed => write_passed(alloc, &mut out, b"program", most)?,
-        Kept::SpecificationPassed => write_passed(alloc, &mut out, b"specification", most)?,
+        Kept::Compared(told) => {
+            let (own, specified) = (&told.own, told.specified);
+            write_keeping(alloc, &mut out, asked, own, specified, told.keeping)?;
+        }
+        Kept::SourcePassed => {
+            let text = b"no verdict: the program passed the bound of ";
+            write_many(alloc, &mut out, text, most as usize, b"state")?;
+        }
+        Kept::SpecificationPassed => {
+            let text = b"no verdict: the specification passed the bound of ";
+            write_many(alloc, &mut out, text, most as usize, b"state")?;
+        }
     }
     Ok(out)
 }
