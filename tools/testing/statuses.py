@@ -210,6 +210,8 @@ CASES = [
     of(LETTER, ["--steps", "a", "--check"], 7, "", None),
     of(LETTER, ["--seed", "1"], 0, "A"),
     of(LETTER, ["--seed", "1", "--tries", "3"], 0, "A"),
+    of(STOPS, ["--seed", "7", "--tries", "3"], 2, "stopped\n", "seed 7: the first one by which the run does not end\n"),
+    of(STOPS, ["--seed", "7", "--explain"], 2, "stopped\n", "after 0 communications no process can go on:\n  p0 main, line 2: halted by STOP\n"),
     of(LETTER, ["--seed", "1", "--limit", "1"], 4, "A\nlimit\n"),
     of(LETTER, ["--tries", "3"], 7, "", None),
     of(LETTER, ["--json"], 7, "", None),
@@ -479,12 +481,15 @@ def seeded(program):
         source = TOP / "examples/faults/dining.occ"
         tried = run(program, room, ["--seed", "1", "--tries", "1000", "--record", "kept", "--limit", "100", source])
         kept = (room / "kept").read_text()
-        if tried[:2] != (2, "stopped\n") or run(program, room, ["--choices", "kept", source]) != tried:
+        alone = (2, "stopped\n", "")
+        if tried[:2] != alone[:2] or run(program, room, ["--choices", "kept", source]) != alone:
             wrong.append(f"what was tried: {tried}")
         made = [lines_from(seed, 100) for seed in range(1, 1001)]
         found = next((seed for seed, lines in enumerate(made, 1) if lines.startswith(kept)), None)
-        if found is None or run(program, room, ["--seed", str(found), "--limit", "100", source]) != tried:
+        if found is None or run(program, room, ["--seed", str(found), "--limit", "100", source]) != alone:
             wrong.append(f"choices of no seed: {kept!r}")
+        elif tried[2] != f"seed {found}: the first one by which the run does not end\n":
+            wrong.append(f"the seed that is told: {tried[2]!r}")
         elif any(run(program, room, ["--seed", str(seed), "--limit", "100", source])[0] for seed in range(1, found)):
             wrong.append(f"{found} is not the first seed")
         return "; ".join(wrong) or None

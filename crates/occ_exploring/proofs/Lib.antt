@@ -3,3 +3,5 @@ mod Told
 mod OfRuns
 mod OfStepRuns
 mod AnyQuantum
+mod Among
+mod KeptRuns

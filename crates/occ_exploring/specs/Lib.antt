@@ -4,3 +4,4 @@ pub mod Texts
 pub mod Statuses
 pub mod Alone
 pub mod AnyQuantum
+pub mod Within

@@ -1,14 +1,19 @@
 //! What all runs of a source text come to, on a keyboard's bytes: [`explore_in`] searches
-//! them, [`exploration_text`] says what was found, and [`laws`] has what follows for runs of the source.
+//! them, [`exploration_text`] says what was found, and [`laws`] has what follows for runs of the source. [`keep_in`] says whether
+//! each of its runs comes to what some run of another text comes to, its specification.
 #![tactic(auto)]
 
 pub mod exploring;
+mod keeping_lines;
 pub mod laws;
 mod lines;
 pub mod only;
 mod strings;
+pub mod within;
 
 pub use exploring::{explore_in, status_of_search};
+pub use keeping_lines::kept_text;
 pub use lines::{MOST_ANSWERS, exploration_text};
 pub use occ_explore::{Answer, Asked, Exploration, Lasting, Progress, Untold};
 pub use only::{only_answer_in, only_text, status_of_only};
+pub use within::{KeepFault, Kept, keep_in, outside_of, status_of_kept};

@@ -119,7 +119,11 @@ fn write_first(
 }
 
 /// How long runs go on.
-fn write_lasting(alloc: Global, out: &mut Vec<u8>, lasting: &Lasting) -> Result<(), AllocError>
+pub(crate) fn write_lasting(
+    alloc: Global,
+    out: &mut Vec<u8>,
+    lasting: &Lasting,
+) -> Result<(), AllocError>
     ensures { OnOk result (AddsText out.old out.new (lasting_text lasting.now)) }
 {
     match lasting {

@@ -20,6 +20,8 @@ pub enum Stream {
     Source,
     /// A further file of the source, by its number from 0.
     More(usize),
+    /// The specification that the source is compared with.
+    Specification,
     /// What is typed: standard input.
     Keyboard,
     /// The file of choices.

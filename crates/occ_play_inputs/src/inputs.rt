@@ -5,7 +5,7 @@ ghost use Rattle.occ_choices.specs.Plans.{choices_of};
 ghost use Rattle.occ_play_inputs.specs.Asked.{IsAskedBy, IsJoin, IsKeyboard, IsSourceBy, IsTyped, NotesEnd, PutsBehind, PutsSome};
 ghost use Rattle.occ_play_inputs.specs.Failures.{FailsToChoose, FailsToRead, FailsToReadSource};
 ghost use Rattle.occ_play_inputs.specs.Notices.{notice_of};
-ghost use Rattle.occ_play_inputs.specs.declared.failure.Stream.TheVariants.{Keyboard};
+ghost use Rattle.occ_play_inputs.specs.declared.failure.Stream.TheVariants.{Keyboard, Specification};
 
 use crate::failure::{Failure, Stream, of_input, of_read};
 use crate::words::Words;
@@ -104,6 +104,22 @@ pub fn read_source<R: Files + Input>(
         }
         Some(path) => read_files(rt, alloc, path, words.more.as_slice()),
     }
+}
+
+/// Reads the specification that a source is compared with: the file of this path.
+///
+/// # Errors
+///
+/// `Read` where it could not be read, and `Memory` of a refused growth.
+pub fn read_specification<R: Files>(rt: &R, alloc: Global, path: &str) -> Result<Joined, Failure>
+    ensures few { IfOk result (λ source. length source.bytes.items ≤ 1048577) }
+    ensures joined { IfOk result (IsJoin 1) }
+    ensures failed { IfErr result (FailsToRead Specification) }
+{
+    let mut source = empty_source(alloc);
+    let file = open(rt, Stream::Specification, path)?;
+    read_behind(alloc, &mut source, Stream::Specification, file)?;
+    Ok(source)
 }
 
 /// A source of no file.

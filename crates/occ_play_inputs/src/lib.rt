@@ -1,5 +1,5 @@
-//! What the command line asks for: [`read_words`] reads its words, [`read_source`] the source that they name, [`read_beside`] what is
-//! typed and the choices, and a [`Failure`] says why nothing came of them. [`check_files`] refuses to write into what is read.
+//! What the command line asks for: [`read_words`] reads its words, [`read_source`] the source that they name, [`read_specification`]
+//! the one that it is compared with, [`read_beside`] what is typed and the choices, and a [`Failure`] says why nothing came of them. [`check_files`] refuses to write into what is read.
 #![tactic(auto)]
 
 mod apart;
@@ -9,5 +9,5 @@ pub mod words;
 
 pub use apart::check_files;
 pub use failure::{Failure, Stream, Trouble};
-pub use inputs::{Inputs, Joined, read_beside, read_source};
+pub use inputs::{Inputs, Joined, read_beside, read_source, read_specification};
 pub use words::{Words, read_words};

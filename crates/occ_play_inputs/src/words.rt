@@ -51,7 +51,7 @@ pub const MOST_STATES: u32 = 10_000_000;
 static TOLD: [&str; 3] = ["answers", "endings", "full"];
 
 /// How many words there are.
-const WORDS: u32 = 24;
+const WORDS: u32 = 25;
 
 /// The words that say something of one run.
 static OF_ONE_RUN: [&str; 14] = [
@@ -63,7 +63,7 @@ static OF_ONE_RUN: [&str; 14] = [
 static NOT_LIVE: [&str; 3] = ["workers", "watch", "tries"];
 
 /// What has no place beside `--check` either.
-static OF_A_SEARCH: [&str; 3] = ["record", "explore", "states"];
+static OF_A_SEARCH: [&str; 4] = ["record", "explore", "within", "states"];
 
 /// What is told where two words name one file.
 const ONE_FILE: &str =
@@ -75,11 +75,12 @@ const MORE_HELP: &str =
 the end of a loop's body, STOP, a fault, or its end.
 
 Exit status:
-  0  the program ended, or each answer of a search has, or the source is not refused,
-     or this help, or the version
+  0  the program ended, or each answer of a search has, or is one of the specification's,
+     or the source is not refused, or this help, or the version
   1  the source was refused
   2  the program stopped: no process can go on, or one stopped by a fault is waited for;
-     or an answer of a search has stopped, and none is a fault
+     or an answer of a search has stopped, and none is a fault, or one is none of the
+     specification's
   3  a fault ended the run, or an answer of a search is one
   4  the limit of turns came first, or the bound of states
   5  memory ran out, or threads gave no answer
@@ -144,7 +145,10 @@ pub struct Words<'a> {
     pub explore: Option<Asked>,
     /// Whether that search comes to all states, where else it comes to those that are enough.
     pub full: bool,
-    /// How many states the search may come to, 1 to 10,000,000.
+    /// The path of the specification, with all of whose answers those of the source are compared; none where they are not. Then the
+    /// words say the same as of a search, and `record` names the file of one answer.
+    pub within: Option<&'a str>,
+    /// How many states a search may come to, 1 to 10,000,000.
     pub states: u32,
     /// Whether it is only said whether the source is refused: then nothing is typed and nothing is played.
     pub check: bool,
@@ -238,7 +242,12 @@ fn words_of<'a>(matches: &ArgMatches<'a>, more: Vec<&'a str>) -> Result<Words<'a
     if !are_workers(workers) {
         return Err("the number of workers is 1 to 64");
     }
-    let states = states_of(matches.get_one::<u32>("states"));
+    let (explore, within) = (matches.get_str("explore"), matches.get_str("within"));
+    let states = matches.get_one::<u32>("states");
+    if states.is_some() && explore.is_none() && within.is_none() {
+        return Err("--states stands beside --explore or --within");
+    }
+    let states = states_of(states);
     let states = number_in(states, 1, MOST_STATES, "the states are 1 to 10000000")?;
     let seed = matches.get_one::<u32>("seed");
     if !is_seed(seed) {
@@ -290,8 +299,9 @@ fn words_of<'a>(matches: &ArgMatches<'a>, more: Vec<&'a str>) -> Result<Words<'a
         trace_to,
         json,
         steps,
-        explore: explore_of(matches.get_str("explore")),
-        full: is_full(matches.get_str("explore")),
+        explore: explore_of(explore),
+        full: is_full(explore),
+        within,
         states,
         check,
         file,
@@ -433,8 +443,9 @@ fn word_of<'a>(alloc: Global, number: u32) -> Result<Arg<'a>, AllocError> {
         18 => Ok(explain_word(alloc)),
         19 => plain_word(alloc),
         20 => explore_word(alloc),
-        21 => states_word(alloc),
-        22 => check_word(alloc),
+        21 => within_word(alloc),
+        22 => Ok(states_word(alloc)),
+        23 => check_word(alloc),
         _ => Ok(file_word(alloc)),
     }
 }
@@ -646,13 +657,22 @@ fn but_one_run<'a>(word: Arg<'a>) -> Result<Arg<'a>, AllocError> {
     word.conflicts_with_all(OF_ONE_RUN.as_slice())
 }
 
-fn states_word<'a>(alloc: Global) -> Result<Arg<'a>, AllocError> {
+fn within_word<'a>(alloc: Global) -> Result<Arg<'a>, AllocError> {
+    let word = Arg::new(alloc, "within")
+        .long("within")
+        .value_name("SPEC")
+        .help(
+            "Tells whether each outcome of the program is one of the program in SPEC; with --explore=endings it compares endings alone",
+        );
+    but_one_run(word.conflicts_with("json")?)
+}
+
+fn states_word<'a>(alloc: Global) -> Arg<'a> {
     Arg::new(alloc, "states")
         .long("states")
         .value_name("N")
         .help("Lets the search visit at most N states, 1 to 10000000 [default: 1000000]")
         .value_parser(value_parser!(u32).range(1..=10_000_000))
-        .requires_arg("explore")
 }
 
 fn check_word<'a>(alloc: Global) -> Result<Arg<'a>, AllocError> {

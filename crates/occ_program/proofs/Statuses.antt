@@ -2,6 +2,7 @@
 use Rattle.std.proofs.Common.{ℕ, ◌≤◌, ◌≡◌, ◌⊎◌, inl, inr, List, Bool, true, false, ap, arith, refl, subst, sym}
 use Rattle.std.specs.Result.{result_and}
 use Rattle.std.specs.Prelude.{IfNone, Result, Ok, Err, IfOk, IfErr, IfSome, None, Option, Some, if◌then◌else◌, unwrap_or}
+use Rattle.std.specs.Borrow.{Bor}
 use Rattle.std.specs.Option.{ForSome}
 use Rattle.occ_choices.specs.Crews.{IsCrew}
 use Rattle.occ_text.specs.declared.fault.TextFault.TheVariants as text
@@ -33,7 +34,13 @@ use Rattle.occ_exploring.specs.Explored.{IsExplored}
 use Rattle.occ_explore.specs.declared.exploration.Verdict.{Verdict}
 use Rattle.occ_explore.specs.declared.exploration.Verdict.TheVariants.{All, More}
 use Rattle.occ_exploring.specs.Statuses.{is_fault, has_stopped, search_status, some_ends, verdict_status}
-use Rattle.occ_program.specs.Coming.{CameToBy, options_in, workers_asked, IsLookStatus, IsSearchStatus, IsStatusFor, OnlyTo, ProgramStatus, SearchedTo, found_status, look_status, of_look, of_play, of_search, of_failure, of_help}
+use Rattle.occ_exploring.specs.Within.{IsComparison, RefusesOne, SaysOfRuns, keeping_status, kept_status}
+use Rattle.occ_exploring.specs.declared.within.KeepFault.{KeepFault}
+use Rattle.occ_exploring.specs.declared.within.Keeping.{Keeping}
+use Rattle.occ_exploring.specs.declared.within.Keeping.TheVariants.{Same, Within, Outside}
+use Rattle.occ_exploring.specs.declared.within.Kept.{Kept}
+use Rattle.occ_exploring.specs.declared.within.Kept.TheVariants.{Compared, SourcePassed, SpecificationPassed}
+use Rattle.occ_program.specs.Coming.{CameToBy, IsKeepStatus, KeptTo, asked_in, options_in, workers_asked, IsLookStatus, IsSearchStatus, IsStatusFor, OnlyTo, ProgramStatus, SearchedTo, found_status, look_status, of_comparing, of_look, of_play, of_search, of_failure, of_help}
 
 ending_small : (e : Ending) → ending_status e ≤ 7
 ending_small Ended = omega arith
@@ -88,25 +95,55 @@ came_to_both workers words source keyboard list (Ok done) r crew h g = g
 came_to_both workers words source keyboard list (Err f) r crew h g = refused_by workers words source keyboard list f crew h
 
 -- what was played has its status, what was looked at or searched, and so has a failure
-played_status : (words : Asked) (r : Result ℕ Failure) → words.explore ≡ None → words.check ≡ false → IfOk r (IsStatusFor words) → IfOk r ProgramStatus
-played_status words (Ok s) one run h = of_play words one run h
-played_status words (Err f) one run h = tt
+played_status : (words : Asked) (r : Result ℕ Failure) → words.within ≡ None → words.explore ≡ None → words.check ≡ false → IfOk r (IsStatusFor words) → IfOk r ProgramStatus
+played_status words (Ok s) alone one run h = of_play words alone one run h
+played_status words (Err f) alone one run h = tt
 
-looked_status : (words : Asked) (r : Result ℕ Failure) → words.explore ≡ None → words.check ≡ true → IfOk r (IsLookStatus words) → IfOk r ProgramStatus
-looked_status words (Ok s) one look h = of_look words one look h
-looked_status words (Err f) one look h = tt
+looked_status : (words : Asked) (r : Result ℕ Failure) → words.within ≡ None → words.explore ≡ None → words.check ≡ true → IfOk r (IsLookStatus words) → IfOk r ProgramStatus
+looked_status words (Ok s) alone one look h = of_look words alone one look h
+looked_status words (Err f) alone one look h = tt
 
-pub looked_or_played : (words : Asked) (r : Result ℕ Failure) → words.explore ≡ None → (words.check ≡ true → IfOk r (IsLookStatus words)) → (words.check ≡ false → IfOk r (IsStatusFor words))
+pub looked_or_played : (words : Asked) (r : Result ℕ Failure) → words.within ≡ None → words.explore ≡ None → (words.check ≡ true → IfOk r (IsLookStatus words)) → (words.check ≡ false → IfOk r (IsStatusFor words))
     → IfOk r ProgramStatus
-looked_or_played words r one looked played = by words.check refl
+looked_or_played words r alone one looked played = by words.check refl
   where
     by : (check : Bool) → words.check ≡ check → IfOk r ProgramStatus
-    by true e = looked_status words r one e (looked e)
-    by false e = played_status words r one e (played e)
+    by true e = looked_status words r alone one e (looked e)
+    by false e = played_status words r alone one e (played e)
 
-pub searched_status : (words : Asked) (asked : AskedFor) (r : Result ℕ Failure) → words.explore ≡ Some asked → IfOk r (IsSearchStatus words asked) → IfOk r ProgramStatus
-searched_status words asked (Ok s) all h = of_search words asked all h
-searched_status words asked (Err f) all h = tt
+pub searched_status : (words : Asked) (asked : AskedFor) (r : Result ℕ Failure) → words.within ≡ None → words.explore ≡ Some asked → IfOk r (IsSearchStatus words asked) → IfOk r ProgramStatus
+searched_status words asked (Ok s) alone all h = of_search words asked alone all h
+searched_status words asked (Err f) alone all h = tt
+
+pub compared_status : (words : Asked) (path : Bor (List ℕ)) (r : Result ℕ Failure) → words.within ≡ Some path → IfOk r (IsKeepStatus words) → IfOk r ProgramStatus
+compared_status words path (Ok s) with_it h = of_comparing words path with_it h
+compared_status words path (Err f) with_it h = tt
+
+-- what holds of these texts holds of those
+along : (Z : (specification source keyboard : List ℕ) → AskedFor → Options → Type 0) {s t b c k l : List ℕ} {a d : AskedFor} {o p : Options}
+    → s ≡ t → b ≡ c → k ≡ l → a ≡ d → o ≡ p → Z s b k a o → Z t c l d p
+along Z {s = s} {b = b} {c = c} {k = k} {l = l} {a = a} {d = d} {p = p} e f g h i z =
+    subst (λ x. Z x c l d p) e (subst (λ x. Z s x l d p) f (subst (λ x. Z s b x d p) g (subst (λ x. Z s b k x p) h (subst (λ x. Z s b k a x) i z))))
+
+-- what a source and its specification came to, by three clauses
+pub kept_to : (words : Asked) (specification source keyboard spec bytes keys : List ℕ) (asked : AskedFor) (options : Options) (found : Result Kept KeepFault)
+    → options ≡ options_in words → spec ≡ specification → bytes ≡ source → keys ≡ keyboard → asked ≡ asked_in words
+    → IfOk found (IsComparison options spec bytes keys asked words.states) → IfOk found (SaysOfRuns options.errors asked spec bytes keys) → IfErr found (RefusesOne options spec bytes)
+    → KeptTo words specification source keyboard found
+kept_to words specification source keyboard spec bytes keys asked options (Ok kept) same of from typed compared h s g =
+    along (λ x y z a o. IsComparison o x y z a words.states kept × SaysOfRuns o.errors a x y z kept) of from typed compared same (h, s)
+kept_to words specification source keyboard spec bytes keys asked options (Err fault) same of from typed compared h s g =
+    along (λ x y z a o. RefusesOne o x y fault) of from typed compared same g
+
+keeping_small : (keeping : Keeping) → keeping_status keeping ≤ 7
+keeping_small Same = omega arith
+keeping_small Within = omega arith
+keeping_small (Outside place) = omega arith
+
+pub kept_small : (kept : Kept) → kept_status kept ≤ 7
+kept_small (Compared c) = keeping_small c.keeping
+kept_small SourcePassed = omega arith
+kept_small SpecificationPassed = omega arith
 
 -- what a search came to, by its two clauses
 pub searched_to : (words : Asked) (source keyboard bytes keys : List ℕ) (asked : AskedFor) (options : Options) (found : Result Exploration PlayFault)

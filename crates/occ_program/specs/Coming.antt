@@ -1,6 +1,7 @@
 -- What an exit status says of the source, the keyboard and the choices that were played.
 -- Manual: nothing; this is (own).
 use Rattle.std.specs.Prelude.{Bool, IsTrue, false, true, unwrap_or, List, None, Option, Some, Result, ℕ, ◌≡◌, Ok, Err}
+use Rattle.std.specs.Borrow.{Bor}
 use Rattle.occ_net_replay.specs.declared.choice.Choice.{Choice}
 use Rattle.occ_play_inputs.specs.declared.failure.Failure.{Failure}
 use Rattle.occ_choices.specs.declared.plan.Plan.{Plan}
@@ -15,15 +16,20 @@ use Rattle.occ_play_inputs.specs.Failures.{failure_status}
 use Rattle.occ_choices.specs.Plans.{choices_of}
 use Rattle.occ_play.specs.Status.{fault_status, status}
 use Rattle.occ_explore.specs.declared.exploration.Asked.{Asked}
+use Rattle.occ_explore.specs.declared.exploration.Asked.TheVariants.{Answers}
 use Rattle.occ_explore.specs.declared.exploration.Exploration.{Exploration}
 use Rattle.occ_explore.specs.declared.exploration.Answer.{Answer}
 use Rattle.occ_exploring.specs.Alone.{IsOnlyFor, IsUntoldFor, only_status}
 use Rattle.occ_exploring.specs.Explored.{IsExplored}
+use Rattle.occ_exploring.specs.Within.{IsComparison, RefusesOne, SaysOfRuns, kept_status}
+use Rattle.occ_exploring.specs.declared.within.KeepFault.{KeepFault}
+use Rattle.occ_exploring.specs.declared.within.KeepFault.TheVariants.{Source, Specification}
+use Rattle.occ_exploring.specs.declared.within.Kept.{Kept}
 use Rattle.occ_exploring.specs.Statuses.{search_status}
 use Rattle.occ_shown.specs.Counting.{AppendsTo}
 use Rattle.occ_shown.specs.declared.counted.Counted.{Counted}
 use Rattle.occ_watching.specs.Coming.{CameByCrew, CameTo}
-use Rattle.occ_program.specs.Trying.{IsTriedPlan, IsTriedPlanFor}
+use Rattle.occ_program.specs.Trying.{IsTriedPlan, IsTriedPlanFor, IsTriedSeed}
 
 -- so many workers take the turns, where the words say so and name no file of choices; one, where the words say no more than that the run
 -- is watched
@@ -58,6 +64,14 @@ IsTriedBy words source keyboard plan = IsTriedPlanFor (options_in words) source 
 
 abbrev pub TriesFrom : Words → (first : ℕ) → Inputs → Type 0
 TriesFrom words first inputs = IsTriedPlan (options_in words) inputs.source.items inputs.keyboard.items words.limit first words.tries inputs.plan
+
+-- of these seeds the one that was tried last
+abbrev pub IsTriedFrom : Words → (first : ℕ) → Inputs → (seed : ℕ) → Type 0
+IsTriedFrom words first inputs seed = IsTriedSeed (options_in words) inputs.source.items inputs.keyboard.items words.limit first words.tries seed
+
+-- the words name the first of them
+abbrev pub IsTriedIn : Words → Inputs → (seed : ℕ) → Type 0
+IsTriedIn words inputs seed = (first : ℕ) × (words.seed ≡ Some first) × IsTriedFrom words first inputs seed
 
 -- the status of what this source came to, by the choices or the workers and with the trace that the words ask for
 pub record IsStatusOf (words : Words) (source keyboard : List ℕ) (s : ℕ) : Type 0 where
@@ -117,13 +131,41 @@ pub record IsLookStatus (words : Words) (s : ℕ) : Type 0 where
   pub looked : LookedAt words source fault
   pub is : s ≡ look_status fault
 
+-- ---- a source and its specification
+
+-- what is compared: answers, where the words do not ask for endings
+abbrev pub asked_in : Words → Asked
+asked_in words = unwrap_or words.explore Answers
+
+-- what was found, and so what is known of all runs of both; or that one of the two is refused
+abbrev pub KeptTo : Words → (specification source keyboard : List ℕ) → Result Kept KeepFault → Type 0
+KeptTo words specification source keyboard (Ok kept) =
+    IsComparison (options_in words) specification source keyboard (asked_in words) words.states kept
+    × SaysOfRuns words.errors (asked_in words) specification source keyboard kept
+KeptTo words specification source keyboard (Err fault) = RefusesOne (options_in words) specification source fault
+
+abbrev pub kept_or_refused_status : Result Kept KeepFault → ℕ
+kept_or_refused_status (Ok kept) = kept_status kept
+kept_or_refused_status (Err (Source fault)) = fault_status fault
+kept_or_refused_status (Err (Specification fault)) = fault_status fault
+
+-- the status of that
+pub record IsKeepStatus (words : Words) (s : ℕ) : Type 0 where
+  pub specification : List ℕ
+  pub source : List ℕ
+  pub keyboard : List ℕ
+  pub found : Result Kept KeepFault
+  pub came : KeptTo words specification source keyboard found
+  pub is : s ≡ kept_or_refused_status found
+
 -- ---- the program
 
--- What a status of the program says: that of what a source came to, played, searched or looked at as the words ask, or that of a
--- failure, or 6 where help could not be printed.
+-- What a status of the program says: that of what a source came to, played, searched, compared or looked at as the words ask, or that
+-- of a failure, or 6 where help could not be printed.
 pub data ProgramStatus : ℕ → Type 0 where
-  of_play : (words : Words) {s : ℕ} → words.explore ≡ None → words.check ≡ false → IsStatusFor words s → ProgramStatus s
-  of_look : (words : Words) {s : ℕ} → words.explore ≡ None → words.check ≡ true → IsLookStatus words s → ProgramStatus s
-  of_search : (words : Words) (asked : Asked) {s : ℕ} → words.explore ≡ Some asked → IsSearchStatus words asked s → ProgramStatus s
+  of_play : (words : Words) {s : ℕ} → words.within ≡ None → words.explore ≡ None → words.check ≡ false → IsStatusFor words s → ProgramStatus s
+  of_look : (words : Words) {s : ℕ} → words.within ≡ None → words.explore ≡ None → words.check ≡ true → IsLookStatus words s → ProgramStatus s
+  of_search : (words : Words) (asked : Asked) {s : ℕ} → words.within ≡ None → words.explore ≡ Some asked → IsSearchStatus words asked s → ProgramStatus s
+  of_comparing : (words : Words) (path : Bor (List ℕ)) {s : ℕ} → words.within ≡ Some path → IsKeepStatus words s → ProgramStatus s
   of_failure : (failure : Failure) → ProgramStatus (failure_status failure)
   of_help : (help : Failure) → failure_status help ≡ 0 → ProgramStatus 6

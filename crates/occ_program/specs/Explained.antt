@@ -56,6 +56,10 @@ pub record IsNoText (words : Words) (source : List ℕ) (fault : PlayFault) : Ty
 abbrev pub TellsOf : Words → (source ends : List ℕ) → PlayFault → List ℕ → Type 0
 TellsOf words source ends fault text = TellsRefusal source (files_in words ends) (refusal_in fault) (Some text) ⊎ (IsNoText words source fault × (text ≡ no_text (source_name words)))
 
+-- an explanation of a refusal of the specification in this file
+abbrev pub TellsOfSpecification : (path source : List ℕ) → PlayFault → List ℕ → Type 0
+TellsOfSpecification path source fault text = TellsRefusal source (record { first = path; more = []; ends = [] }) (refusal_in fault) (Some text)
+
 -- why standard output was not written, or an explanation
 abbrev pub TellsWhy : Words → Inputs → Reason → PlayFault → List ℕ → Type 0
 TellsWhy words inputs reason (play.Write written) text = text ≡ trouble_text words (trouble Output reason)

@@ -3,6 +3,7 @@
 use Rattle.std.specs.Prelude.{Bool, List, Some, None, Ok, Err, Option, Result, [], codes, false, suc, take, true, ℕ, ◌++◌, ◌∷◌, ◌≡◌, ◌⊎◌, ⊤}
 use Rattle.std.specs.Fmt.{decimal}
 use Rattle.std.specs.Borrow.{Bor}
+use Rattle.std.specs.Option.{option_to_list}
 use Rattle.occ_choices.specs.Lines.{choice_text}
 use Rattle.occ_play.specs.declared.playing.Played.{Played}
 use Rattle.occ_play.specs.declared.fault.PlayFault.{PlayFault}
@@ -11,6 +12,8 @@ use Rattle.occ_chart.specs.declared.part.Part.TheVariants.{First, Last}
 use Rattle.occ_explaining.specs.Explaining.{IsNamedChart, StepsOf}
 use Rattle.occ_net_replay.specs.declared.choice.Choice.{Choice}
 use Rattle.occ_explore.specs.declared.exploration.Answer.{Answer}
+use Rattle.occ_exploring.specs.Within.{outside_of}
+use Rattle.occ_exploring.specs.declared.within.Kept.{Kept}
 use Rattle.occ_files.specs.Leaving.{LeavesOne, LeavesAll, LeavesNothing, Written}
 use Rattle.occ_play_inputs.specs.declared.failure.Failure.{Failure}
 use Rattle.occ_play_inputs.specs.declared.inputs.Inputs.{Inputs}
@@ -135,3 +138,7 @@ search_files (Some stem) answers = answer_files stem.now 1 (take 100 answers)
 abbrev pub AreRecorded : Option (Bor (List ℕ)) → List Answer → Option (List Written) → Option (List Written) → Result ⊤ Failure → Type 0
 AreRecorded stem answers old new (Ok done) = LeavesAll old new (search_files stem answers)
 AreRecorded stem answers old new (Err failure) = (n : ℕ) × LeavesAll old new (take n (search_files stem answers))
+
+-- that of the answer that is told to be none of the specification's
+abbrev pub RecordsOutside : Words → Kept → Option (List Written) → Option (List Written) → Result ⊤ Failure → Type 0
+RecordsOutside words kept old new result = AreRecorded words.record (option_to_list (outside_of kept)) old new result

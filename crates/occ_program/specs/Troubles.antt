@@ -9,7 +9,7 @@ use Rattle.occ_files.specs.declared.reason.Reason.TheVariants.{Missing}
 use Rattle.occ_play_inputs.specs.declared.failure.Failure.{Failure}
 use Rattle.occ_play_inputs.specs.declared.failure.Failure.TheVariants.{Read, Write}
 use Rattle.occ_play_inputs.specs.declared.failure.Stream.{Stream}
-use Rattle.occ_play_inputs.specs.declared.failure.Stream.TheVariants.{Source, More, Keyboard, Choices, Output, Record, Answer, Chart, Trace, Turns, Typed}
+use Rattle.occ_play_inputs.specs.declared.failure.Stream.TheVariants.{Source, More, Specification, Keyboard, Choices, Output, Record, Answer, Chart, Trace, Turns, Typed}
 use Rattle.occ_play_inputs.specs.declared.failure.Trouble.{Trouble}
 use Rattle.occ_play_inputs.specs.declared.words.Words.{Words}
 use Rattle.occ_program.specs.Pages.{answer_path}
@@ -29,6 +29,7 @@ path_at (path ∷ paths) (suc n) = path_at paths n
 abbrev pub stream_name : Words → Stream → List ℕ
 stream_name words Source = path_or (codes "standard input") words.file
 stream_name words (More n) = path_at words.more.items n
+stream_name words Specification = path_or [] words.within
 stream_name words Keyboard = codes "standard input"
 stream_name words Choices = path_or [] words.choices
 stream_name words Output = codes "standard output"

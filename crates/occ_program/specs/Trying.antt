@@ -1,6 +1,7 @@
 -- Seeds that are tried one after the other.
 -- Manual: nothing; this is (own).
-use Rattle.std.specs.Prelude.{Bool, IfErr, IfOk, IsFalse, IsTrue, List, None, Option, Result, Some, false, ℕ, ⊤, ◌+◌, ◌<◌, ◌≡◌, ◌≢◌, ◌⊎◌}
+use Rattle.std.specs.Prelude.{Bool, Err, IfErr, IfOk, IsFalse, IsTrue, List, None, Ok, Option, Result, Some, codes, false, ℕ, ⊤, ◌+◌, ◌++◌, ◌<◌, ◌≡◌, ◌≢◌, ◌⊎◌}
+use Rattle.std.specs.Fmt.{decimal}
 use Rattle.occ_net_replay.specs.declared.choice.Choice.{Choice}
 use Rattle.occ_choices.specs.Plans.{choices_of}
 use Rattle.occ_choices.specs.declared.plan.Plan.{Plan}
@@ -45,6 +46,17 @@ abbrev pub IsTriedPlanFor : {Path : Type 0} → Options → (source keyboard : L
 IsTriedPlanFor options source keyboard limit (Some path) seed tries plan = ⊤
 IsTriedPlanFor options source keyboard limit None (Some first) tries plan = IsTriedPlan options source keyboard limit first tries plan
 IsTriedPlanFor options source keyboard limit None None tries plan = ⊤
+
+-- ---- what is told of them
+
+-- that the run by this seed is the first one that does not end
+abbrev pub seed_line : ℕ → List ℕ
+seed_line seed = codes "seed " ++ decimal seed ++ codes ": the first one by which the run does not end\n"
+
+-- that, of the seed that was tried last, where there were several and its run does not end
+abbrev pub TellsSeed : (tries : ℕ) → Option ℕ → Result Played PlayFault → (text : List ℕ) → Type 0
+TellsSeed tries (Some seed) (Ok played) text = (tries ≢ 1) × (played.ending ≢ Ended) × (text ≡ seed_line seed)
+TellsSeed tries seed played text = ⊥
 
 -- ---- private contracts alone cite what follows
 

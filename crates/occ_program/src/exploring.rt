@@ -109,7 +109,7 @@ fn searched<R: Files + Print + Eprint>(
 }
 
 /// Prints why the source was refused, and answers the exit status.
-fn refused<R: Eprint>(
+pub(crate) fn refused<R: Eprint>(
     rt: &R,
     alloc: Global,
     words: &Words<'_>,
@@ -186,7 +186,7 @@ fn print_only<W: Write>(
 }
 
 /// Writes the choices of the one answer into a file, where the words name one.
-fn record_only<F: Folder>(
+pub(crate) fn record_only<F: Folder>(
     folder: &mut F,
     alloc: Global,
     words: &Words<'_>,
@@ -251,7 +251,11 @@ fn explain_found<R: Eprint>(
 }
 
 /// Refuses to write the choices of an answer into a file that the source is read from, by whatever path.
-fn check_records<R: Files>(rt: &R, alloc: Global, words: &Words<'_>) -> Result<(), Failure> {
+pub(crate) fn check_records<R: Files>(
+    rt: &R,
+    alloc: Global,
+    words: &Words<'_>,
+) -> Result<(), Failure> {
     let (Some(stem), Some(file)) = (words.record, words.file) else {
         return Ok(());
     };
@@ -263,7 +267,12 @@ fn check_records<R: Files>(rt: &R, alloc: Global, words: &Words<'_>) -> Result<(
 }
 
 /// Refuses to write the choices of an answer into this file.
-fn check_record<R: Files>(rt: &R, alloc: Global, stem: &str, file: &str) -> Result<(), Failure> {
+pub(crate) fn check_record<R: Files>(
+    rt: &R,
+    alloc: Global,
+    stem: &str,
+    file: &str,
+) -> Result<(), Failure> {
     for number in 1..=MOST_ANSWERS {
         let path = answer_path(alloc, stem, number)?;
         if path.as_str() == file || are_one_file(rt, path.as_str(), file) {

@@ -9,6 +9,7 @@ mod drawing;
 pub mod exit;
 mod explaining;
 mod exploring;
+mod keeping;
 mod live;
 mod looking;
 mod page;

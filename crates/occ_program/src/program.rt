@@ -11,11 +11,12 @@ use crate::choosing::explain_choices;
 use crate::drawing::draw;
 use crate::explaining::explain;
 use crate::exploring::explore_words;
+use crate::keeping::keep_words;
 use crate::live::{run_live_words, runs_live};
 use crate::looking::look_at_words;
 use crate::reading::read_inputs;
 use crate::recording::record;
-use crate::seeding::take_seed;
+use crate::seeding::{seed_told, take_seed};
 use crate::stepping::step;
 use crate::terminal::{allows_bold, explains};
 use crate::tracing::trace;
@@ -112,7 +113,7 @@ where
     }
 }
 
-/// Searches all lists of choices, looks at the source, or plays one run, as the words ask.
+/// Compares the source with its specification, searches all lists of choices, looks at the source, or plays one run, as the words ask.
 fn do_words<R: Files + Input + Print + Eprint + Threads + Wait + Sync>(
     rt: &R,
     alloc: Global,
@@ -121,6 +122,25 @@ fn do_words<R: Files + Input + Print + Eprint + Threads + Wait + Sync>(
 ) -> Result<u8, Failure>
 where
     R::Reader: IsTerminal,
+    ensures came { IfOk result (λ status. ProgramStatus status) }
+    ensures small { IfOk result (λ status. status ≤ 7) }
+{
+    match words.within {
+        Some(path) => keep_words(rt, alloc, words, path, on_terminal),
+        None => search_or_run(rt, alloc, words, on_terminal),
+    }
+}
+
+/// Searches all lists of choices, looks at the source, or plays one run, as the words ask.
+fn search_or_run<R: Files + Input + Print + Eprint + Threads + Wait + Sync>(
+    rt: &R,
+    alloc: Global,
+    words: &Words<'_>,
+    on_terminal: bool,
+) -> Result<u8, Failure>
+where
+    R::Reader: IsTerminal,
+    requires alone { words.now.within ≡ None }
     ensures came { IfOk result (λ status. ProgramStatus status) }
     ensures small { IfOk result (λ status. status ≤ 7) }
 {
@@ -180,10 +200,13 @@ fn run_inputs<R: Files + Print + Eprint + Threads + Wait + Sync>(
         (IsStatusOf words.now inputs.old.source.items inputs.old.keyboard.items) }
     ensures small { IfOk result (λ status. status ≤ 7) }
 {
-    take_seed(alloc, words, inputs)?;
+    let seed = take_seed(alloc, words, inputs)?;
     let mut screen = Noting::new(io::writer(rt));
     let played = play_on(rt, alloc, words, inputs, &mut screen)?;
-    finish(rt, alloc, words, inputs, played, screen.reason())
+    let told = seed_told(alloc, words, seed, &played);
+    let status = finish(rt, alloc, words, inputs, played, screen.reason())?;
+    tell_text(rt, told);
+    Ok(status)
 }
 
 /// Leaves what the words ask for, and tells what was played.
@@ -401,17 +424,17 @@ fn play_looking<R: Eprint + Threads + Wait + Sync, W: Write>(
     )?;
     match seen {
         Ok((played, lines)) => {
-            tell_seen(rt, lines);
+            tell_text(rt, lines);
             Some(Ok(played))
         }
         Err(fault) => Some(Err(fault)),
     }
 }
 
-/// Prints lines that were seen to standard error.
-fn tell_seen<R: Eprint>(rt: &R, lines: Option<Vec<u8>>) {
-    if let Some(lines) = lines
-        && let Ok(text) = str::from_utf8(lines.as_slice())
+/// Prints a text to standard error, where there is one.
+fn tell_text<R: Eprint>(rt: &R, text: Option<Vec<u8>>) {
+    if let Some(text) = text
+        && let Ok(text) = str::from_utf8(text.as_slice())
     {
         let _ = eprint!(rt; "{text}");
     }

@@ -1,10 +1,10 @@
 //! Tries the seeds that the words ask for.
-ghost use Rattle.std.specs.Prelude.{◌≡◌, ◌≢◌, ◌+◌, ◌-◌, ◌^◌, ◌≤◌, ◌<◌, IfOk, IsFalse, IsTrue, OnOk};
+ghost use Rattle.std.specs.Prelude.{◌≡◌, ◌≢◌, ◌+◌, ◌-◌, ◌^◌, ◌≤◌, ◌<◌, IfOk, IfSome, IsFalse, IsTrue, OnOk};
 ghost use Rattle.occ_term.specs.declared.ending.Ending.TheVariants.{Ended};
 ghost use Rattle.occ_choices.specs.Plans.{choices_of};
 ghost use Rattle.occ_play_inputs.specs.Asked.{IsAskedBy, IsSeeded};
-ghost use Rattle.occ_program.specs.Coming.{IsTriedBy, TriesFrom};
-ghost use Rattle.occ_program.specs.Trying.{IsTriedSeed, RefusesWith1, TellsEnd};
+ghost use Rattle.occ_program.specs.Coming.{IsTriedBy, IsTriedFrom, IsTriedIn, TriesFrom};
+ghost use Rattle.occ_program.specs.Trying.{IsTriedSeed, RefusesWith1, TellsEnd, TellsSeed, seed_line};
 ghost use Rattle.occ_seeds.specs.Seeds.{seeded};
 ghost use Rattle.occ_shown.specs.Counting.{failures_of};
 
@@ -14,26 +14,27 @@ use occ_play::{Ending, Options, PlayFault, Played, play_in, status_of_fault};
 use occ_play_inputs::{Failure, Inputs, Words};
 use occ_seeds::seeded_plan;
 use occ_shown::Counted;
-use std::alloc::Global;
+use std::alloc::{AllocError, Global};
 use std::io::Write;
 
 /// Puts the choices of the first seed by which the run doesn't end into the plan, where the words name a seed; those of the last
-/// one that they allow where it always does.
+/// one that they allow where it always does. Answers that seed; none where the source is refused.
 pub(crate) fn take_seed(
     alloc: Global,
     words: &Words<'_>,
     inputs: &mut Inputs,
-) -> Result<(), Failure>
+) -> Result<Option<u32>, Failure>
     requires { IsAskedBy words.now inputs.old.plan }
     ensures asked { OnOk result (IsAskedBy words.now inputs.new.plan) }
     ensures source { inputs.new.source ≡ inputs.old.source }
     ensures keyboard { inputs.new.keyboard ≡ inputs.old.keyboard }
     ensures tried { OnOk result (IsTriedBy words.now
         inputs.new.source.items inputs.new.keyboard.items inputs.new.plan) }
+    ensures seed { IfOk result (λ found. IfSome found (IsTriedIn words.now inputs.new)) }
 {
     match (words.choices, words.seed) {
         (None, Some(first)) => take_seed_from(alloc, words, inputs, first),
-        (None, None) | (Some(_), _) => Ok(()),
+        (None, None) | (Some(_), _) => Ok(None),
     }
 }
 
@@ -44,10 +45,11 @@ fn take_seed_from(
     words: &Words<'_>,
     inputs: &mut Inputs,
     first: u32,
-) -> Result<(), Failure>
+) -> Result<Option<u32>, Failure>
     requires { first ≤ 1000000000 }
     ensures seeded { OnOk result (IsSeeded words.now.limit first words.now.tries inputs.new.plan) }
     ensures tried { OnOk result (TriesFrom words.now first inputs.new) }
+    ensures seed { IfOk result (λ found. IfSome found (IsTriedFrom words.now first inputs.new)) }
     ensures source { inputs.new.source ≡ inputs.old.source }
     ensures keyboard { inputs.new.keyboard ≡ inputs.old.keyboard }
 {
@@ -61,8 +63,14 @@ fn take_seed_from(
         words.tries,
     );
     match tried {
-        Ok(seed) => plan_seed(alloc, words.limit, inputs, seed),
-        Err(fault) if status_of_fault(&fault) == 1 => plan_seed(alloc, words.limit, inputs, first),
+        Ok(seed) => {
+            plan_seed(alloc, words.limit, inputs, seed)?;
+            Ok(Some(seed))
+        }
+        Err(fault) if status_of_fault(&fault) == 1 => {
+            plan_seed(alloc, words.limit, inputs, first)?;
+            Ok(None)
+        }
         Err(_) => Err(Failure::Memory),
     }
 }
@@ -146,4 +154,33 @@ fn has_ended(played: &Played) -> bool
     ensures other { IsFalse result → played.now.ending ≢ Ended }
 {
     played.ending == Ending::Ended
+}
+
+/// What is told of the seed that was tried last, where there are several and the run by it does not end; else nothing is.
+pub(crate) fn seed_told(
+    alloc: Global,
+    words: &Words<'_>,
+    seed: Option<u32>,
+    came: &Result<Played, PlayFault>,
+) -> Option<Vec<u8>>
+    ensures { IfSome result (λ text. TellsSeed words.now.tries seed came.now text.items) }
+{
+    let (Some(seed), Ok(played)) = (seed, came) else {
+        return None;
+    };
+    if words.tries == 1 || has_ended(played) {
+        return None;
+    }
+    match seed_line(alloc, seed) {
+        Ok(text) => Some(text),
+        Err(_) => None,
+    }
+}
+
+/// The line of a seed.
+fn seed_line(alloc: Global, seed: u32) -> Result<Vec<u8>, AllocError>
+    ensures { IfOk result (λ text. text.items ≡ seed_line seed) }
+{
+    let text = format!(in alloc; "seed {seed}: the first one by which the run does not end\n")?;
+    Ok(text.into_bytes())
 }

@@ -89,6 +89,7 @@ fn stream_name(alloc: Global, words: &Words<'_>, stream: Stream) -> Result<Strin
     match stream {
         Stream::Source => String::from_str(alloc, path_or("standard input", words.file)),
         Stream::More(number) => String::from_str(alloc, path_at(words.more.as_slice(), number)),
+        Stream::Specification => String::from_str(alloc, path_or("", words.within)),
         Stream::Keyboard => String::from_str(alloc, "standard input"),
         Stream::Choices => String::from_str(alloc, path_or("", words.choices)),
         Stream::Output => String::from_str(alloc, "standard output"),
