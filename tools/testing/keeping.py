@@ -1,7 +1,7 @@
 """Tries --within: programs beside specifications, and words and files that belong to it. What it tells is compared with two searches."""
 import itertools
 
-from .running import TOP, Job, room, run_text
+from .running import Job, room, run_text
 from .schedules import ANSWER
 
 HEAD = "PROC main (CHAN OF BYTE keyboard, screen)\n"
