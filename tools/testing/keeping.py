@@ -1,7 +1,7 @@
 """Tries --within: programs beside specifications, and words and files that belong to it. What it tells is compared with two searches."""
 import itertools
 
-from .running import TOP, Job, room, run_text
+from .running import Job, room, run_text
 from .schedules import ANSWER
 
 HEAD = "PROC main (CHAN OF BYTE keyboard, screen)\n"
@@ -22,10 +22,24 @@ def chooses(texts):
 LONG = "a" * 61
 SHARED = HEAD + "  INT x:\n  PAR\n    x := 1\n    x := 2\n:\n"
 ECHO = HEAD + "  BYTE b:\n  SEQ\n    keyboard ? b\n    screen ! b\n:\n"
+EITHER = """PROC main (CHAN OF BYTE keyboard, screen)
+  [2]CHAN OF BYTE double:
+  PAR
+    double[0] ! '4'
+    double[1] ! '8'
+    SEQ
+      SEQ i = 0 FOR 2
+        BYTE digit:
+        ALT j = 0 FOR 2
+          double[j] ? digit
+            screen ! digit
+      screen ! '*n'
+:
+"""
 FILES = {
     "a.occ": shows("a"),
     "b.occ": shows("b"),
-    "ab.occ": (TOP / "docs/course/specs/07-doubles.occ").read_text(),
+    "ab.occ": EITHER,
     "four.occ": shows("48").replace("    SKIP\n", "    screen ! '*n'\n"),
     "long.occ": shows(LONG + "x"),
     "longer.occ": shows(LONG + "y"),

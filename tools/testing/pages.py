@@ -4,7 +4,7 @@ A block that is indented by four spaces may hold commands, behind `$ `, and belo
 Each command is run on a terminal, as by a reader, with NO_COLOR set; to one that reads the terminal Ctrl-D is typed at once.
 All commands of a page are run in one folder, which has `examples/`, so a later one finds the files of those before it. A block
 below a sentence with the words "into `NAME`" is that file. A block below `<!-- not run -->` is left out: what it prints changes
-from day to day.
+from day to day. A picture that the commands draw has to be the one that the page shows.
 """
 import os
 import pathlib
@@ -16,6 +16,7 @@ from .running import TOP, Job, shown_on
 
 PAGES = ["README.md", *sorted(str(path.relative_to(TOP)) for path in (TOP / "docs").rglob("*.md"))]
 INTO = re.compile(r"\binto\s+`([\w./-]+)`")
+PICTURE = re.compile(r"!\[[^]]*\]\(([^)]+)\)")
 LEFT_OUT = "<!-- not run -->"
 CTRL_D = "\x04"
 
@@ -82,6 +83,10 @@ def check(program, page):
             printed = printed.splitlines()
             if not agrees(printed, shown):
                 yield f"line {number}: {command}: {' / '.join(printed[:6])}"
+        for picture in PICTURE.findall((TOP / page).read_text(encoding="utf-8")):
+            kept, drawn = (TOP / page).parent / picture, folder / pathlib.Path(picture).name
+            if drawn.exists() and drawn.read_bytes() != kept.read_bytes():
+                yield f"{picture}: another picture is drawn"
 
 
 def jobs():

@@ -89,810 +89,432 @@ pub(crate) struct Row {
     pub(crate) then: &'static [Part],
 }
 
+#[rattlefmt::skip]
 static TOP: [Row; 3] = [
-    Row {
-        words: &[Class::Protocol],
-        then: &[Part::NewName, Part::ProtocolBody],
-    },
-    Row {
-        words: &[Class::Val],
-        then: &[Part::Constant],
-    },
-    Row {
-        words: &[Class::Proc],
-        then: &[Part::NewName, Part::OpenWord, Part::Formals],
-    },
+    Row { words: &[Class::Protocol], then: &[Part::NewName, Part::ProtocolBody] },
+    Row { words: &[Class::Val], then: &[Part::Constant] },
+    Row { words: &[Class::Proc], then: &[Part::NewName, Part::OpenWord, Part::Formals] },
 ];
 
 /// What declarations begin with, but for a primitive type.
+#[rattlefmt::skip]
 static DECLARATION: [Row; 5] = [
-    Row {
-        words: &[Class::OpenBracket],
-        then: &[Part::Expression, Part::CloseSquare, Part::Sized],
-    },
-    Row {
-        words: &[Class::Chan],
-        then: &[Part::OfWord, Part::Carried, Part::NewName, Part::MoreNames],
-    },
-    Row {
-        words: &[Class::Protocol],
-        then: &[Part::NewName, Part::ProtocolBody],
-    },
-    Row {
-        words: &[Class::Val],
-        then: &[Part::Constant],
-    },
-    Row {
-        words: &[Class::Proc],
-        then: &[Part::NewName, Part::OpenWord, Part::Formals],
-    },
+    Row { words: &[Class::OpenBracket], then: &[Part::Expression, Part::CloseSquare, Part::Sized] },
+    Row { words: &[Class::Chan], then: &[Part::OfWord, Part::Carried, Part::NewName, Part::MoreNames] },
+    Row { words: &[Class::Protocol], then: &[Part::NewName, Part::ProtocolBody] },
+    Row { words: &[Class::Val], then: &[Part::Constant] },
+    Row { words: &[Class::Proc], then: &[Part::NewName, Part::OpenWord, Part::Formals] },
 ];
 
+#[rattlefmt::skip]
 static PROCESS: [Row; 6] = [
-    Row {
-        words: &[Class::Primitive],
-        then: &[Part::NewName, Part::MoreNames],
-    },
-    Row {
-        words: &[Class::Name],
-        then: &[Part::NamedProcess],
-    },
-    Row {
-        words: &[Class::Skip, Class::Stop],
-        then: &[],
-    },
-    Row {
-        words: &[Class::Seq, Class::Par, Class::Alt, Class::If],
-        then: &[Part::Replicator],
-    },
-    Row {
-        words: &[Class::Pri],
-        then: &[Part::AltWord, Part::Replicator],
-    },
-    Row {
-        words: &[Class::Case, Class::While],
-        then: &[Part::Expression],
-    },
+    Row { words: &[Class::Primitive], then: &[Part::NewName, Part::MoreNames] },
+    Row { words: &[Class::Name], then: &[Part::NamedProcess] },
+    Row { words: &[Class::Skip, Class::Stop], then: &[] },
+    Row { words: &[Class::Seq, Class::Par, Class::Alt, Class::If], then: &[Part::Replicator] },
+    Row { words: &[Class::Pri], then: &[Part::AltWord, Part::Replicator] },
+    Row { words: &[Class::Case, Class::While], then: &[Part::Expression] },
 ];
 
+#[rattlefmt::skip]
 static CHOICE: [Row; 3] = [
-    Row {
-        words: &[Class::If],
-        then: &[Part::Replicator],
-    },
-    Row {
-        words: &[Class::Primitive],
-        then: &[Part::NamedOrValue],
-    },
-    Row {
-        words: &[],
-        then: &[Part::Expression],
-    },
+    Row { words: &[Class::If], then: &[Part::Replicator] },
+    Row { words: &[Class::Primitive], then: &[Part::NamedOrValue] },
+    Row { words: &[], then: &[Part::Expression] },
 ];
 
+#[rattlefmt::skip]
 static ARM: [Row; 4] = [
-    Row {
-        words: &[Class::Alt],
-        then: &[Part::Replicator],
-    },
-    Row {
-        words: &[Class::Pri],
-        then: &[Part::AltWord, Part::Replicator],
-    },
-    Row {
-        words: &[Class::Primitive],
-        then: &[Part::NewName, Part::MoreNames],
-    },
-    Row {
-        words: &[],
-        then: &[Part::Expression, Part::Guarded],
-    },
+    Row { words: &[Class::Alt], then: &[Part::Replicator] },
+    Row { words: &[Class::Pri], then: &[Part::AltWord, Part::Replicator] },
+    Row { words: &[Class::Primitive], then: &[Part::NewName, Part::MoreNames] },
+    Row { words: &[], then: &[Part::Expression, Part::Guarded] },
 ];
 
+#[rattlefmt::skip]
 static OPTION: [Row; 3] = [
-    Row {
-        words: &[Class::Else],
-        then: &[],
-    },
-    Row {
-        words: &[Class::Primitive],
-        then: &[Part::NamedOrValue],
-    },
-    Row {
-        words: &[],
-        then: &[Part::Expression, Part::MoreSources],
-    },
+    Row { words: &[Class::Else], then: &[] },
+    Row { words: &[Class::Primitive], then: &[Part::NamedOrValue] },
+    Row { words: &[], then: &[Part::Expression, Part::MoreSources] },
 ];
 
+#[rattlefmt::skip]
 static VARIANT: [Row; 2] = [
-    Row {
-        words: &[Class::Primitive],
-        then: &[Part::NewName, Part::MoreNames],
-    },
-    Row {
-        words: &[Class::Name],
-        then: &[Part::MoreReceived],
-    },
+    Row { words: &[Class::Primitive], then: &[Part::NewName, Part::MoreNames] },
+    Row { words: &[Class::Name], then: &[Part::MoreReceived] },
 ];
 
-static CASES: [Row; 1] = [Row {
-    words: &[Class::Case],
-    then: &[],
-}];
+#[rattlefmt::skip]
+static CASES: [Row; 1] = [
+    Row { words: &[Class::Case], then: &[] },
+];
 
-static TAG: [Row; 1] = [Row {
-    words: &[Class::Name],
-    then: &[Part::MoreTagItems],
-}];
+#[rattlefmt::skip]
+static TAG: [Row; 1] = [
+    Row { words: &[Class::Name], then: &[Part::MoreTagItems] },
+];
 
+#[rattlefmt::skip]
 static NAMED_PROCESS: [Row; 6] = [
-    Row {
-        words: &[Class::Assign],
-        then: &[Part::Expression, Part::MoreSources],
-    },
-    Row {
-        words: &[Class::Question],
-        then: &[Part::Received],
-    },
-    Row {
-        words: &[Class::Exclamation],
-        then: &[Part::Sent, Part::MoreSent],
-    },
-    Row {
-        words: &[Class::OpenParen],
-        then: &[Part::Actuals],
-    },
-    Row {
-        words: &[Class::OpenBracket],
-        then: &[Part::Expression, Part::CloseSquare, Part::Placed],
-    },
-    Row {
-        words: &[Class::Comma],
-        then: &[Part::Variable, Part::MoreTargets],
-    },
+    Row { words: &[Class::Assign], then: &[Part::Expression, Part::MoreSources] },
+    Row { words: &[Class::Question], then: &[Part::Received] },
+    Row { words: &[Class::Exclamation], then: &[Part::Sent, Part::MoreSent] },
+    Row { words: &[Class::OpenParen], then: &[Part::Actuals] },
+    Row { words: &[Class::OpenBracket], then: &[Part::Expression, Part::CloseSquare, Part::Placed] },
+    Row { words: &[Class::Comma], then: &[Part::Variable, Part::MoreTargets] },
 ];
 
+#[rattlefmt::skip]
 static PLACED: [Row; 5] = [
-    Row {
-        words: &[Class::Assign],
-        then: &[Part::Expression, Part::MoreSources],
-    },
-    Row {
-        words: &[Class::Question],
-        then: &[Part::Received],
-    },
-    Row {
-        words: &[Class::Exclamation],
-        then: &[Part::Sent, Part::MoreSent],
-    },
-    Row {
-        words: &[Class::OpenBracket],
-        then: &[Part::Expression, Part::CloseSquare, Part::Placed],
-    },
-    Row {
-        words: &[Class::Comma],
-        then: &[Part::Variable, Part::MoreTargets],
-    },
+    Row { words: &[Class::Assign], then: &[Part::Expression, Part::MoreSources] },
+    Row { words: &[Class::Question], then: &[Part::Received] },
+    Row { words: &[Class::Exclamation], then: &[Part::Sent, Part::MoreSent] },
+    Row { words: &[Class::OpenBracket], then: &[Part::Expression, Part::CloseSquare, Part::Placed] },
+    Row { words: &[Class::Comma], then: &[Part::Variable, Part::MoreTargets] },
 ];
 
+#[rattlefmt::skip]
 static MORE_TARGETS: [Row; 2] = [
-    Row {
-        words: &[Class::Comma],
-        then: &[Part::Variable, Part::MoreTargets],
-    },
-    Row {
-        words: &[Class::Assign],
-        then: &[Part::Expression, Part::MoreSources],
-    },
+    Row { words: &[Class::Comma], then: &[Part::Variable, Part::MoreTargets] },
+    Row { words: &[Class::Assign], then: &[Part::Expression, Part::MoreSources] },
 ];
 
+#[rattlefmt::skip]
 static MORE_SOURCES: [Row; 2] = [
-    Row {
-        words: &[Class::Comma],
-        then: &[Part::Expression, Part::MoreSources],
-    },
-    Row {
-        words: &[],
-        then: &[],
-    },
+    Row { words: &[Class::Comma], then: &[Part::Expression, Part::MoreSources] },
+    Row { words: &[], then: &[] },
 ];
 
+#[rattlefmt::skip]
 static RECEIVED: [Row; 2] = [
-    Row {
-        words: &[Class::Case],
-        then: &[Part::Listed],
-    },
-    Row {
-        words: &[Class::Name],
-        then: &[Part::Subscripts, Part::Count, Part::MoreReceived],
-    },
+    Row { words: &[Class::Case], then: &[Part::Listed] },
+    Row { words: &[Class::Name], then: &[Part::Subscripts, Part::Count, Part::MoreReceived] },
 ];
 
+#[rattlefmt::skip]
 static LISTED: [Row; 2] = [
-    Row {
-        words: &[Class::Name],
-        then: &[Part::MoreReceived],
-    },
-    Row {
-        words: &[],
-        then: &[],
-    },
+    Row { words: &[Class::Name], then: &[Part::MoreReceived] },
+    Row { words: &[], then: &[] },
 ];
 
+#[rattlefmt::skip]
 static COUNT: [Row; 2] = [
-    Row {
-        words: &[Class::DoubleColon],
-        then: &[Part::Variable],
-    },
-    Row {
-        words: &[],
-        then: &[],
-    },
+    Row { words: &[Class::DoubleColon], then: &[Part::Variable] },
+    Row { words: &[], then: &[] },
 ];
 
+#[rattlefmt::skip]
 static MORE_RECEIVED: [Row; 2] = [
-    Row {
-        words: &[Class::Semicolon],
-        then: &[Part::Variable, Part::Count, Part::MoreReceived],
-    },
-    Row {
-        words: &[],
-        then: &[],
-    },
+    Row { words: &[Class::Semicolon], then: &[Part::Variable, Part::Count, Part::MoreReceived] },
+    Row { words: &[], then: &[] },
 ];
 
-static SENT: [Row; 1] = [Row {
-    words: &[],
-    then: &[Part::Expression, Part::SentCount],
-}];
+#[rattlefmt::skip]
+static SENT: [Row; 1] = [
+    Row { words: &[], then: &[Part::Expression, Part::SentCount] },
+];
 
+#[rattlefmt::skip]
 static SENT_COUNT: [Row; 2] = [
-    Row {
-        words: &[Class::DoubleColon],
-        then: &[Part::Expression],
-    },
-    Row {
-        words: &[],
-        then: &[],
-    },
+    Row { words: &[Class::DoubleColon], then: &[Part::Expression] },
+    Row { words: &[], then: &[] },
 ];
 
+#[rattlefmt::skip]
 static MORE_SENT: [Row; 2] = [
-    Row {
-        words: &[Class::Semicolon],
-        then: &[Part::Sent, Part::MoreSent],
-    },
-    Row {
-        words: &[],
-        then: &[],
-    },
+    Row { words: &[Class::Semicolon], then: &[Part::Sent, Part::MoreSent] },
+    Row { words: &[], then: &[] },
 ];
 
+#[rattlefmt::skip]
 static REPLICATOR: [Row; 2] = [
-    Row {
-        words: &[Class::Name],
-        then: &[
-            Part::EqualWord,
-            Part::Expression,
-            Part::ForWord,
-            Part::Expression,
-        ],
-    },
-    Row {
-        words: &[],
-        then: &[],
-    },
+    Row { words: &[Class::Name], then: &[Part::EqualWord, Part::Expression, Part::ForWord, Part::Expression] },
+    Row { words: &[], then: &[] },
 ];
 
-static ALT_WORD: [Row; 1] = [Row {
-    words: &[Class::Alt],
-    then: &[],
-}];
+#[rattlefmt::skip]
+static ALT_WORD: [Row; 1] = [
+    Row { words: &[Class::Alt], then: &[] },
+];
 
+#[rattlefmt::skip]
 static GUARDED: [Row; 2] = [
-    Row {
-        words: &[Class::Ampersand],
-        then: &[Part::Guard],
-    },
-    Row {
-        words: &[Class::Question],
-        then: &[Part::Received],
-    },
+    Row { words: &[Class::Ampersand], then: &[Part::Guard] },
+    Row { words: &[Class::Question], then: &[Part::Received] },
 ];
 
+#[rattlefmt::skip]
 static GUARD: [Row; 2] = [
-    Row {
-        words: &[Class::Skip],
-        then: &[],
-    },
-    Row {
-        words: &[Class::Name],
-        then: &[Part::Subscripts, Part::Awaited],
-    },
+    Row { words: &[Class::Skip], then: &[] },
+    Row { words: &[Class::Name], then: &[Part::Subscripts, Part::Awaited] },
 ];
 
-static AWAITED: [Row; 1] = [Row {
-    words: &[Class::Question],
-    then: &[Part::Received],
-}];
+#[rattlefmt::skip]
+static AWAITED: [Row; 1] = [
+    Row { words: &[Class::Question], then: &[Part::Received] },
+];
 
+#[rattlefmt::skip]
 static EXPRESSION: [Row; 7] = [
-    Row {
-        words: &[Class::Name],
-        then: &[Part::Subscripts, Part::Operator],
-    },
-    Row {
-        words: &[Class::Number, Class::ByteLiteral, Class::Text],
-        then: &[Part::Typed, Part::Operator],
-    },
-    Row {
-        words: &[Class::Truth],
-        then: &[Part::Operator],
-    },
-    Row {
-        words: &[Class::OpenParen],
-        then: &[Part::Expression, Part::CloseRound, Part::Operator],
-    },
-    Row {
-        words: &[Class::Monadic, Class::Minus],
-        then: &[Part::Operand, Part::Whole],
-    },
-    Row {
-        words: &[Class::Primitive],
-        then: &[Part::Operand, Part::Whole],
-    },
-    Row {
-        words: &[Class::Most],
-        then: &[Part::IntWord, Part::Whole],
-    },
+    Row { words: &[Class::Name], then: &[Part::Subscripts, Part::Operator] },
+    Row { words: &[Class::Number, Class::ByteLiteral, Class::Text], then: &[Part::Typed, Part::Operator] },
+    Row { words: &[Class::Truth], then: &[Part::Operator] },
+    Row { words: &[Class::OpenParen], then: &[Part::Expression, Part::CloseRound, Part::Operator] },
+    Row { words: &[Class::Monadic, Class::Minus], then: &[Part::Operand, Part::Whole] },
+    Row { words: &[Class::Primitive], then: &[Part::Operand, Part::Whole] },
+    Row { words: &[Class::Most], then: &[Part::IntWord, Part::Whole] },
 ];
 
+#[rattlefmt::skip]
 static OPERAND: [Row; 4] = [
-    Row {
-        words: &[Class::Name],
-        then: &[Part::Subscripts],
-    },
-    Row {
-        words: &[Class::Number, Class::ByteLiteral, Class::Text],
-        then: &[Part::Typed],
-    },
-    Row {
-        words: &[Class::Truth],
-        then: &[],
-    },
-    Row {
-        words: &[Class::OpenParen],
-        then: &[Part::Expression, Part::CloseRound],
-    },
+    Row { words: &[Class::Name], then: &[Part::Subscripts] },
+    Row { words: &[Class::Number, Class::ByteLiteral, Class::Text], then: &[Part::Typed] },
+    Row { words: &[Class::Truth], then: &[] },
+    Row { words: &[Class::OpenParen], then: &[Part::Expression, Part::CloseRound] },
 ];
 
+#[rattlefmt::skip]
 static TYPED: [Row; 2] = [
-    Row {
-        words: &[Class::OpenParen],
-        then: &[Part::PrimitiveWord, Part::CloseRound],
-    },
-    Row {
-        words: &[],
-        then: &[],
-    },
+    Row { words: &[Class::OpenParen], then: &[Part::PrimitiveWord, Part::CloseRound] },
+    Row { words: &[], then: &[] },
 ];
 
+#[rattlefmt::skip]
 static SUBSCRIPTS: [Row; 2] = [
-    Row {
-        words: &[Class::OpenBracket],
-        then: &[Part::Expression, Part::CloseSquare, Part::Subscripts],
-    },
-    Row {
-        words: &[],
-        then: &[],
-    },
+    Row { words: &[Class::OpenBracket], then: &[Part::Expression, Part::CloseSquare, Part::Subscripts] },
+    Row { words: &[], then: &[] },
 ];
 
+#[rattlefmt::skip]
 static OPERATOR: [Row; 4] = [
-    Row {
-        words: &[Class::Dyadic, Class::Minus, Class::Equal],
-        then: &[Part::Operand, Part::Whole],
-    },
-    Row {
-        words: &[Class::And],
-        then: &[Part::Operand, Part::MoreAnd],
-    },
-    Row {
-        words: &[Class::Or],
-        then: &[Part::Operand, Part::MoreOr],
-    },
-    Row {
-        words: &[],
-        then: &[],
-    },
+    Row { words: &[Class::Dyadic, Class::Minus, Class::Equal], then: &[Part::Operand, Part::Whole] },
+    Row { words: &[Class::And], then: &[Part::Operand, Part::MoreAnd] },
+    Row { words: &[Class::Or], then: &[Part::Operand, Part::MoreOr] },
+    Row { words: &[], then: &[] },
 ];
 
+#[rattlefmt::skip]
 static MORE_AND: [Row; 2] = [
-    Row {
-        words: &[Class::And],
-        then: &[Part::Operand, Part::MoreAnd],
-    },
-    Row {
-        words: &[],
-        then: &[],
-    },
+    Row { words: &[Class::And], then: &[Part::Operand, Part::MoreAnd] },
+    Row { words: &[], then: &[] },
 ];
 
+#[rattlefmt::skip]
 static MORE_OR: [Row; 2] = [
-    Row {
-        words: &[Class::Or],
-        then: &[Part::Operand, Part::MoreOr],
-    },
-    Row {
-        words: &[],
-        then: &[],
-    },
+    Row { words: &[Class::Or], then: &[Part::Operand, Part::MoreOr] },
+    Row { words: &[], then: &[] },
 ];
 
-static WHOLE: [Row; 1] = [Row {
-    words: &[],
-    then: &[],
-}];
+#[rattlefmt::skip]
+static WHOLE: [Row; 1] = [
+    Row { words: &[], then: &[] },
+];
 
+#[rattlefmt::skip]
 static ACTUALS: [Row; 2] = [
-    Row {
-        words: &[Class::CloseParen],
-        then: &[],
-    },
-    Row {
-        words: &[],
-        then: &[Part::Expression, Part::MoreActuals],
-    },
+    Row { words: &[Class::CloseParen], then: &[] },
+    Row { words: &[], then: &[Part::Expression, Part::MoreActuals] },
 ];
 
+#[rattlefmt::skip]
 static MORE_ACTUALS: [Row; 2] = [
-    Row {
-        words: &[Class::Comma],
-        then: &[Part::Expression, Part::MoreActuals],
-    },
-    Row {
-        words: &[Class::CloseParen],
-        then: &[],
-    },
+    Row { words: &[Class::Comma], then: &[Part::Expression, Part::MoreActuals] },
+    Row { words: &[Class::CloseParen], then: &[] },
 ];
 
-static NEW_NAME: [Row; 1] = [Row {
-    words: &[Class::Name],
-    then: &[],
-}];
+#[rattlefmt::skip]
+static NEW_NAME: [Row; 1] = [
+    Row { words: &[Class::Name], then: &[] },
+];
 
+#[rattlefmt::skip]
 static MORE_NAMES: [Row; 2] = [
-    Row {
-        words: &[Class::Comma],
-        then: &[Part::NewName, Part::MoreNames],
-    },
-    Row {
-        words: &[Class::Colon],
-        then: &[],
-    },
+    Row { words: &[Class::Comma], then: &[Part::NewName, Part::MoreNames] },
+    Row { words: &[Class::Colon], then: &[] },
 ];
 
+#[rattlefmt::skip]
 static SIZED: [Row; 3] = [
-    Row {
-        words: &[Class::OpenBracket],
-        then: &[Part::Expression, Part::CloseSquare, Part::Sized],
-    },
-    Row {
-        words: &[Class::Primitive],
-        then: &[Part::NewName, Part::MoreNames],
-    },
-    Row {
-        words: &[Class::Chan],
-        then: &[Part::OfWord, Part::Carried, Part::NewName, Part::MoreNames],
-    },
+    Row { words: &[Class::OpenBracket], then: &[Part::Expression, Part::CloseSquare, Part::Sized] },
+    Row { words: &[Class::Primitive], then: &[Part::NewName, Part::MoreNames] },
+    Row { words: &[Class::Chan], then: &[Part::OfWord, Part::Carried, Part::NewName, Part::MoreNames] },
 ];
 
+#[rattlefmt::skip]
 static CARRIED: [Row; 3] = [
-    Row {
-        words: &[Class::Primitive],
-        then: &[Part::CarriedCount],
-    },
-    Row {
-        words: &[Class::OpenBracket],
-        then: &[Part::Expression, Part::CloseSquare, Part::CarriedRow],
-    },
-    Row {
-        words: &[Class::Name],
-        then: &[],
-    },
+    Row { words: &[Class::Primitive], then: &[Part::CarriedCount] },
+    Row { words: &[Class::OpenBracket], then: &[Part::Expression, Part::CloseSquare, Part::CarriedRow] },
+    Row { words: &[Class::Name], then: &[] },
 ];
 
+#[rattlefmt::skip]
 static CARRIED_ROW: [Row; 2] = [
-    Row {
-        words: &[Class::OpenBracket],
-        then: &[Part::Expression, Part::CloseSquare, Part::CarriedRow],
-    },
-    Row {
-        words: &[Class::Primitive],
-        then: &[],
-    },
+    Row { words: &[Class::OpenBracket], then: &[Part::Expression, Part::CloseSquare, Part::CarriedRow] },
+    Row { words: &[Class::Primitive], then: &[] },
 ];
 
+#[rattlefmt::skip]
 static CARRIED_COUNT: [Row; 2] = [
-    Row {
-        words: &[Class::DoubleColon],
-        then: &[Part::OpenSquare, Part::CloseSquare, Part::PrimitiveWord],
-    },
-    Row {
-        words: &[],
-        then: &[],
-    },
+    Row { words: &[Class::DoubleColon], then: &[Part::OpenSquare, Part::CloseSquare, Part::PrimitiveWord] },
+    Row { words: &[], then: &[] },
 ];
 
+#[rattlefmt::skip]
 static OPEN_SIZE: [Row; 2] = [
-    Row {
-        words: &[Class::CloseBracket],
-        then: &[],
-    },
-    Row {
-        words: &[],
-        then: &[Part::Expression, Part::CloseSquare],
-    },
+    Row { words: &[Class::CloseBracket], then: &[] },
+    Row { words: &[], then: &[Part::Expression, Part::CloseSquare] },
 ];
 
+#[rattlefmt::skip]
 static CONSTANT: [Row; 3] = [
-    Row {
-        words: &[Class::Primitive],
-        then: &[
-            Part::NewName,
-            Part::IsWord,
-            Part::Expression,
-            Part::ColonWord,
-        ],
-    },
-    Row {
-        words: &[Class::OpenBracket],
-        then: &[Part::OpenSize, Part::ConstantRow],
-    },
-    Row {
-        words: &[Class::Name],
-        then: &[Part::IsWord, Part::Expression, Part::ColonWord],
-    },
+    Row { words: &[Class::Primitive], then: &[Part::NewName, Part::IsWord, Part::Expression, Part::ColonWord] },
+    Row { words: &[Class::OpenBracket], then: &[Part::OpenSize, Part::ConstantRow] },
+    Row { words: &[Class::Name], then: &[Part::IsWord, Part::Expression, Part::ColonWord] },
 ];
 
+#[rattlefmt::skip]
 static CONSTANT_ROW: [Row; 2] = [
-    Row {
-        words: &[Class::OpenBracket],
-        then: &[Part::OpenSize, Part::ConstantRow],
-    },
-    Row {
-        words: &[Class::Primitive],
-        then: &[
-            Part::NewName,
-            Part::IsWord,
-            Part::Expression,
-            Part::ColonWord,
-        ],
-    },
+    Row { words: &[Class::OpenBracket], then: &[Part::OpenSize, Part::ConstantRow] },
+    Row { words: &[Class::Primitive], then: &[Part::NewName, Part::IsWord, Part::Expression, Part::ColonWord] },
 ];
 
+#[rattlefmt::skip]
 static PROTOCOL_BODY: [Row; 2] = [
-    Row {
-        words: &[Class::Is],
-        then: &[Part::Item, Part::MoreItems],
-    },
-    Row {
-        words: &[],
-        then: &[],
-    },
+    Row { words: &[Class::Is], then: &[Part::Item, Part::MoreItems] },
+    Row { words: &[], then: &[] },
 ];
 
+#[rattlefmt::skip]
 static MORE_ITEMS: [Row; 2] = [
-    Row {
-        words: &[Class::Semicolon],
-        then: &[Part::Item, Part::MoreItems],
-    },
-    Row {
-        words: &[Class::Colon],
-        then: &[],
-    },
+    Row { words: &[Class::Semicolon], then: &[Part::Item, Part::MoreItems] },
+    Row { words: &[Class::Colon], then: &[] },
 ];
 
+#[rattlefmt::skip]
 static ITEM: [Row; 2] = [
-    Row {
-        words: &[Class::Primitive],
-        then: &[Part::CarriedCount],
-    },
-    Row {
-        words: &[Class::OpenBracket],
-        then: &[Part::Expression, Part::CloseSquare, Part::CarriedRow],
-    },
+    Row { words: &[Class::Primitive], then: &[Part::CarriedCount] },
+    Row { words: &[Class::OpenBracket], then: &[Part::Expression, Part::CloseSquare, Part::CarriedRow] },
 ];
 
+#[rattlefmt::skip]
 static MORE_TAG_ITEMS: [Row; 2] = [
-    Row {
-        words: &[Class::Semicolon],
-        then: &[Part::Item, Part::MoreTagItems],
-    },
-    Row {
-        words: &[],
-        then: &[],
-    },
+    Row { words: &[Class::Semicolon], then: &[Part::Item, Part::MoreTagItems] },
+    Row { words: &[], then: &[] },
 ];
 
+#[rattlefmt::skip]
 static FORMALS: [Row; 2] = [
-    Row {
-        words: &[Class::CloseParen],
-        then: &[],
-    },
-    Row {
-        words: &[],
-        then: &[Part::Formal, Part::MoreFormals],
-    },
+    Row { words: &[Class::CloseParen], then: &[] },
+    Row { words: &[], then: &[Part::Formal, Part::MoreFormals] },
 ];
 
+#[rattlefmt::skip]
 static FORMAL: [Row; 4] = [
-    Row {
-        words: &[Class::Val],
-        then: &[Part::ValueFormal],
-    },
-    Row {
-        words: &[Class::Primitive],
-        then: &[Part::NewName],
-    },
-    Row {
-        words: &[Class::Chan],
-        then: &[Part::OfWord, Part::Carried, Part::NewName],
-    },
-    Row {
-        words: &[Class::OpenBracket],
-        then: &[Part::OpenSize, Part::FormalRow],
-    },
+    Row { words: &[Class::Val], then: &[Part::ValueFormal] },
+    Row { words: &[Class::Primitive], then: &[Part::NewName] },
+    Row { words: &[Class::Chan], then: &[Part::OfWord, Part::Carried, Part::NewName] },
+    Row { words: &[Class::OpenBracket], then: &[Part::OpenSize, Part::FormalRow] },
 ];
 
+#[rattlefmt::skip]
 static LATER_FORMAL: [Row; 2] = [
-    Row {
-        words: &[Class::Name],
-        then: &[],
-    },
-    Row {
-        words: &[],
-        then: &[Part::Formal],
-    },
+    Row { words: &[Class::Name], then: &[] },
+    Row { words: &[], then: &[Part::Formal] },
 ];
 
+#[rattlefmt::skip]
 static MORE_FORMALS: [Row; 2] = [
-    Row {
-        words: &[Class::Comma],
-        then: &[Part::LaterFormal, Part::MoreFormals],
-    },
-    Row {
-        words: &[Class::CloseParen],
-        then: &[],
-    },
+    Row { words: &[Class::Comma], then: &[Part::LaterFormal, Part::MoreFormals] },
+    Row { words: &[Class::CloseParen], then: &[] },
 ];
 
+#[rattlefmt::skip]
 static FORMAL_ROW: [Row; 3] = [
-    Row {
-        words: &[Class::OpenBracket],
-        then: &[Part::OpenSize, Part::FormalRow],
-    },
-    Row {
-        words: &[Class::Primitive],
-        then: &[Part::NewName],
-    },
-    Row {
-        words: &[Class::Chan],
-        then: &[Part::OfWord, Part::Carried, Part::NewName],
-    },
+    Row { words: &[Class::OpenBracket], then: &[Part::OpenSize, Part::FormalRow] },
+    Row { words: &[Class::Primitive], then: &[Part::NewName] },
+    Row { words: &[Class::Chan], then: &[Part::OfWord, Part::Carried, Part::NewName] },
 ];
 
+#[rattlefmt::skip]
 static VALUE_FORMAL: [Row; 2] = [
-    Row {
-        words: &[Class::Primitive],
-        then: &[Part::NewName],
-    },
-    Row {
-        words: &[Class::OpenBracket],
-        then: &[Part::OpenSize, Part::ValueRow],
-    },
+    Row { words: &[Class::Primitive], then: &[Part::NewName] },
+    Row { words: &[Class::OpenBracket], then: &[Part::OpenSize, Part::ValueRow] },
 ];
 
+#[rattlefmt::skip]
 static VALUE_ROW: [Row; 2] = [
-    Row {
-        words: &[Class::OpenBracket],
-        then: &[Part::OpenSize, Part::ValueRow],
-    },
-    Row {
-        words: &[Class::Primitive],
-        then: &[Part::NewName],
-    },
+    Row { words: &[Class::OpenBracket], then: &[Part::OpenSize, Part::ValueRow] },
+    Row { words: &[Class::Primitive], then: &[Part::NewName] },
 ];
 
+#[rattlefmt::skip]
 static NAMED_OR_VALUE: [Row; 2] = [
-    Row {
-        words: &[Class::Name],
-        then: &[Part::NamedTail],
-    },
-    Row {
-        words: &[],
-        then: &[Part::Operand, Part::Whole],
-    },
+    Row { words: &[Class::Name], then: &[Part::NamedTail] },
+    Row { words: &[], then: &[Part::Operand, Part::Whole] },
 ];
 
+#[rattlefmt::skip]
 static NAMED_TAIL: [Row; 4] = [
-    Row {
-        words: &[Class::Comma],
-        then: &[Part::NewName, Part::MoreNames],
-    },
-    Row {
-        words: &[Class::Colon],
-        then: &[],
-    },
-    Row {
-        words: &[Class::OpenBracket],
-        then: &[
-            Part::Expression,
-            Part::CloseSquare,
-            Part::Subscripts,
-            Part::Whole,
-        ],
-    },
-    Row {
-        words: &[],
-        then: &[Part::Whole],
-    },
+    Row { words: &[Class::Comma], then: &[Part::NewName, Part::MoreNames] },
+    Row { words: &[Class::Colon], then: &[] },
+    Row { words: &[Class::OpenBracket], then: &[Part::Expression, Part::CloseSquare, Part::Subscripts, Part::Whole] },
+    Row { words: &[], then: &[Part::Whole] },
 ];
 
-static VARIABLE: [Row; 1] = [Row {
-    words: &[Class::Name],
-    then: &[Part::Subscripts],
-}];
+#[rattlefmt::skip]
+static VARIABLE: [Row; 1] = [
+    Row { words: &[Class::Name], then: &[Part::Subscripts] },
+];
 
-static PRIMITIVE_WORD: [Row; 1] = [Row {
-    words: &[Class::Primitive],
-    then: &[],
-}];
+#[rattlefmt::skip]
+static PRIMITIVE_WORD: [Row; 1] = [
+    Row { words: &[Class::Primitive], then: &[] },
+];
 
-static OF_WORD: [Row; 1] = [Row {
-    words: &[Class::Of],
-    then: &[],
-}];
+#[rattlefmt::skip]
+static OF_WORD: [Row; 1] = [
+    Row { words: &[Class::Of], then: &[] },
+];
 
-static IS_WORD: [Row; 1] = [Row {
-    words: &[Class::Is],
-    then: &[],
-}];
+#[rattlefmt::skip]
+static IS_WORD: [Row; 1] = [
+    Row { words: &[Class::Is], then: &[] },
+];
 
-static FOR_WORD: [Row; 1] = [Row {
-    words: &[Class::For],
-    then: &[],
-}];
+#[rattlefmt::skip]
+static FOR_WORD: [Row; 1] = [
+    Row { words: &[Class::For], then: &[] },
+];
 
-static EQUAL_WORD: [Row; 1] = [Row {
-    words: &[Class::Equal],
-    then: &[],
-}];
+#[rattlefmt::skip]
+static EQUAL_WORD: [Row; 1] = [
+    Row { words: &[Class::Equal], then: &[] },
+];
 
-static OPEN_WORD: [Row; 1] = [Row {
-    words: &[Class::OpenParen],
-    then: &[],
-}];
+#[rattlefmt::skip]
+static OPEN_WORD: [Row; 1] = [
+    Row { words: &[Class::OpenParen], then: &[] },
+];
 
-static OPEN_SQUARE: [Row; 1] = [Row {
-    words: &[Class::OpenBracket],
-    then: &[],
-}];
+#[rattlefmt::skip]
+static OPEN_SQUARE: [Row; 1] = [
+    Row { words: &[Class::OpenBracket], then: &[] },
+];
 
-static CLOSE_ROUND: [Row; 1] = [Row {
-    words: &[Class::CloseParen],
-    then: &[],
-}];
+#[rattlefmt::skip]
+static CLOSE_ROUND: [Row; 1] = [
+    Row { words: &[Class::CloseParen], then: &[] },
+];
 
-static CLOSE_SQUARE: [Row; 1] = [Row {
-    words: &[Class::CloseBracket],
-    then: &[],
-}];
+#[rattlefmt::skip]
+static CLOSE_SQUARE: [Row; 1] = [
+    Row { words: &[Class::CloseBracket], then: &[] },
+];
 
-static COLON_WORD: [Row; 1] = [Row {
-    words: &[Class::Colon],
-    then: &[],
-}];
+#[rattlefmt::skip]
+static COLON_WORD: [Row; 1] = [
+    Row { words: &[Class::Colon], then: &[] },
+];
 
 /// The rows of a part.
 pub(crate) fn rows(part: Part) -> &'static [Row] {

@@ -41,15 +41,10 @@ pub(crate) struct Hint {
 }
 
 /// What this profile leaves out, by the word that shows it.
+#[rattlefmt::skip]
 static LEFT_OUT: [Hint; 12] = [
-    Hint {
-        when: &[When::Somewhere(b"TIMER")],
-        says: "this profile of occam 2 has no timers",
-    },
-    Hint {
-        when: &[When::Somewhere(b"AFTER"), When::Somewhere(b"?")],
-        says: "this profile of occam 2 has no timers",
-    },
+    Hint { when: &[When::Somewhere(b"TIMER")], says: "this profile of occam 2 has no timers" },
+    Hint { when: &[When::Somewhere(b"AFTER"), When::Somewhere(b"?")], says: "this profile of occam 2 has no timers" },
     Hint {
         when: &[When::Somewhere(b"REAL32")],
         says: "this profile of occam 2 has no real numbers: use INT, for example in hundredths",
@@ -58,18 +53,9 @@ static LEFT_OUT: [Hint; 12] = [
         when: &[When::Somewhere(b"REAL64")],
         says: "this profile of occam 2 has no real numbers: use INT, for example in hundredths",
     },
-    Hint {
-        when: &[When::Somewhere(b"INT16")],
-        says: "this profile of occam 2 has no INT16: use INT, which has 32 bits",
-    },
-    Hint {
-        when: &[When::Somewhere(b"INT32")],
-        says: "this profile of occam 2 has no INT32: use INT, which has 32 bits",
-    },
-    Hint {
-        when: &[When::Somewhere(b"INT64")],
-        says: "this profile of occam 2 has no INT64: use INT, which has 32 bits",
-    },
+    Hint { when: &[When::Somewhere(b"INT16")], says: "this profile of occam 2 has no INT16: use INT, which has 32 bits" },
+    Hint { when: &[When::Somewhere(b"INT32")], says: "this profile of occam 2 has no INT32: use INT, which has 32 bits" },
+    Hint { when: &[When::Somewhere(b"INT64")], says: "this profile of occam 2 has no INT64: use INT, which has 32 bits" },
     Hint {
         when: &[When::Somewhere(b"FUNCTION")],
         says: "this profile of occam 2 has no FUNCTION: write a PROC that sets a formal",
@@ -86,37 +72,17 @@ static LEFT_OUT: [Hint; 12] = [
         when: &[When::Somewhere(b"FROM")],
         says: "this profile of occam 2 has no segments of arrays: copy the components in a replicated SEQ",
     },
-    Hint {
-        when: &[When::Somewhere(b"PORT")],
-        says: "this profile of occam 2 has no ports",
-    },
+    Hint { when: &[When::Somewhere(b"PORT")], says: "this profile of occam 2 has no ports" },
 ];
 
+#[rattlefmt::skip]
 static LEFT_OUT_TOO: [Hint; 9] = [
-    Hint {
-        when: &[When::Somewhere(b"PLACED")],
-        says: "this profile of occam 2 has no PLACED PAR: write PAR",
-    },
-    Hint {
-        when: &[When::Somewhere(b"PLACE")],
-        says: "this profile of occam 2 has no PLACE: leave the line out",
-    },
-    Hint {
-        when: &[When::Somewhere(b"ANY")],
-        says: "this profile of occam 2 has no ANY: write a type, or declare a PROTOCOL",
-    },
-    Hint {
-        when: &[When::Before(b"PRI"), When::Met(b"PAR")],
-        says: "this profile of occam 2 has no PRI PAR: write PAR",
-    },
-    Hint {
-        when: &[When::First(b"INITIAL")],
-        says: "there is no INITIAL: declare the variable, and assign it in a SEQ",
-    },
-    Hint {
-        when: &[When::First(b"VAR")],
-        says: "declare a variable with its type: INT x:",
-    },
+    Hint { when: &[When::Somewhere(b"PLACED")], says: "this profile of occam 2 has no PLACED PAR: write PAR" },
+    Hint { when: &[When::Somewhere(b"PLACE")], says: "this profile of occam 2 has no PLACE: leave the line out" },
+    Hint { when: &[When::Somewhere(b"ANY")], says: "this profile of occam 2 has no ANY: write a type, or declare a PROTOCOL" },
+    Hint { when: &[When::Before(b"PRI"), When::Met(b"PAR")], says: "this profile of occam 2 has no PRI PAR: write PAR" },
+    Hint { when: &[When::First(b"INITIAL")], says: "there is no INITIAL: declare the variable, and assign it in a SEQ" },
+    Hint { when: &[When::First(b"VAR")], says: "declare a variable with its type: INT x:" },
     Hint {
         when: &[When::Met(b"["), When::BeforeIs(Class::Text)],
         says: "a string takes no subscript: name it first by VAL s IS \"abc\":",
@@ -132,62 +98,25 @@ static LEFT_OUT_TOO: [Hint; 9] = [
 ];
 
 /// Signs of other languages.
+#[rattlefmt::skip]
 static SIGNS: [Hint; 12] = [
-    Hint {
-        when: &[When::Met(b"/"), When::Next(b"/")],
-        says: "a comment begins with two hyphens: -- like this",
-    },
-    Hint {
-        when: &[When::Before(b"="), When::Met(b"=")],
-        says: "write = for equal",
-    },
-    Hint {
-        when: &[When::Before(b"="), When::Met(b">")],
-        says: "write >= for greater or equal",
-    },
-    Hint {
-        when: &[When::Before(b"="), When::Met(b"<")],
-        says: "write <= for less or equal",
-    },
-    Hint {
-        when: &[When::Met(b"!"), When::Next(b"=")],
-        says: "write <> for unequal",
-    },
-    Hint {
-        when: &[When::Met(b"&"), When::Over],
-        says: "write AND for both",
-    },
-    Hint {
-        when: &[When::Before(b"+"), When::Met(b"+")],
-        says: "write x := x + 1 to add one",
-    },
-    Hint {
-        when: &[When::Met(b"+"), When::Next(b"=")],
-        says: "write x := x + 1 to add one",
-    },
-    Hint {
-        when: &[When::Met(b"MOD")],
-        says: "write \\ or REM for the remainder",
-    },
-    Hint {
-        when: &[When::Start(Part::Choice), When::Met(b":=")],
-        says: "write = to compare, and := to assign",
-    },
-    Hint {
-        when: &[When::Wanted(Part::NamedProcess), When::Met(b"=")],
-        says: "write := to assign, and = to compare",
-    },
-    Hint {
-        when: &[When::Wanted(Part::Placed), When::Met(b"=")],
-        says: "write := to assign, and = to compare",
-    },
+    Hint { when: &[When::Met(b"/"), When::Next(b"/")], says: "a comment begins with two hyphens: -- like this" },
+    Hint { when: &[When::Before(b"="), When::Met(b"=")], says: "write = for equal" },
+    Hint { when: &[When::Before(b"="), When::Met(b">")], says: "write >= for greater or equal" },
+    Hint { when: &[When::Before(b"="), When::Met(b"<")], says: "write <= for less or equal" },
+    Hint { when: &[When::Met(b"!"), When::Next(b"=")], says: "write <> for unequal" },
+    Hint { when: &[When::Met(b"&"), When::Over], says: "write AND for both" },
+    Hint { when: &[When::Before(b"+"), When::Met(b"+")], says: "write x := x + 1 to add one" },
+    Hint { when: &[When::Met(b"+"), When::Next(b"=")], says: "write x := x + 1 to add one" },
+    Hint { when: &[When::Met(b"MOD")], says: "write \\ or REM for the remainder" },
+    Hint { when: &[When::Start(Part::Choice), When::Met(b":=")], says: "write = to compare, and := to assign" },
+    Hint { when: &[When::Wanted(Part::NamedProcess), When::Met(b"=")], says: "write := to assign, and = to compare" },
+    Hint { when: &[When::Wanted(Part::Placed), When::Met(b"=")], says: "write := to assign, and = to compare" },
 ];
 
+#[rattlefmt::skip]
 static CONSTRUCTS: [Hint; 19] = [
-    Hint {
-        when: &[When::First(b"FOR")],
-        says: "write a loop as SEQ i = 0 FOR 10, and its body below, two spaces deeper",
-    },
+    Hint { when: &[When::First(b"FOR")], says: "write a loop as SEQ i = 0 FOR 10, and its body below, two spaces deeper" },
     Hint {
         when: &[When::First(b"WHILE"), When::Met(b"DO")],
         says: "leave DO out: the body of a WHILE stands in the next line, two spaces deeper",
@@ -212,34 +141,19 @@ static CONSTRUCTS: [Hint; 19] = [
         when: &[When::Start(Part::Choice), When::Met(b"ELSE")],
         says: "write TRUE for the last choice of an IF; ELSE is for CASE alone",
     },
-    Hint {
-        when: &[When::First(b"IF")],
-        says: "write IF alone, each condition in a line below it, and its process below that",
-    },
-    Hint {
-        when: &[When::Start(Part::Arm), When::Met(b"SKIP")],
-        says: "write TRUE & SKIP for a guard that is always ready",
-    },
-    Hint {
-        when: &[When::Wanted(Part::Guarded), When::Met(b"!")],
-        says: "a guard is an input: an output cannot be one",
-    },
+    Hint { when: &[When::First(b"IF")], says: "write IF alone, each condition in a line below it, and its process below that" },
+    Hint { when: &[When::Start(Part::Arm), When::Met(b"SKIP")], says: "write TRUE & SKIP for a guard that is always ready" },
+    Hint { when: &[When::Wanted(Part::Guarded), When::Met(b"!")], says: "a guard is an input: an output cannot be one" },
     Hint {
         when: &[When::Wanted(Part::Guarded)],
         says: "a guard is an input, or a condition with & and an input or SKIP: x > 0 & c ? y",
     },
-    Hint {
-        when: &[When::Wanted(Part::ForWord)],
-        says: "a replicator has a base and a count, not a last value: i = 0 FOR 10",
-    },
+    Hint { when: &[When::Wanted(Part::ForWord)], says: "a replicator has a base and a count, not a last value: i = 0 FOR 10" },
     Hint {
         when: &[When::Wanted(Part::Top), When::Met(b":")],
         says: "leave this colon out: each PROC, and each PROTOCOL with tags, ends with one",
     },
-    Hint {
-        when: &[When::Wanted(Part::Top)],
-        says: "write processes within a PROC, two spaces deeper than its first line",
-    },
+    Hint { when: &[When::Wanted(Part::Top)], says: "write processes within a PROC, two spaces deeper than its first line" },
     Hint {
         when: &[When::Wanted(Part::NamedProcess), When::MetIs(Class::End)],
         says: "write brackets behind the name in a call, also if they are empty: f ()",
@@ -248,49 +162,26 @@ static CONSTRUCTS: [Hint; 19] = [
         when: &[When::Wanted(Part::NamedProcess)],
         says: "an assignment is x := y, an input is c ? x, an output is c ! x, a call is f (x)",
     },
-    Hint {
-        when: &[When::Wanted(Part::CloseRound), When::MetIs(Class::End)],
-        says: "close the bracket: write `)`",
-    },
-    Hint {
-        when: &[When::Ends, When::Met(b")")],
-        says: "leave this bracket out: none is open here",
-    },
-    Hint {
-        when: &[When::Over, When::Met(b":")],
-        says: "leave the colon out: only declarations end with one",
-    },
+    Hint { when: &[When::Wanted(Part::CloseRound), When::MetIs(Class::End)], says: "close the bracket: write `)`" },
+    Hint { when: &[When::Ends, When::Met(b")")], says: "leave this bracket out: none is open here" },
+    Hint { when: &[When::Over, When::Met(b":")], says: "leave the colon out: only declarations end with one" },
 ];
 
+#[rattlefmt::skip]
 static DECLARATIONS: [Hint; 10] = [
     Hint {
         when: &[When::Wanted(Part::MoreNames), When::Met(b"[")],
         says: "write the size of an array before its type: [10]INT a:",
     },
-    Hint {
-        when: &[When::Wanted(Part::MoreNames), When::MetIs(Class::End)],
-        says: "end the declaration with a colon",
-    },
+    Hint { when: &[When::Wanted(Part::MoreNames), When::MetIs(Class::End)], says: "end the declaration with a colon" },
     Hint {
         when: &[When::Wanted(Part::MoreNames), When::Met(b":=")],
         says: "a declaration gives no value: assign it in a SEQ below",
     },
-    Hint {
-        when: &[When::Wanted(Part::ColonWord), When::MetIs(Class::End)],
-        says: "end the declaration with a colon",
-    },
-    Hint {
-        when: &[When::Wanted(Part::MoreItems), When::MetIs(Class::End)],
-        says: "end the PROTOCOL with a colon",
-    },
-    Hint {
-        when: &[When::Wanted(Part::IsWord), When::Met(b"=")],
-        says: "write IS to name a value: VAL INT n IS 3:",
-    },
-    Hint {
-        when: &[When::Wanted(Part::OfWord)],
-        says: "write OF behind CHAN: CHAN OF BYTE c:",
-    },
+    Hint { when: &[When::Wanted(Part::ColonWord), When::MetIs(Class::End)], says: "end the declaration with a colon" },
+    Hint { when: &[When::Wanted(Part::MoreItems), When::MetIs(Class::End)], says: "end the PROTOCOL with a colon" },
+    Hint { when: &[When::Wanted(Part::IsWord), When::Met(b"=")], says: "write IS to name a value: VAL INT n IS 3:" },
+    Hint { when: &[When::Wanted(Part::OfWord)], says: "write OF behind CHAN: CHAN OF BYTE c:" },
     Hint {
         when: &[When::Wanted(Part::MoreFormals), When::Met(b"?")],
         says: "this profile of occam 2 has no direction marks: leave ? out",
@@ -299,10 +190,7 @@ static DECLARATIONS: [Hint; 10] = [
         when: &[When::Wanted(Part::MoreFormals), When::Met(b"!")],
         says: "this profile of occam 2 has no direction marks: leave ! out",
     },
-    Hint {
-        when: &[When::Wanted(Part::Expression), When::Met(b"]")],
-        says: "give the array its size: [10]BYTE s:",
-    },
+    Hint { when: &[When::Wanted(Part::Expression), When::Met(b"]")], says: "give the array its size: [10]BYTE s:" },
 ];
 
 static OPERATORS: [Hint; 8] = [

@@ -27,7 +27,7 @@ use Rattle.occ_live.specs.declared.fault.LiveFault.{LiveFault}
 use Rattle.occ_live.specs.declared.fault.LiveFault.TheVariants as fails
 use Rattle.occ_live.specs.declared.living.Lived.{Lived}
 use Rattle.occ_live.specs.declared.playing.LivePlayed.{LivePlayed}
-use Rattle.occ_live.specs.Living.{IsLive}
+use Rattle.occ_live.specs.Living.{IsLive, LiveRun}
 use Rattle.occ_live.specs.Playing.{FailsInPlay, FailsToWriteRest, HasByteScreens, IsLiveAnswer, WritesRest, behind, text_of, within}
 
 -- ---- endings
@@ -128,8 +128,10 @@ module _ (options : Options) (source : List ℕ) (list : List Choice) (trace : B
   module _ (read : List ℕ) (lived : Lived) (small : length lived.outcome.choices.items < 2 ^ 64) (x : IsLive p read list lived) where
     pub live_answer : (live : LivePlayed) (bytes : List ℕ) → live.played.ending ≡ lived.outcome.ending → live.played.choices ≡ lived.outcome.choices → live.is_open ≡ lived.is_open
         → bytes ≡ text_of p lived.outcome trace → IsLiveAnswer options source read list trace live bytes
+    unfolding is_answer
     live_answer live bytes same_end same_choices same_open is = record {
       answer = is_answer read lived.outcome live.played bytes x.bytes small x.is same_end same_choices is;
+      run = subst (λ cs. LiveRun p list read live.is_open cs x.is.net) (ap (λ v. v.items) (sym same_choices)) (subst (λ o. LiveRun p list read o lived.outcome.choices.items x.is.net) (sym same_open) x.run);
       for_more = λ o more are. is_answer (read ++ more) lived.outcome live.played bytes (all_bytes read more x.bytes are) small (x.for_more (subst IsTrue same_open o) more) same_end same_choices is;
     }
 
@@ -152,10 +154,11 @@ module _ (options : Options) (source : List ℕ) (list : List Choice) (trace : B
           let o = lived.outcome in
           within p code
           record {
+            is_open = lived.is_open;
             used = o.choices.items;
-            begins = x.is.used;
             net = x.is.net;
-            replays = x.is.replays;
+            run = x.run;
+            due = tt;
             wrote = subst (λ t. (front : List ℕ) × (rest : List ℕ) × (channel_bytes 1 t ≡ front ++ rest) × AppendsTo contents first new front) (sym x.is.trace)
                 (channel_bytes 1 o.trace, [], sym (append-nil (channel_bytes 1 o.trace)), subst (λ w. AppendsTo contents first w (channel_bytes 1 o.trace)) (sym h) shown_so);
           }

@@ -1,3 +1,4 @@
 mod Answers
+mod Runs
 mod Shown
 mod Standing

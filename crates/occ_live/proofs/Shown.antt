@@ -124,3 +124,7 @@ if_ok_map P Q (Err e) f h = tt
 pub if_err_map : {X E : Type 0} (P Q : E → Type 0) (r : Result X E) → ((e : E) → P e → Q e) → IfErr r P → IfErr r Q
 if_err_map P Q (Ok x) f h = tt
 if_err_map P Q (Err e) f h = f e h
+
+pub if_err_both : {X E : Type 0} (P Q R : E → Type 0) (r : Result X E) → ((e : E) → P e → Q e → R e) → IfErr r P → IfErr r Q → IfErr r R
+if_err_both P Q R (Ok x) f h k = tt
+if_err_both P Q R (Err e) f h k = f e h k

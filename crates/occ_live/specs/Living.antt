@@ -1,15 +1,21 @@
 -- Runs that get the keyboard's bytes while they go on, and what of their screen was written.
 -- Manual: nothing; this is (own).
-use Rattle.std.specs.Prelude.{Bool, IsFalse, IsTrue, List, None, Option, [], length, ℕ, ⊤, Vec, ◌++◌, ◌+◌, ◌<◌, ◌^◌, ◌≡◌}
+use Rattle.std.specs.Prelude.{Bool, IsFalse, IsTrue, List, None, Option, Some, [], false, length, slice_get, true, ℕ, ⊤, Vec, ◌++◌, ◌+◌, ◌<◌, ◌^◌, ◌∷◌, ◌≡◌}
 use Rattle.std.specs.Io.KnownBytes.{IsAtEnd}
 use Rattle.occ_term.specs.declared.communication.Communication.{Communication}
 use Rattle.occ_term.specs.declared.ending.Ending.{Ending}
 use Rattle.occ_machine.specs.Compiled.{Program}
+use Rattle.occ_machine.specs.Machine.{Body, Stopping}
+use Rattle.occ_machine.specs.declared.task.Task.{Task}
+use Rattle.occ_net_replay.specs.Waiting.{IsReplay}
+use Rattle.occ_term.specs.UnfoldedProgram.{UnfoldedProgram}
 use Rattle.occ_term.specs.declared.message.Part.{Part}
-use Rattle.occ_live_laws.specs.Live.{ReplaysWithin}
+use Rattle.occ_live_laws.specs.Live.{ReplaysWithin, StaysWithin, with_more}
+use Rattle.occ_choices.specs.Plans.{choices_of}
+use Rattle.occ_choices.specs.declared.plan.Plan.{Plan}
 use Rattle.occ_net_replay.specs.declared.choice.Choice.{Choice}
 use Rattle.occ_net_replay.specs.Following.{AreBytes}
-use Rattle.occ_net_replay.specs.Replay.{Net, Replays, ending_of}
+use Rattle.occ_net_replay.specs.Replay.{HasTask, Net, OneTurn, Replays, ending_of, first_net, ready_from, selected_process}
 use Rattle.occ_net_trace.specs.Places.{Place, place_behind}
 use Rattle.occ_net_tables.specs.Halves.{BeganTurn, StaysWithinBytes}
 use Rattle.occ_net_tables.specs.Holding.{Holds, trace_in}
@@ -26,13 +32,60 @@ use Rattle.occ_live.specs.declared.fault.LiveFault.TheVariants as fails
 use Rattle.occ_live.specs.declared.living.Lived.{Lived}
 use Rattle.occ_live.specs.declared.screen.Screen.{Screen}
 
+-- ---- when a live run reads
+
+-- The process that the choice selects comes to a stop at which it looks past the bytes: what comes next depends on whether there is another one.
+pub record LooksPast (p : Program) (c : Choice) (net : Net) : Type 0 where
+  pub number : ℕ
+  pub body : Body
+  pub before : Task
+  pub after : Task
+  pub selects : selected_process (ready_from 0 net.tasks) c.which ≡ Some number
+  pub has_body : slice_get p.bodies number ≡ Some body
+  pub has_task : HasTask net.tasks number before
+  pub stops : Stopping body before after
+  pub past : StaysWithin c.pick net number after → ⊥
+
+-- a read is due: the run goes on by the next choice of the list, and that turn looks past the bytes
+pub record IsDue (p : Program) (list cs : List Choice) (net : Net) : Type 0 where
+  pub choice : Choice
+  pub next : slice_get list (length cs) ≡ Some choice
+  pub going : ending_of p.errors net ≡ None
+  pub looks : LooksPast p choice net
+
+-- What a run has come to by some first choices of the list. It begins without a byte. Where a read is due it gets some bytes, or meets the end of
+-- the keyboard. Until then it takes no turn that looks past its bytes.
+pub data LiveRun (p : Program) (list : List Choice) : (read : List ℕ) → (is_open : Bool) → List Choice → Net → Type 0 where
+  starts : LiveRun p list [] true [] (first_net p [])
+  gets_more : {read : List ℕ} {cs : List Choice} {net : Net} → LiveRun p list read true cs net → IsDue p list cs net → (more : List ℕ) → 0 < length more
+      → LiveRun p list (read ++ more) true cs (with_more more net)
+  meets_end : {read : List ℕ} {cs : List Choice} {net : Net} → LiveRun p list read true cs net → IsDue p list cs net → LiveRun p list read false cs net
+  takes_turn : {read : List ℕ} {is_open : Bool} {cs : List Choice} {c : Choice} {a b : Net} → LiveRun p list read is_open cs a → slice_get list (length cs) ≡ Some c → ending_of p.errors a ≡ None
+      → (o : OneTurn p c a b) → (IsTrue is_open → StaysWithin c.pick a o.number o.after) → LiveRun p list read is_open (cs ++ c ∷ []) b
+
+-- where a read is due in a run of a lawful program, the turn is another one with a byte more, whatever that byte is
+abbrev pub DueReadsMatter : Type 0
+DueReadsMatter =
+    (u : UnfoldedProgram) (p : Program) (quantum : ℕ) (list : List Choice) (read : List ℕ) (cs : List Choice) (a b other : Net) (byte : ℕ)
+    → IsReplay u p quantum read cs a → (d : IsDue p list cs a) → OneTurn p d.choice a b → OneTurn p d.choice (with_more (byte ∷ []) a) other → other ≡ with_more (byte ∷ []) b → ⊥
+
+-- It is the replay of these choices for the bytes that were read, and one within them while the keyboard may have more.
+pub record IsReplayed (p : Program) (list : List Choice) (read : List ℕ) (is_open : Bool) (cs : List Choice) (net : Net) : Type 0 where
+  pub begins : Begins cs list
+  pub replays : Replays p read cs net
+  pub within : IsTrue is_open → ReplaysWithin p read cs net
+
+abbrev pub LiveRunsAreReplays : Type 0
+LiveRunsAreReplays = (p : Program) (list : List Choice) (read : List ℕ) (is_open : Bool) (cs : List Choice) (net : Net) → LiveRun p list read is_open cs net → IsReplayed p list read is_open cs net
+
 -- ---- what a live run comes to
 
 -- What it comes to is what a run by the list comes to that had the bytes from the start. Where the keyboard may have more, it is so with any
--- bytes behind them.
+-- bytes behind them. It read where a read was due.
 pub record IsLive (p : Program) (read : List ℕ) (list : List Choice) (lived : Lived) : Type 0 where
   pub bytes : AreBytes read
   pub is : IsOutcome p read list lived.outcome
+  pub run : LiveRun p list read lived.is_open lived.outcome.choices.items is.net
   pub for_more : IsTrue lived.is_open → (more : List ℕ) → IsOutcome p (read ++ more) list lived.outcome
 
 -- where the keyboard has no more, its reader is at its end
@@ -51,12 +104,19 @@ TellsFailed keys_old keys_new old new (fails.Read reason) = (failures_of keys_ol
 TellsFailed keys_old keys_new old new fails.Write = writes_failed old < writes_failed new
 TellsFailed keys_old keys_new old new fails.Memory = ⊤
 
--- The run had come to this network by a beginning of the list, over the bytes that were read.
+-- a read failed where one was due
+abbrev pub FailsWhereDue : Program → (list : List Choice) → (is_open : Bool) → (used : List Choice) → Net → LiveFault → Type 0
+FailsWhereDue p list is_open used net (fails.Read reason) = IsTrue is_open × IsDue p list used net
+FailsWhereDue p list is_open used net fails.Write = ⊤
+FailsWhereDue p list is_open used net fails.Memory = ⊤
+
+-- The run had come to this network, over the bytes that were read.
 pub record FailsLive {W : Type 0} (contents : W → Option (List ℕ)) (p : Program) (read : List ℕ) (list : List Choice) (first now : Counted W) (fault : LiveFault) : Type 0 where
+  pub is_open : Bool
   pub used : List Choice
-  pub begins : Begins used list
   pub net : Net
-  pub replays : Replays p read used net
+  pub run : LiveRun p list read is_open used net
+  pub due : FailsWhereDue p list is_open used net fault
   pub wrote : WroteSome contents first now net.trace fault
 
 -- ---- private contracts alone cite what follows
@@ -120,12 +180,11 @@ ReadsOn remaining old read new longer = (first : CountedReader _) → ReadsNext 
 
 -- ---- where a run stands
 
--- It has used these choices over the bytes that were read. While the keyboard may have more, no turn has looked past them.
-pub record StandsLive (p : Program) (read : List ℕ) (is_open : Bool) (kept : List Choice) (n : Tables) : Type 0 where
+-- it has used these choices over the bytes that were read
+pub record StandsLive (p : Program) (list : List Choice) (read : List ℕ) (is_open : Bool) (kept : List Choice) (n : Tables) : Type 0 where
   pub net : Net
   pub bytes : AreBytes read
-  pub replays : Replays p read kept net
-  pub within : IsTrue is_open → ReplaysWithin p read kept net
+  pub run : LiveRun p list read is_open kept net
   pub holds : Holds p read n net
 
 -- it has come to this, of which it is not said whether the keyboard may have more
@@ -135,34 +194,45 @@ pub record HasCome (p : Program) (read : List ℕ) (kept : List Choice) (n : Tab
   pub replays : Replays p read kept net
   pub holds : Holds p read n net
 
--- it stands where it can go on
-pub record MayGoOn (p : Program) (read : List ℕ) (is_open : Bool) (kept : List Choice) (n : Tables) : Type 0 where
-  pub stands : StandsLive p read is_open kept n
+-- it stands where it can go on by this choice
+pub record MayGoOn (p : Program) (list : List Choice) (read : List ℕ) (is_open : Bool) (kept : List Choice) (choice : Choice) (n : Tables) : Type 0 where
+  pub stands : StandsLive p list read is_open kept n
   pub few : 1 + length kept < 2 ^ 64
+  pub next : slice_get list (length kept) ≡ Some choice
   pub going : ending_of p.errors stands.net ≡ None
 
 -- it stood so, and this turn of its has come to its stop
-pub record HasBegun (p : Program) (read : List ℕ) (is_open : Bool) (kept : List Choice) (choice : Choice) (begun : Begun) (items : List Part) (n : Tables) : Type 0 where
+pub record HasBegun (p : Program) (list : List Choice) (read : List ℕ) (is_open : Bool) (kept : List Choice) (choice : Choice) (begun : Begun) (items : List Part) (n : Tables) : Type 0 where
   pub old : Tables
-  pub from : MayGoOn p read is_open kept old
+  pub from : MayGoOn p list read is_open kept choice old
   pub began : BeganTurn p choice old begun items n
 
 abbrev pub CanHear : Program → List ℕ → Bool → (pick : ℕ) → Begun → Tables → Type 0
-CanHear p read is_open pick begun n = (kept : List Choice) × (choice : Choice) × (items : List Part) × HasBegun p read is_open kept choice begun items n
+CanHear p read is_open pick begun n = (list : List Choice) × (kept : List Choice) × (choice : Choice) × (items : List Part) × HasBegun p list read is_open kept choice begun items n
 
 -- it stands so over the bytes that were read since, and the turn stays within these while the keyboard may have more
-pub record HasHeard (p : Program) (read : List ℕ) (is_open : Bool) (kept : List Choice) (choice : Choice) (begun : Begun) (items : List Part) (n : Tables) : Type 0 where
-  pub begun_so : HasBegun p read is_open kept choice begun items n
+pub record HasHeard (p : Program) (list : List Choice) (read : List ℕ) (is_open : Bool) (kept : List Choice) (choice : Choice) (begun : Begun) (items : List Part) (n : Tables) : Type 0 where
+  pub begun_so : HasBegun p list read is_open kept choice begun items n
   pub stays : IsTrue is_open → StaysWithinBytes read n begun choice.pick
 
 abbrev pub Hears : Program → List ℕ → Bool → Tables → Begun → (pick : ℕ) → List ℕ → Tables → Bool → Type 0
 Hears p read is_open n begun pick longer next still_open =
-    (kept : List Choice) (choice : Choice) (items : List Part) → choice.pick ≡ pick → HasBegun p read is_open kept choice begun items n → HasHeard p longer still_open kept choice begun items next
+    (list kept : List Choice) (choice : Choice) (items : List Part) → choice.pick ≡ pick → HasBegun p list read is_open kept choice begun items n
+    → HasHeard p list longer still_open kept choice begun items next
+
+-- a read that failed was due
+abbrev pub HearsNothing : Program → List ℕ → Bool → Tables → Begun → (pick : ℕ) → LiveFault → Type 0
+HearsNothing p read is_open n begun pick fault =
+    (list kept : List Choice) (choice : Choice) (items : List Part) → choice.pick ≡ pick → (x : HasBegun p list read is_open kept choice begun items n)
+    → FailsWhereDue p list is_open kept x.from.stands.net fault
 
 -- a fault in a turn of a run that stood so
-pub record FailsAt {W : Type 0} (contents : W → Option (List ℕ)) (p : Program) (read : List ℕ) (kept : List Choice) (old : Counted W) (mark : Place) (n : Tables) (new : Counted W) (fault : LiveFault) : Type 0 where
+pub record FailsAt {W : Type 0} (contents : W → Option (List ℕ)) (p : Program) (list : List Choice) (read : List ℕ) (old : Counted W) (mark : Place) (n : Tables) (new : Counted W) (fault : LiveFault) : Type 0 where
+  pub is_open : Bool
+  pub used : List Choice
   pub net : Net
-  pub replays : Replays p read kept net
+  pub run : LiveRun p list read is_open used net
+  pub due : FailsWhereDue p list is_open used net fault
   pub trace : net.trace ≡ trace_in n
   pub part : FailsBehind contents old mark (trace_in n) new fault
 
@@ -191,12 +261,16 @@ ScreenShowsPart contents old s n new fault = ShowsPart contents old s.mark (trac
 abbrev pub ScreenFails : {W : Type 0} → (W → Option (List ℕ)) → (old : Counted W) → Screen → Tables → (new : Counted W) → LiveFault → Type 0
 ScreenFails contents old s n new fault = FailsBehind contents old s.mark (trace_in n) new fault
 
-abbrev pub FailsIn : {W A B : Type 0} → (W → Option (List ℕ)) → Program → (read : Vec ℕ A) → (kept : Vec Choice B) → (old : Counted W) → Screen → Tables → (new : Counted W) → LiveFault → Type 0
-FailsIn contents p read kept old s n new fault = FailsAt contents p read.items kept.items old s.mark n new fault
+-- it can go on so by this choice of the plan
+abbrev pub MayTurn : {A : Type 0} → Program → Plan → (read : Vec ℕ A) → Bool → (kept : Vec Choice A) → Choice → Tables → Type 0
+MayTurn p plan read is_open kept choice n = MayGoOn p (choices_of plan) read.items is_open kept.items choice n
 
 -- it stands there, and whether the keyboard may have more is said last
-abbrev pub StandsSo : Program → List ℕ → List Choice → Tables → (is_open : Bool) → Type 0
-StandsSo p read kept n is_open = StandsLive p read is_open kept n
+abbrev pub StandsBy : {A : Type 0} → Program → Plan → (read : Vec ℕ A) → (kept : Vec Choice A) → Tables → Bool → Type 0
+StandsBy p plan read kept n is_open = StandsLive p (choices_of plan) read.items is_open kept.items n
+
+abbrev pub FailsIn : {W A : Type 0} → (W → Option (List ℕ)) → Program → Plan → (read : Vec ℕ A) → (old : Counted W) → Screen → Tables → (new : Counted W) → LiveFault → Type 0
+FailsIn contents p plan read old s n new fault = FailsAt contents p (choices_of plan) read.items old s.mark n new fault
 
 -- where the keyboard had no more before, or has no more now, its reader is at its end
 abbrev pub EndsOn : {K : Type 0} → (K → Option (List ℕ)) → (old new : CountedReader K) → (was is : Bool) → Type 0

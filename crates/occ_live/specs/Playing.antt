@@ -15,7 +15,7 @@ use Rattle.occ_shown.specs.declared.counted.Counted.{Counted}
 use Rattle.occ_play.specs.declared.playing.Options.{Options}
 use Rattle.occ_play.specs.declared.playing.Played.{Played}
 use Rattle.occ_play.specs.Playing.{IsAnswer, IsTextsCode, RefusesCode, Wrote}
-use Rattle.occ_live.specs.Living.{FailsLive, TellsFailed}
+use Rattle.occ_live.specs.Living.{FailsLive, LiveRun, TellsFailed}
 use Rattle.occ_live.specs.declared.fault.LiveFault.{LiveFault}
 use Rattle.occ_live.specs.declared.fault.LiveFault.TheVariants as fails
 use Rattle.occ_live.specs.declared.fault.LivePlayFault.{LivePlayFault}
@@ -25,9 +25,10 @@ use Rattle.occ_live.specs.declared.playing.LivePlayed.{LivePlayed}
 -- ---- the answer
 
 -- It is the one for the bytes that were read, as if they had been there from the start. Where the keyboard may have more, it is the one for
--- these and any bytes behind them.
+-- these and any bytes behind them. They were read where a read was due.
 pub record IsLiveAnswer (options : Options) (source read : List ℕ) (list : List Choice) (trace : Bool) (live : LivePlayed) (bytes : List ℕ) : Type 0 where
   pub answer : IsAnswer options source read list trace live.played bytes
+  pub run : LiveRun answer.code list read live.is_open live.played.choices.items answer.net
   pub for_more : IsTrue live.is_open → (more : List ℕ) → AreBytes more → IsAnswer options source (read ++ more) list trace live.played bytes
 
 -- it was written, and nothing else

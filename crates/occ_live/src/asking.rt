@@ -1,7 +1,7 @@
 //! A turn that looks past the bytes that were read waits for more.
 ghost use Rattle.std.specs.Prelude.{◌≡◌, ◌<◌, ◌≤◌, ◌-◌, ◌^◌, IfErr, IfOk, OnErr, OnOk};
-ghost use Rattle.occ_files.specs.Reading.{failures_of as reads_failed};
-ghost use Rattle.occ_live.specs.Living.{CanHear, EndsOn, HearsBytes, Marked, ReadsOn, ScreenFails, ScreenGoesOn, TellsFailed};
+ghost use Rattle.occ_files.specs.Reading.{breaks_of, failures_of as reads_failed};
+ghost use Rattle.occ_live.specs.Living.{CanHear, EndsOn, HearsBytes, HearsNothing, Marked, ReadsOn, ScreenFails, ScreenGoesOn, TellsFailed};
 ghost use Rattle.occ_net_tables.specs.Holding.{trace_in};
 ghost use Rattle.occ_shown.specs.Counting.{failures_of};
 
@@ -36,12 +36,14 @@ pub(crate) fn hear<K: Read, W: Write>(
     ensures trace { trace_in tables.new ≡ trace_in tables.old }
     ensures shown { OnOk result
         (ScreenGoesOn W.contents out.old screen.old tables.old out.new screen.new tables.old) }
-    ensures read { OnOk result
-        (ReadsOn K.remaining keys.old keyboard.old.items keys.new keyboard.new.items) }
+    ensures read { ReadsOn K.remaining keys.old keyboard.old.items keys.new keyboard.new.items }
     ensures none_failed { OnOk result (failures_of out.new ≡ failures_of out.old) }
+    ensures unbroken { OnOk result (breaks_of keys.new ≡ breaks_of keys.old) }
     ensures room_left { OnOk result (reads_failed keys.new < 2 ^ 64 - 1) }
     ensures end { IfOk result (EndsOn K.remaining keys.old keys.new is_open) }
     ensures kept { OnErr result (keyboard.new.items ≡ keyboard.old.items) }
+    ensures due { IfErr result
+        (HearsNothing code.now keyboard.old.items is_open tables.old begun pick) }
     ensures part { IfErr result
         (ScreenFails W.contents out.old screen.old tables.old out.new) }
     ensures told { IfErr result (TellsFailed keys.old keys.new out.old out.new) }

@@ -5,6 +5,7 @@
 
 mod asking;
 mod fault;
+pub mod laws;
 mod living;
 mod playing;
 mod reading;

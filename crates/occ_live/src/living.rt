@@ -1,8 +1,8 @@
 //! The run.
 ghost use Rattle.std.specs.Prelude.{◌≡◌, ◌<◌, ◌≤◌, ◌-◌, ◌^◌, ◌++◌, ◌∷◌, [], IfErr, IfOk, OnOk};
 ghost use Rattle.occ_choices.specs.Plans.{choices_of};
-ghost use Rattle.occ_files.specs.Reading.{ReadsNext, failures_of as reads_failed};
-ghost use Rattle.occ_live.specs.Living.{EndsOn, EndsRightly, FailsIn, FailsLive, HasCome, IsLive, Marked, MayGoOn, ReadsOn, RunComesTo, ScreenGoesOn, ScreenShows, ScreenShowsPart, StandsSo, TellsFailed, TellsWrite};
+ghost use Rattle.occ_files.specs.Reading.{ReadsNext, breaks_of, failures_of as reads_failed};
+ghost use Rattle.occ_live.specs.Living.{EndsOn, EndsRightly, FailsIn, FailsLive, HasCome, IsLive, Marked, MayTurn, ReadsOn, RunComesTo, ScreenGoesOn, ScreenShows, ScreenShowsPart, StandsBy, TellsFailed, TellsWrite};
 ghost use Rattle.occ_shown.specs.Answers.{channel_bytes};
 ghost use Rattle.occ_shown.specs.Counting.{AppendsTo, failures_of};
 
@@ -40,7 +40,7 @@ fn keep(kept: &mut Vec<Choice>, choice: Choice) -> Result<(), AllocError>
     Ok(())
 }
 
-/// One turn, by this choice, for which more is read where it looks past the bytes. It is TRUE where the keyboard may have more.
+/// One turn, by this choice of the plan, for which more is read where it looks past the bytes. It is TRUE where the keyboard may have more.
 fn live_turn<K: Read, W: Write>(
     alloc: Global,
     code: &Code,
@@ -48,6 +48,7 @@ fn live_turn<K: Read, W: Write>(
     keys: &mut CountedReader<K>,
     bytes: &mut Vec<u8>,
     is_open: bool,
+    plan: &Plan,
     choice: Choice,
     kept: &mut Vec<Choice>,
     tables: &mut Tables,
@@ -57,19 +58,19 @@ fn live_turn<K: Read, W: Write>(
     requires room { failures_of out.old < 2 ^ 64 - 1 }
     requires keys { reads_failed keys.old < 2 ^ 64 - 1 }
     requires marked { Marked screen.old tables.old }
-    requires stands { MayGoOn code.now bytes.old.items is_open kept.old.items tables.old }
+    requires stands { MayTurn code.now plan.now bytes.old is_open kept.old choice tables.old }
     ensures stands { IfOk result
-        (StandsSo code.now bytes.new.items kept.new.items tables.new) }
+        (StandsBy code.now plan.now bytes.new kept.new tables.new) }
     ensures kept { OnOk result (kept.new.items ≡ kept.old.items ++ choice ∷ []) }
     ensures shown { OnOk result
         (ScreenGoesOn W.contents out.old screen.old tables.old out.new screen.new tables.new) }
-    ensures read { OnOk result
-        (ReadsOn K.remaining keys.old bytes.old.items keys.new bytes.new.items) }
+    ensures read { ReadsOn K.remaining keys.old bytes.old.items keys.new bytes.new.items }
     ensures none_failed { OnOk result (failures_of out.new ≡ failures_of out.old) }
+    ensures unbroken { OnOk result (breaks_of keys.new ≡ breaks_of keys.old) }
     ensures room_left { OnOk result (reads_failed keys.new < 2 ^ 64 - 1) }
     ensures end { IfOk result (EndsOn K.remaining keys.old keys.new is_open) }
     ensures part { IfErr result
-        (FailsIn W.contents code.now bytes.new kept.old out.old screen.old tables.old out.new) }
+        (FailsIn W.contents code.now plan.now bytes.new out.old screen.old tables.old out.new) }
     ensures told { IfErr result (TellsFailed keys.old keys.new out.old out.new) }
     ensures grown { OnOk result (reads_failed keys.old ≤ reads_failed keys.new) }
 {
@@ -205,7 +206,8 @@ pub fn run_live<K: Read, W: Write>(
     ensures shown { IfOk result (λ lived.
         AppendsTo W.contents out.old out.new (channel_bytes 1 lived.outcome.trace)) }
     ensures none_failed { OnOk result (failures_of out.new ≡ failures_of out.old) }
-    ensures read { OnOk result (ReadsNext K.remaining keys.old keys.new bytes.new.items) }
+    ensures unbroken { OnOk result (breaks_of keys.new ≡ breaks_of keys.old) }
+    ensures read { ReadsNext K.remaining keys.old keys.new bytes.new.items }
     ensures end { IfOk result (λ lived. EndsRightly K.remaining keys.new lived.is_open) }
     ensures fault { IfErr result (FailsLive W.contents code.now bytes.new.items
         (choices_of plan.now) out.old out.new) }
@@ -234,6 +236,7 @@ pub fn run_live<K: Read, W: Write>(
             keys,
             bytes,
             is_open,
+            plan,
             choice,
             &mut kept,
             &mut tables,

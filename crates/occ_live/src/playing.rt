@@ -1,6 +1,6 @@
 //! Plays a program while its keyboard is read and its screen is written.
 ghost use Rattle.std.specs.Prelude.{◌≡◌, ◌<◌, ◌-◌, ◌^◌, IfErr, IfOk, OnOk, []};
-ghost use Rattle.occ_files.specs.Reading.{ReadsNext, failures_of as reads_failed};
+ghost use Rattle.occ_files.specs.Reading.{ReadsNext, breaks_of, failures_of as reads_failed};
 ghost use Rattle.occ_live.specs.Living.{EndsRightly, TellsWrite};
 ghost use Rattle.occ_live.specs.Playing.{FailsPlay, FailsToWriteRest, HasByteScreens, PlaysLive, TellsPlayFault, WritesRest};
 ghost use Rattle.occ_shown.specs.Counting.{failures_of};
@@ -94,7 +94,8 @@ pub fn play_live<K: Read, W: Write>(
     ensures played { IfOk result (PlaysLive W.contents options.now source.now
         bytes.new plan.now trace out.old out.new) }
     ensures none_failed { OnOk result (failures_of out.new ≡ failures_of out.old) }
-    ensures read { OnOk result (ReadsNext K.remaining keys.old keys.new bytes.new.items) }
+    ensures unbroken { OnOk result (breaks_of keys.new ≡ breaks_of keys.old) }
+    ensures read { ReadsNext K.remaining keys.old keys.new bytes.new.items }
     ensures end { IfOk result (λ live. EndsRightly K.remaining keys.new live.is_open) }
     ensures fault { IfErr result (FailsPlay W.contents options.now source.now
         bytes.new plan.now trace out.old out.new) }

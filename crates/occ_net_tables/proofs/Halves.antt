@@ -1,8 +1,6 @@
 -- A turn that has come to its stop, and whether it looks past the keyboard's bytes.
-use Rattle.std.proofs.Common.{◌≡◌, ◌∙◌, refl, sym, ap, subst, Bool, true, false, IsFalse, IsTrue, ℕ, ◌<◌, ◌≤◌, ◌%◌, List, [], ◌∷◌, Option, Some, None, length}
+use Rattle.std.proofs.Common.{◌≡◌, ◌∙◌, ◌↔◌, refl, sym, ap, subst, Bool, true, false, IsFalse, IsTrue, ℕ, ◌<◌, ◌≤◌, ◌%◌, List, [], ◌∷◌, Option, Some, None, length}
 use Rattle.std.specs.Prelude.{nat_eq, not, slice_get, slice_set, ◌||◌}
-use Rattle.std.specs.Option.{option_eq}
-use Rattle.std.proofs.lemmas.Bool.{eqb-true}
 use mathlib.Core.Bool.{true≢false}
 use Rattle.occ_machine.specs.Compiled.{Program}
 use Rattle.occ_machine.specs.Machine.{Body, Stopping}
@@ -22,7 +20,7 @@ use Rattle.occ_net_replay.proofs.OneStop.{stopping_once}
 use Rattle.occ_net_replay.proofs.Tables.{offers_found, offers_there, set_same, task_once}
 use Rattle.occ_net_tables.specs.declared.tables.Tables.{Tables}
 use Rattle.occ_net_tables.specs.declared.turning.Begun.{Begun}
-use Rattle.occ_net_tables.specs.Halves.{AllTaken, BeganTurn, HasOwnTask, StaysWithinBytes, with_used}
+use Rattle.occ_net_tables.specs.Halves.{BeganTurn, HasOwnTask, LooksPastBytes, StaysWithinBytes, with_used}
 use Rattle.occ_net_tables.specs.Choosing.{arm_at, is_entry, offered_arm, offered_by}
 use Rattle.occ_net_tables.specs.Holding.{Holds, IsTable}
 use Rattle.occ_net_tables.specs.Keys.{entry_in}
@@ -144,31 +142,43 @@ deaf_as pick f g h W.Halted d = tt
 deaf_as pick f g h W.Done d = tt
 deaf_as pick f g h (W.Faulted e) d = tt
 
--- two places at which the same arm stands
-pub deaf_choice : (pri : Bool) (pick : ℕ) (table : List (Option ℕ)) (arms : List Arm) (x y : Option ℕ) → arm_at arms x ≡ offered_arm pri pick (Some 0) table arms → arm_at arms y ≡ offered_arm pri pick None table arms → x ≡ y
-    → arm_chosen pri pick (or_keyboard (offered_by None table)) arms ≡ arm_chosen pri pick (offered_by None table) arms
-deaf_choice pri pick table arms x y e f same =
-    chosen_same (or_keyboard (offered_by None table)) (offered_by (Some 0) table) (λ c. refl) pri pick arms ∙ sym e ∙ ap (arm_at arms) same ∙ f
+-- where it offers nothing itself, it is so by whatever says the same of the others
+pub deaf_where : (pick : ℕ) (f g : ℕ → Bool) (w : Wait) → (((c : ℕ) → offers_on w c ≡ false) → (c : ℕ) → f c ≡ g c) → IsDeaf pick f w → IsDeaf pick g w
+deaf_where pick f g W.Ready same d = tt
+deaf_where pick f g (W.Took arm is m) same d = tt
+deaf_where pick f g (W.Offers c m) same d = tt
+deaf_where pick f g (W.Awaits c) same d = d
+deaf_where pick f g (W.Chooses pri arms) same d = deaf_as pick f g (same (λ c. refl)) (W.Chooses pri arms) d
+deaf_where pick f g (W.Joins ns) same d = tt
+deaf_where pick f g W.Halted same d = tt
+deaf_where pick f g W.Done same d = tt
+deaf_where pick f g (W.Faulted e) same d = tt
 
--- two places that are not told apart are one
-pub same_place : (x y : Option ℕ) (b : Bool) → b ≡ not (option_eq nat_eq x y) → IsFalse b → x ≡ y
-same_place None None b e h = refl
-same_place None (Some j) b e h = absurd (true≢false (sym e ∙ h))
-same_place (Some i) None b e h = absurd (true≢false (sym e ∙ h))
-same_place (Some i) (Some j) b e h = by (nat_eq i j) refl
-  where
-    by : (z : Bool) → nat_eq i j ≡ z → Some i ≡ Some j
-    by true q = ap (λ (k : ℕ). Some k) (eqb-true i j q)
-    by false q = absurd (true≢false (sym (ap not q) ∙ sym e ∙ h))
+-- at a choice it is so where the same arm stands at both places
+module _ (pri : Bool) (pick : ℕ) (table : List (Option ℕ)) (arms : List Arm) (x y : Option ℕ) (e : arm_at arms x ≡ offered_arm pri pick (Some 0) table arms) (f : arm_at arms y ≡ offered_arm pri pick None table arms) where
+  with_byte : arm_chosen pri pick (or_keyboard (offered_by None table)) arms ≡ arm_at arms x
+  with_byte = chosen_same (or_keyboard (offered_by None table)) (offered_by (Some 0) table) (λ c. refl) pri pick arms ∙ sym e
 
-pub deaf_found : (pri : Bool) (pick : ℕ) (table t1 t2 : List (Option ℕ)) (arms a1 a2 : List Arm) (x y : Option ℕ) → arm_at a1 x ≡ offered_arm pri pick (Some 0) t1 a1 → arm_at a2 y ≡ offered_arm pri pick None t2 a2
-    → a1 ≡ arms → a2 ≡ arms → t1 ≡ table → t2 ≡ table → x ≡ y → (w : Wait) → w ≡ W.Chooses pri arms → IsDeaf pick (offered_by None table) w
-deaf_found pri pick table t1 t2 arms a1 a2 x y e f p q r s same w is =
-    let e1 = subst (λ a. arm_at a x ≡ offered_arm pri pick (Some 0) t1 a) p e in
-    let e2 = subst (λ t. arm_at arms x ≡ offered_arm pri pick (Some 0) t arms) r e1 in
-    let f1 = subst (λ a. arm_at a y ≡ offered_arm pri pick None t2 a) q f in
-    let f2 = subst (λ t. arm_at arms y ≡ offered_arm pri pick None t arms) s f1 in
-    subst (IsDeaf pick (offered_by None table)) (sym is) (deaf_choice pri pick table arms x y e2 f2 same)
+  pub deaf_if_same : arm_at arms x ≡ arm_at arms y → IsDeaf pick (offered_by None table) (W.Chooses pri arms)
+  deaf_if_same same = with_byte ∙ same ∙ f
+
+  pub same_if_deaf : IsDeaf pick (offered_by None table) (W.Chooses pri arms) → arm_at arms x ≡ arm_at arms y
+  same_if_deaf deaf = sym with_byte ∙ deaf ∙ sym f
+
+not_false : (b : Bool) → IsFalse (not b) ↔ IsTrue b
+not_false true = ((λ h. refl), (λ h. refl))
+not_false false = ((λ h. absurd (true≢false h)), (λ h. absurd (true≢false (sym h))))
+
+pub deaf_told : (pri : Bool) (pick : ℕ) (table t1 t2 : List (Option ℕ)) (arms a : List Arm) (x y : Option ℕ) → arm_at a x ≡ offered_arm pri pick (Some 0) t1 a → arm_at a y ≡ offered_arm pri pick None t2 a
+    → a ≡ arms → t1 ≡ table → t2 ≡ table → (b : Bool) → IsTrue b ↔ (arm_at a x ≡ arm_at a y) → (w : Wait) → w ≡ W.Chooses pri arms → IsFalse (not b) ↔ IsDeaf pick (offered_by None table) w
+deaf_told pri pick table t1 t2 arms a x y e f p r s b same w is =
+    let e1 = subst (λ t. arm_at a x ≡ offered_arm pri pick (Some 0) t a) r e in
+    let f1 = subst (λ t. arm_at a y ≡ offered_arm pri pick None t a) s f in
+    let here : IsFalse (not b) ↔ IsDeaf pick (offered_by None table) (W.Chooses pri a) = (
+      λ no. deaf_if_same pri pick table a x y e1 f1 (same.0 ((not_false b).0 no)),
+      λ deaf. (not_false b).1 (same.1 (same_if_deaf pri pick table a x y e1 f1 deaf)),
+    ) in
+    subst (λ v. IsFalse (not b) ↔ IsDeaf pick (offered_by None table) v) (sym is) (subst (λ l. IsFalse (not b) ↔ IsDeaf pick (offered_by None table) (W.Chooses pri l)) p here)
 
 -- the table says who offers
 module _ (tasks : Tasks) (table : List (Option ℕ)) (h : IsTable offers_on tasks table) where
@@ -192,9 +202,6 @@ module _ (kb : List ℕ) (n : Tables) (begun : Begun) (pick : ℕ) where
   pub stays_where_some : n.used < length kb → StaysWithinBytes kb n begun pick
   stays_where_some less = λ p first left items net h may there e. let some = there_left kb n.used less in let none : some.0 ∷ some.1 ≡ [] = sym some.2 ∙ sym h.bytes ∙ e in absurd cc
 
-  pub all_taken : length kb ≤ n.used → AllTaken kb n
-  all_taken most = λ p i first net h. h.bytes ∙ past kb n.used most
-
   pub stays_ready : begun.end ≡ T.Ready → StaysWithinBytes kb n begun pick
   stays_ready is = λ p first left items net h may there e. subst (λ (z : TurnEnd). IsDeaf pick (offers_among (slice_set net.tasks number (Some (ready_with left (standing_at z items left.wait))))) (standing_at z items left.wait)) (sym is) tt
 
@@ -204,29 +211,32 @@ module _ (kb : List ℕ) (n : Tables) (begun : Begun) (pick : ℕ) where
   pub stays_awaiting : (chan : ℕ) → begun.end ≡ T.Awaits chan → nat_eq chan 0 ≡ false → StaysWithinBytes kb n begun pick
   stays_awaiting chan is other = λ p first left items net h may there e. subst (λ (z : TurnEnd). IsDeaf pick (offers_among (slice_set net.tasks number (Some (ready_with left (standing_at z items left.wait))))) (standing_at z items left.wait)) (sym is) other
 
+  pub looks_awaiting : length kb ≤ n.used → (chan : ℕ) → begun.end ≡ T.Awaits chan → nat_eq chan 0 ≡ true → LooksPastBytes kb n begun pick
+  looks_awaiting most chan is keyboard = λ p first left items net h may there stays.
+      let deaf = subst (λ (z : TurnEnd). IsDeaf pick (offers_among (slice_set net.tasks number (Some (ready_with left (standing_at z items left.wait))))) (standing_at z items left.wait)) is (stays (h.bytes ∙ past kb n.used most)) in
+      true≢false (sym keyboard ∙ deaf)
+
+  -- who offers is told by the table, where the process offers nothing itself
+  module _ (p : Program) (first left : Task) (net : Net) (h : Holds p kb (tables_with n number first) net) (may : IsTrue (may_go first.wait)) (there : HasTask n.tasks.items number left) where
+    beside : ((c : ℕ) → offers_on left.wait c ≡ false) → (c : ℕ) → offered_by None n.offering.items c ≡ offers_among (slice_set net.tasks number (Some left)) c
+    beside silent c =
+        let tasks = (tables_with n number first).tasks.items in
+        let was : HasTask tasks number first = set_same n.tasks.items number (Some left) (Some first) there in
+        let table = table_kept tasks number first left was first.wait left.wait refl refl offers_on (λ d. going_offers first.wait d may) silent n.offering.items h.sound.offers in
+        sym (offers_told (slice_set tasks number (Some left)) n.offering.items table c) ∙ ap (λ (l : Tasks). offers_among (slice_set l number (Some left)) c) (sym h.tasks)
+
+    deaf_there : IsDeaf pick (offered_by None n.offering.items) left.wait → IsDeaf pick (offers_among (slice_set net.tasks number (Some left))) left.wait
+    deaf_there = deaf_where pick (offered_by None n.offering.items) (offers_among (slice_set net.tasks number (Some left))) left.wait beside
+
+    deaf_here : IsDeaf pick (offers_among (slice_set net.tasks number (Some left))) left.wait → IsDeaf pick (offered_by None n.offering.items) left.wait
+    deaf_here = deaf_where pick (offers_among (slice_set net.tasks number (Some left))) (offered_by None n.offering.items) left.wait (λ silent c. sym (beside silent c))
+
   pub stays_elsewhere : begun.end ≡ T.Other → (t : Task) → HasTask n.tasks.items number t → IsDeaf pick (offered_by None n.offering.items) t.wait → StaysWithinBytes kb n begun pick
   stays_elsewhere is t here deaf = λ p first left items net h may there e.
       subst (λ (z : TurnEnd). IsDeaf pick (offers_among (slice_set net.tasks number (Some (ready_with left (standing_at z items left.wait))))) (standing_at z items left.wait)) (sym is)
-      (at p first left net h may there (subst (λ (z : Task). IsDeaf pick (offered_by None n.offering.items) z.wait) (task_once n.tasks.items number here there) deaf))
-    where
-      at : (p : Program) (first left : Task) (net : Net) → Holds p kb (tables_with n number first) net → IsTrue (may_go first.wait) → HasTask n.tasks.items number left → IsDeaf pick (offered_by None n.offering.items) left.wait → IsDeaf pick (offers_among (slice_set net.tasks number (Some left))) left.wait
-      at p first left net h may there deaf = by left.wait refl deaf
-        where
-          beside : ((c : ℕ) → offers_on left.wait c ≡ false) → (c : ℕ) → offered_by None n.offering.items c ≡ offers_among (slice_set net.tasks number (Some left)) c
-          beside silent c =
-              let tasks = (tables_with n number first).tasks.items in
-              let was : HasTask tasks number first = set_same n.tasks.items number (Some left) (Some first) there in
-              let table = table_kept tasks number first left was first.wait left.wait refl refl offers_on (λ d. going_offers first.wait d may) silent n.offering.items h.sound.offers in
-              sym (offers_told (slice_set tasks number (Some left)) n.offering.items table c) ∙ ap (λ (l : Tasks). offers_among (slice_set l number (Some left)) c) (sym h.tasks)
+      (deaf_there p first left net h may there (subst (λ (z : Task). IsDeaf pick (offered_by None n.offering.items) z.wait) (task_once n.tasks.items number here there) deaf))
 
-          by : (w : Wait) → left.wait ≡ w → IsDeaf pick (offered_by None n.offering.items) w → IsDeaf pick (offers_among (slice_set net.tasks number (Some left))) w
-          by W.Ready e d = tt
-          by (W.Took arm is m) e d = tt
-          by (W.Offers c m) e d = tt
-          by (W.Awaits c) e d = d
-          by (W.Chooses pri arms) e d =
-              deaf_as pick (offered_by None n.offering.items) (offers_among (slice_set net.tasks number (Some left))) (beside (λ c. ap (λ z. offers_on z c) e)) (W.Chooses pri arms) d
-          by (W.Joins ns) e d = tt
-          by W.Halted e d = tt
-          by W.Done e d = tt
-          by (W.Faulted f) e d = tt
+  pub looks_elsewhere : length kb ≤ n.used → begun.end ≡ T.Other → (t : Task) → HasTask n.tasks.items number t → (IsDeaf pick (offered_by None n.offering.items) t.wait → ⊥) → LooksPastBytes kb n begun pick
+  looks_elsewhere most is t here hears = λ p first left items net h may there stays.
+      let deaf = subst (λ (z : TurnEnd). IsDeaf pick (offers_among (slice_set net.tasks number (Some (ready_with left (standing_at z items left.wait))))) (standing_at z items left.wait)) is (stays (h.bytes ∙ past kb n.used most)) in
+      hears (subst (λ (z : Task). IsDeaf pick (offered_by None n.offering.items) z.wait) (task_once n.tasks.items number there here) (deaf_here p first left net h may there deaf))

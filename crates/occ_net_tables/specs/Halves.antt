@@ -61,9 +61,11 @@ StaysWithinBytes keyboard n begun pick =
     (p : Program) (first left : Task) (items : List Part) (net : Net) → Holds p keyboard (tables_with n begun.number first) net → IsTrue (may_go first.wait) → HasTask n.tasks.items begun.number left
     → StaysWithin pick net begun.number (ready_with left (standing_at begun.end items left.wait))
 
--- no byte is left
-abbrev pub AllTaken : List ℕ → Tables → Type 0
-AllTaken keyboard n = (p : Program) (number : ℕ) (first : Task) (net : Net) → Holds p keyboard (tables_with n number first) net → net.keyboard ≡ []
+-- of each such network: it does
+abbrev pub LooksPastBytes : List ℕ → Tables → Begun → (pick : ℕ) → Type 0
+LooksPastBytes keyboard n begun pick =
+    (p : Program) (first left : Task) (items : List Part) (net : Net) → Holds p keyboard (tables_with n begun.number first) net → IsTrue (may_go first.wait) → HasTask n.tasks.items begun.number left
+    → StaysWithin pick net begun.number (ready_with left (standing_at begun.end items left.wait)) → ⊥
 
 -- so many of the bytes are taken
 abbrev pub with_used : Tables → ℕ → Tables

@@ -1,10 +1,10 @@
 //! Whether a turn looks past the bytes that the keyboard has so far, and bytes that come behind them.
-ghost use Rattle.std.specs.Prelude.{◌≡◌, IsFalse, IsTrue, None};
+ghost use Rattle.std.specs.Prelude.{◌≡◌, ◌↔◌, IsFalse, IsTrue, None};
 ghost use Rattle.occ_live_laws.specs.Live.{IsDeaf};
-ghost use Rattle.occ_net_tables.specs.Halves.{AllTaken, StaysWithinBytes, HasOwnTask, with_used};
+ghost use Rattle.occ_net_tables.specs.Halves.{HasOwnTask, LooksPastBytes, StaysWithinBytes, with_used};
 ghost use Rattle.occ_net_tables.specs.Choosing.{offered_by};
 
-use crate::choosing::choose_arm;
+use crate::choosing::{choose_arm, is_same_arm};
 use crate::tables::Tables;
 use crate::turning::Begun;
 use occ_machine::Wait;
@@ -18,7 +18,7 @@ impl Tables {
     pub fn asks(&self, keyboard: &[u8], begun: Begun, pick: u32) -> bool
         requires { HasOwnTask self.now begun.number }
         ensures within { IsFalse result → StaysWithinBytes keyboard.now self.now begun pick }
-        ensures taken { IsTrue result → AllTaken keyboard.now self.now }
+        ensures past { IsTrue result → LooksPastBytes keyboard.now self.now begun pick }
     {
         if self.used < keyboard.len() {
             return false;
@@ -36,14 +36,15 @@ impl Tables {
     /// Whether what a process does that stands at this depends on whether the keyboard has a byte: it is at an input from
     /// it, or at a choice that would take another arm.
     fn hears(&self, wait: &Wait, pick: u32) -> bool
-        ensures { IsFalse result → IsDeaf pick (offered_by None self.now.offering.items) wait.now }
+        ensures { IsFalse result ↔ IsDeaf pick (offered_by None self.now.offering.items) wait.now }
     {
         match wait {
             Wait::Awaits { chan } => *chan == KEYBOARD,
             Wait::Chooses { pri, arms } => {
-                let with = choose_arm(Some(KEYBOARD), &self.offering, *pri, pick, arms.as_slice());
-                let without = choose_arm(None, &self.offering, *pri, pick, arms.as_slice());
-                with != without
+                let arms = arms.as_slice();
+                let with = choose_arm(Some(KEYBOARD), &self.offering, *pri, pick, arms);
+                let without = choose_arm(None, &self.offering, *pri, pick, arms);
+                !is_same_arm(arms, with, without)
             }
             _ => false,
         }

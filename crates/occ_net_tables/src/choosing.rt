@@ -1,5 +1,5 @@
 //! The rule of ready arms, and arms in the table of those who wait for messages.
-ghost use Rattle.std.specs.Prelude.{◌≡◌, ◌<◌, IfSome, length};
+ghost use Rattle.std.specs.Prelude.{◌≡◌, ◌↔◌, ◌<◌, IfSome, IsTrue, length};
 ghost use Rattle.occ_term.specs.Selecting.{is_ready_on, ready_among};
 ghost use Rattle.occ_machine.specs.declared.task.Arm.{Arm};
 ghost use Rattle.occ_net_replay.specs.Replay.{arm_chosen};
@@ -95,6 +95,19 @@ pub(crate) fn choose_arm(
         pick as usize % count
     };
     ready_place(named, offering, arms, wanted)
+}
+
+/// Whether one arm stands at both places, or none at either.
+pub(crate) fn is_same_arm(arms: &[Arm], place: Option<usize>, other: Option<usize>) -> bool
+    requires place { IfSome place (λ i. i < length arms.now) }
+    requires other { IfSome other (λ i. i < length arms.now) }
+    ensures { IsTrue result ↔ (arm_at arms.now place ≡ arm_at arms.now other) }
+{
+    match (place, other) {
+        (Some(place), Some(other)) => arms[place].is_same(&arms[other]),
+        (None, None) => true,
+        _ => false,
+    }
 }
 
 /// Lets somebody stand at the channels of these arms, or nobody.

@@ -32,6 +32,11 @@ IsTyped (Some path) true keyboard = ⊤
 IsTyped (Some path) false keyboard = keyboard ≡ []
 IsTyped None wanted keyboard = keyboard ≡ []
 
+-- what is typed is all that a keyboard has where it is wanted, and else nothing
+abbrev pub IsKeyboard : (wanted : Bool) → (keys typed : List ℕ) → Type 0
+IsKeyboard true keys typed = typed ≡ keys
+IsKeyboard false keys typed = typed ≡ []
+
 -- ---- the source
 
 -- The joined texts of so many files, one byte more of them at most than a source may have; and the last lines of all but the last file.

@@ -1,8 +1,8 @@
 //! What the program plays: a source, the keyboard's bytes, and a plan.
-ghost use Rattle.std.specs.Prelude.{[], ◌≡◌, ◌≤◌, IfErr, IfOk, IfSome, List, OnOk, length, suc, take, ℕ};
+ghost use Rattle.std.specs.Prelude.{[], false, ◌≡◌, ◌≤◌, IfErr, IfOk, IfSome, List, OnOk, length, suc, take, ℕ};
 ghost use Rattle.occ_choices.specs.Lines.{ChoiceLines};
 ghost use Rattle.occ_choices.specs.Plans.{choices_of};
-ghost use Rattle.occ_play_inputs.specs.Asked.{IsAskedBy, IsJoin, IsSourceBy, IsTyped, NotesEnd, PutsBehind, PutsSome};
+ghost use Rattle.occ_play_inputs.specs.Asked.{IsAskedBy, IsJoin, IsKeyboard, IsSourceBy, IsTyped, NotesEnd, PutsBehind, PutsSome};
 ghost use Rattle.occ_play_inputs.specs.Failures.{FailsToChoose, FailsToRead, FailsToReadSource};
 ghost use Rattle.occ_play_inputs.specs.Notices.{notice_of};
 ghost use Rattle.occ_play_inputs.specs.declared.failure.Stream.TheVariants.{Keyboard, Specification};
@@ -198,12 +198,28 @@ where
     ensures failed { IfErr result (FailsToRead Keyboard) }
 {
     match words.file {
-        Some(_) if wanted => {
+        Some(_) => {
             let keyboard = rt.reader();
-            let _ = eprint!(rt; "{}", notice_of(words.file, keyboard.is_terminal()));
-            read_all(alloc, Stream::Keyboard, keyboard)
+            if wanted {
+                let _ = eprint!(rt; "{}", notice_of(words.file, keyboard.is_terminal()));
+            }
+            read_wanted(alloc, keyboard, wanted)
         }
-        _ => Ok(Vec::new(alloc)),
+        None => Ok(Vec::new(alloc)),
+    }
+}
+
+/// All bytes of a keyboard that is wanted, and none of one that is not.
+fn read_wanted<K: Read + Drop>(alloc: Global, keyboard: K, wanted: bool) -> Result<Vec<u8>, Failure>
+    ensures bytes { IfSome (K.remaining keyboard)
+        (λ xs. IfOk result (λ bytes. IsKeyboard wanted xs bytes.items)) }
+    ensures unwanted { wanted ≡ false → IfOk result (λ bytes. bytes.items ≡ []) }
+    ensures failed { IfErr result (FailsToRead Keyboard) }
+{
+    if wanted {
+        read_all(alloc, Stream::Keyboard, keyboard)
+    } else {
+        Ok(Vec::new(alloc))
     }
 }
 

@@ -1,6 +1,6 @@
 -- What a live run came to is what a run came to that had the bytes from the start.
 use Rattle.std.proofs.Common.{◌≡◌, ◌∙◌, ◌+◌, ℕ, Bool, true, false, List, Option, Some, None, [], inr, refl, sym, ap, subst, arith}
-use Rattle.std.specs.Prelude.{Ok, Err, is_some, nat_eq, not, ◌&&◌}
+use Rattle.std.specs.Prelude.{Ok, Err, IfOk, Result, is_some, nat_eq, not, ◌&&◌}
 use Rattle.occ_choices.specs.Crews.{IsCrew}
 use Rattle.std.specs.Option.{ForSome}
 use Rattle.occ_choices.specs.Plans.{choices_of}
@@ -11,9 +11,10 @@ use Rattle.occ_play.specs.declared.playing.Options.{Options}
 use Rattle.occ_play.specs.declared.fault.PlayFault.{PlayFault}
 use Rattle.occ_play.specs.Playing.{Refuses}
 use Rattle.occ_play_inputs.specs.Asked.{IsAsked, IsAskedBy, IsTyped}
+use Rattle.occ_play_inputs.specs.declared.failure.Failure.{Failure}
 use Rattle.occ_play_inputs.specs.declared.inputs.Inputs.{Inputs}
 use Rattle.occ_play_inputs.specs.declared.words.Words.{Words}
-use Rattle.occ_program.specs.Coming.{CameToBy, IsTriedBy, options_in, workers_asked, workers_in}
+use Rattle.occ_program.specs.Coming.{CameToBy, IsStatusFor, IsStatusOf, IsTriedBy, options_in, workers_asked, workers_in}
 use Rattle.occ_program.specs.Live.{LivesTo, RunsAlone, runs_live}
 use Rattle.occ_program.specs.Trying.{IsTriedPlanFor, by_seed}
 use Rattle.occ_program.proofs.Statuses.{refused_by}
@@ -102,3 +103,8 @@ pub came_refused : (words : Words) (source keyboard : List ℕ) (list : List Cho
     → CameToBy (workers_in words) words source keyboard list (Err fault)
 came_refused words source keyboard list fault alone h =
     subst (λ w. CameToBy w words source keyboard list (Err fault)) (sym (no_workers words alone)) (refused_by None words source keyboard list fault (no_crew None refl) h)
+
+-- the status of what was read is that of some source
+pub of_some : (words : Words) (source keyboard : List ℕ) (r : Result ℕ Failure) → IfOk r (IsStatusOf words source keyboard) → IfOk r (IsStatusFor words)
+of_some words source keyboard (Ok s) h = (source, keyboard, h)
+of_some words source keyboard (Err f) h = tt

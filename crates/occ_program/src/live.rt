@@ -1,10 +1,10 @@
 //! Runs whose keyboard is read and whose screen is written while they go on.
-ghost use Rattle.std.specs.Prelude.{◌≡◌, ◌≤◌, ◌<◌, ◌-◌, ◌^◌, [], IfErr, IfOk, OnOk};
+ghost use Rattle.std.specs.Prelude.{◌≡◌, ◌≤◌, ◌<◌, ◌-◌, ◌^◌, [], IfErr, IfOk};
 ghost use Rattle.occ_files.specs.Reading.{ReadsNext, failures_of as reads_failed};
 ghost use Rattle.occ_live.specs.Living.{EndsRightly};
-ghost use Rattle.occ_program.specs.Coming.{IsStatusFor};
+ghost use Rattle.occ_play_inputs.specs.Asked.{IsAskedBy};
+ghost use Rattle.occ_program.specs.Coming.{IsStatusFor, IsStatusOf};
 ghost use Rattle.occ_program.specs.Live.{RunsAlone, RefusesLive, live_failure, LivesTo, runs_live};
-ghost use Rattle.occ_shown.specs.Counting.{failures_of};
 
 use crate::program::{finish, options_of};
 use crate::reading::read_untyped;
@@ -26,7 +26,8 @@ pub(crate) fn runs_live(words: &Words<'_>, on_terminal: bool) -> bool
     is_alone && (words.live || words.file.is_some() && on_terminal)
 }
 
-/// Reads what the words name but for the keyboard, plays it live, and leaves what the words ask for.
+/// Reads what the words name but for the keyboard, plays it live on standard input, or on no keys where the source was standard
+/// input, and leaves what the words ask for.
 pub(crate) fn run_live_words<R: Files + Input + Print + Eprint>(
     rt: &R,
     alloc: Global,
@@ -39,16 +40,44 @@ where
     ensures small { IfOk result (λ status. status ≤ 7) }
 {
     let mut inputs = read_untyped(rt, alloc, words)?;
+    match words.file {
+        Some(_) => {
+            let mut keys = CountedReader::new(rt.reader());
+            run_live_inputs(rt, alloc, words, &mut inputs, &mut keys)
+        }
+        None => {
+            let mut keys = CountedReader::new(empty());
+            run_live_inputs(rt, alloc, words, &mut inputs, &mut keys)
+        }
+    }
+}
+
+/// Plays what was read on these keys, and leaves what the words ask for. The bytes that it reads are then the keyboard's.
+fn run_live_inputs<R: Files + Print + Eprint, K: Read>(
+    rt: &R,
+    alloc: Global,
+    words: &Words<'_>,
+    inputs: &mut Inputs,
+    keys: &mut CountedReader<K>,
+) -> Result<u8, Failure>
+    requires alone { RunsAlone words.now }
+    requires asked { IsAskedBy words.now inputs.old.plan }
+    requires keys { reads_failed keys.old < 2 ^ 64 - 1 }
+    ensures came { IfOk result
+        (IsStatusOf words.now inputs.old.source.items inputs.new.keyboard.items) }
+    ensures read { ReadsNext K.remaining keys.old keys.new inputs.new.keyboard.items }
+    ensures small { IfOk result (λ status. status ≤ 7) }
+{
     let mut screen = Noting::new(io::writer(rt));
     let mut typed = Vec::new(alloc);
-    let came = play_on_keys(rt, alloc, words, &inputs, &mut typed, &mut screen);
+    let came = play_keys(alloc, words, inputs, keys, &mut typed, &mut screen);
     inputs.keyboard = typed;
     let played = match came {
         Ok(live) => Ok(live.played),
         Err(LivePlayFault::Source(fault)) => Err(fault),
         Err(LivePlayFault::Run(fault)) => return Err(failure_of(fault, screen.reason())),
     };
-    finish(rt, alloc, words, &inputs, played, screen.reason())
+    finish(rt, alloc, words, inputs, played, screen.reason())
 }
 
 /// What a live run that came to nothing is to the program, where the last failed write had this reason.
@@ -68,32 +97,6 @@ fn failure_of(fault: LiveFault, unwritten: Reason) -> Failure
     }
 }
 
-/// Plays the source on standard input, or on no keys where the source was standard input.
-fn play_on_keys<R: Input, W: Write>(
-    rt: &R,
-    alloc: Global,
-    words: &Words<'_>,
-    inputs: &Inputs,
-    typed: &mut Vec<u8>,
-    screen: &mut W,
-) -> Result<LivePlayed, LivePlayFault>
-    requires { typed.old.items ≡ [] }
-    ensures came { IfOk result (LivesTo words.now inputs.now typed.new.items) }
-    ensures refused { IfErr result (RefusesLive words.now inputs.now) }
-{
-    let mut out = Counted::new(screen);
-    match words.file {
-        Some(_) => {
-            let mut keys = CountedReader::new(rt.reader());
-            play_keys(alloc, words, inputs, &mut keys, typed, &mut out)
-        }
-        None => {
-            let mut keys = CountedReader::new(empty());
-            play_keys(alloc, words, inputs, &mut keys, typed, &mut out)
-        }
-    }
-}
-
 /// Plays the source on these keys.
 fn play_keys<K: Read, W: Write>(
     alloc: Global,
@@ -101,13 +104,12 @@ fn play_keys<K: Read, W: Write>(
     inputs: &Inputs,
     keys: &mut CountedReader<K>,
     typed: &mut Vec<u8>,
-    out: &mut Counted<W>,
+    screen: &mut W,
 ) -> Result<LivePlayed, LivePlayFault>
     requires empty { typed.old.items ≡ [] }
-    requires room { failures_of out.old < 2 ^ 64 - 1 }
     requires keys { reads_failed keys.old < 2 ^ 64 - 1 }
     ensures came { IfOk result (LivesTo words.now inputs.now typed.new.items) }
-    ensures read { OnOk result (ReadsNext K.remaining keys.old keys.new typed.new.items) }
+    ensures read { ReadsNext K.remaining keys.old keys.new typed.new.items }
     ensures end { IfOk result (λ live. EndsRightly K.remaining keys.new live.is_open) }
     ensures refused { IfErr result (RefusesLive words.now inputs.now) }
 {
@@ -119,6 +121,6 @@ fn play_keys<K: Read, W: Write>(
         typed,
         &inputs.plan,
         words.trace,
-        out,
+        &mut Counted::new(screen),
     )
 }
