@@ -1,5 +1,5 @@
 -- A live run goes on over the bytes that it has, and over more.
-use Rattle.std.proofs.Common.{◌≡◌, ◌∙◌, refl, sym, ap, subst, Bool, true, false, IsFalse, IsTrue, ℕ, suc, ◌+◌, ◌<◌, ◌^◌, List, [], ◌∷◌, ◌++◌, Some, None, Option, get_or, length, take, drop, arith, length-append}
+use Rattle.std.proofs.Common.{◌≡◌, ◌∙◌, refl, sym, ap, subst, Bool, true, false, IsFalse, IsTrue, ℕ, suc, ◌<◌, ◌^◌, List, [], ◌∷◌, ◌++◌, Some, None, Option, get_or, length, drop, arith, length-append}
 use Rattle.std.specs.Io.KnownBytes.{Consumes}
 use mathlib.Core.Bool.{true≢false}
 use Rattle.occ_term.specs.declared.communication.Communication.{Communication}
