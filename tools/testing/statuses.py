@@ -176,8 +176,8 @@ CASES = [
     of(FAULTS, ["--explore=full"], 3, '1 fault ARITH line 3 "" by 1 choice\neach run ends within 1 turn\nall, 2 states\n'),
     of(FAULTS, ["--explore", "--errors", "stop"], 2, '1 stopped ARITH line 3 "" by 1 choice\neach run ends within 1 turn\nall, 2 states\n'),
     of(ENDLESS, ["--explore"], 0, "some run goes on for ever\nall, 1 state\n"),
-    of(EITHER, ["--explore"], 0, '1 ended "a" by 10 choices\n2 ended "b" by 10 choices\neach run ends within 10 turns\nall, 26 states\n'),
-    of(EITHER, ["--explore=endings"], 0, "1 ended by 10 choices\neach run ends within 10 turns\nall, 26 states\n"),
+    of(EITHER, ["--explore"], 0, '1 ended "a" by 10 choices\n2 ended "b" by 10 choices\neach run ends within 10 turns\nall, 4 states\n'),
+    of(EITHER, ["--explore=endings"], 0, "1 ended by 10 choices\neach run ends within 10 turns\nall, 4 states\n"),
     of(SHARED, ["--explore"], 1, "", "refused 50 SharedVariable line 5 x\n"),
     of(LETTER, ["--explore"], 6, "", "write failed\n", to="/dev/full"),
     of(LETTER, ["--explore", "--record", "none/x"], 6, '1 ended "A" by 2 choices\neach run ends after 2 turns\none answer: the program has no ALT\n', "write failed\n"),
@@ -346,9 +346,9 @@ def counted(program):
     """What is wrong with what a search tells a terminal while it works, or nothing: how many states were found, taken away at the end;
     and nothing where standard error is none."""
     source = TOP / "examples/faults/butler.occ"
-    plain = run(program, TOP, ["--explore", source])
+    plain = run(program, TOP, ["--explore=full", source])
     ours, its = pty.openpty()
-    with subprocess.Popen([program, "--explore", source], stdin=subprocess.DEVNULL, stdout=subprocess.PIPE, stderr=its) as running:
+    with subprocess.Popen([program, "--explore=full", source], stdin=subprocess.DEVNULL, stdout=subprocess.PIPE, stderr=its) as running:
         out, _ = running.communicate(timeout=600)
     os.close(its)
     told = b""
