@@ -177,6 +177,8 @@ class Tried:
         if whole.returncode == 7 and done.returncode == 7:
             left = iter(whole.stderr.splitlines())
             return done.stdout == b"" and all(line in left for line in done.stderr.splitlines())
+        if "--tries" in self.words and (done.returncode, done.stdout, done.stderr) == (whole.returncode, whole.stdout, b""):
+            return True  # the line on the number is left out
         by_workers = "--workers" in self.words or "--watch" in self.words
         if by_workers and done.returncode == whole.returncode and done.stdout and self.is_seen(done.stderr, whole.stderr):
             return True

@@ -5,10 +5,9 @@ use Rattle.std.proofs.lemmas.Bool.Decides.{nat_tests}
 use Rattle.std.proofs.lemmas.List.{length-append, length-map}
 use Rattle.std.proofs.Math.Nat.{mod-eq_of_lt, mod_self}
 use Rattle.std.proofs.lemmas.Nat.{mod_below}
-use Rattle.occ_net_replay.specs.declared.choice.Choice.{Choice}
 use Rattle.occ_explore_walks.specs.declared.graph.Edge.{Edge}
 use Rattle.occ_explore_walks.specs.declared.graph.Fan.{Fan}
-use Rattle.occ_explore_walks.specs.Walks.{HasWalk, IsEdge, IsGraph, IsLongest, IsRound, IsWalk, choices_along, led_to}
+use Rattle.occ_explore_walks.specs.Walks.{HasWalk, IsEdge, IsGraph, IsLongest, IsRound, IsWalk, led_to}
 use Rattle.occ_explore_walks.proofs.Lists.{get_inside, get_some, get_there, one_some, push_cases, push_keeps, push_last}
 use Rattle.occ_ends.specs.Ends.{AreWaits, LeadWithin, Circles, IsCircle, IsFanOf, IsRing, IsRoot, edge_to, edges_to}
 
@@ -29,6 +28,7 @@ record Tells (next : ℕ → Option ℕ) (below n : ℕ) (e : Edge) : Type 0 whe
   who : e.choice.which ≡ n
   to : e.to ≡ suc other
   waits : next n ≡ Some other
+  single : e.behind ≡ 0
   within : other < below
 
 tells_one : (next : ℕ → Option ℕ) {below n : ℕ} (x : Option ℕ) → next n ≡ x → (place : ℕ) (e : Edge) → slice_get (edges_to n x below) place ≡ Some e → Tells next below n e
@@ -44,7 +44,7 @@ tells_one next {below} {n} (Some m) is place e there = by (lt_or_le m below) pla
         one : (place : ℕ) → slice_get (edge_to n m ∷ []) place ≡ Some e → Tells next below n e
         one zero there =
             let same : edge_to n m ≡ e = one_some there in
-            record { other = m; who = sym (ap (λ x. x.choice.which) same); to = sym (ap (λ x. x.to) same) ∙ plus_one m; waits = is; within = near }
+            record { other = m; who = sym (ap (λ x. x.choice.which) same); to = sym (ap (λ x. x.to) same) ∙ plus_one m; waits = is; single = sym (ap (λ x. x.behind) same); within = near }
         one (suc place) there = absurd cc
     by (inr far) place there = absurd (let h : slice_get [] place ≡ Some e = subst (λ b. slice_get (if b then edge_to n m ∷ [] else []) place ≡ Some e) (far_is far) there in cc)
       where
@@ -90,7 +90,7 @@ module _ {next : ℕ → Option ℕ} {below : ℕ} {fans : List Fan} (w : AreWai
   -- ---- along a walk each process waits for the next
 
   abbrev whos : List Edge → List ℕ
-  whos es = map (λ c. c.which) (choices_along es)
+  whos es = map (λ e. e.choice.which) es
 
   first_who : (a b : ℕ) (es : List Edge) → IsWalk fans (suc a) es → led_to (suc a) es ≡ suc b → slice_get (whos es ++ b ∷ []) 0 ≡ Some a
   first_who a b [] walk end = let same : a ≡ b = cc in ap Some (sym same)
@@ -144,8 +144,8 @@ module _ {next : ℕ → Option ℕ} {below : ℕ} {fans : List Fan} (w : AreWai
       let is : v ≡ suc led.0 = sym back ∙ led.1 in
       circles_from led.0 (e ∷ es) (subst (λ k. IsWalk fans k (e ∷ es)) is walk) (subst (λ k. led_to k (e ∷ es) ≡ k) is back)
 
-  pub found_circle : (way round : List Choice) → IsRound fans way round → Circles next (map (λ c. c.which) round)
-  found_circle way round r = subst (λ l. Circles next (map (λ c. c.which) l)) (sym r.round_is) (round_circles (led_to 0 r.there) r.back r.some r.leaves r.returns)
+  pub found_circle : (way round : List Edge) → IsRound fans way round → Circles next (map (λ e. e.choice.which) round)
+  found_circle way round r = round_circles (led_to 0 way) round r.some r.leaves r.returns
 
   -- ---- round a circle there are walks of any length
 
@@ -180,7 +180,7 @@ module _ {next : ℕ → Option ℕ} {below : ℕ} {fans : List Fan} (w : AreWai
       let rest = round_walk ms c all many j got.0 got.1 in
       let edge = waits_edge m got.0 (all_at ms i m all there) (all_at ms j got.0 all got.1) is in
       let to : suc got.0 ≡ got.0 + 1 = omega arith in
-      record { edges = edge_to m got.0 ∷ rest.edges; walk = (edge, subst (λ k. IsWalk fans k rest.edges) to rest.walk); as_many = ap suc rest.as_many }
+      record { edges = edge_to m got.0 ∷ rest.edges; walk = (edge, subst (λ k. IsWalk fans k rest.edges) to rest.walk); as_many = let h = rest.as_many in omega (arith, h) }
 
   pub no_circle : (many : ℕ) → IsLongest fans 0 many → (ms : List ℕ) → Circles next ms → All (λ x. x < below) ms → ms ≡ []
   no_circle many longest [] c all = refl
@@ -199,16 +199,16 @@ only_edge fan zero e is = (refl, (is.place, ap (λ x. slice_get x.edges.items is
 only_edge fan (suc k) e is = absurd (let h = is.there in cc)
 
 module _ {below : ℕ} where
-  root_within : (edges : List Edge) → IsRoot below edges → (place : ℕ) (e : Edge) → slice_get edges place ≡ Some e → e.to ≤ below
+  root_within : (edges : List Edge) → IsRoot below edges → (place : ℕ) (e : Edge) → slice_get edges place ≡ Some e → (e.to ≤ below) × (e.behind ≡ 0)
   root_within edges r place e there =
       let inside : place < length edges = get_inside edges place e there in
       let near : place < below = omega (arith, inside, r.many) in
       let is : edge_to place place ≡ e = one_some (sym (r.are place near) ∙ there) in
       let to : place + 1 ≡ e.to = ap (λ x. x.to) is in
-      omega (arith, near, to)
+      (omega (arith, near, to), sym (ap (λ x. x.behind) is))
 
-  fan_within : (n : ℕ) (x : Option ℕ) (place : ℕ) (e : Edge) → slice_get (edges_to n x below) place ≡ Some e → e.to ≤ below
-  fan_within n x place e there = let same : ℕ → Option ℕ = λ k. x in let t = tells_one same x refl place e there in omega (arith, t.to, t.within)
+  fan_within : (n : ℕ) (x : Option ℕ) (place : ℕ) (e : Edge) → slice_get (edges_to n x below) place ≡ Some e → (e.to ≤ below) × (e.behind ≡ 0)
+  fan_within n x place e there = let same : ℕ → Option ℕ = λ k. x in let t = tells_one same x refl place e there in (omega (arith, t.to, t.within), t.single)
 
   pub first_within : (fan : Fan) → IsRoot below fan.edges.items → LeadWithin below 0 (fan ∷ [])
   first_within fan r = record { many = refl; within = λ k e is. let o = only_edge fan k e is in root_within fan.edges.items r o.1.0 e o.1.1 }
@@ -220,7 +220,7 @@ module _ {below : ℕ} where
         within = λ k e edge. by k e edge (push_cases fans fan edge.fan k edge.there);
       }
     where
-      by : (k : ℕ) (e : Edge) (edge : IsEdge (fans ++ fan ∷ []) k e) → (slice_get fans k ≡ Some edge.fan) ⊎ ((k ≡ length fans) × (fan ≡ edge.fan)) → e.to ≤ below
+      by : (k : ℕ) (e : Edge) (edge : IsEdge (fans ++ fan ∷ []) k e) → (slice_get fans k ≡ Some edge.fan) ⊎ ((k ≡ length fans) × (fan ≡ edge.fan)) → (e.to ≤ below) × (e.behind ≡ 0)
       by k e edge (inl old) = h.within k e (record { fan = edge.fan; place = edge.place; there = old; is = edge.is })
       by k e edge (inr new) = fan_within count x edge.place e (ap (λ l. slice_get l edge.place) (sym is ∙ ap (λ y. y.edges.items) new.1) ∙ edge.is)
 
@@ -249,7 +249,8 @@ module _ {below : ℕ} where
       record {
         some = let m = w.many in omega (arith, m);
         few = let m = w.many in omega (arith, m, h);
-        within = λ k e is. let l = w.within k e is in let m = w.many in omega (arith, l, m);
+        within = λ k e is. let l = (w.within k e is).0 in let m = w.many in omega (arith, l, m);
+        short = λ k e is. let l = (w.within k e is).1 in omega (arith, l);
       }
 
 -- ---- edges from node 0
@@ -274,12 +275,11 @@ module _ {next : ℕ → Option ℕ} {below : ℕ} {fans : List Fan} (w : AreWai
   pub no_waits : (many : ℕ) → IsLongest fans 0 many → IsCircle next below []
   no_waits many longest = record { waits = λ i m there. absurd cc; once = λ i j m there again. absurd cc; unless = λ e ms circles all. no_circle w many longest ms circles all }
 
-  pub some_circles : (way round : List Choice) → IsRound fans way round → (0 < length (map (λ c. c.which) round)) × Circles next (map (λ c. c.which) round)
+  pub some_circles : (way round : List Edge) → IsRound fans way round → (0 < length (map (λ e. e.choice.which) round)) × Circles next (map (λ e. e.choice.which) round)
   some_circles way round r =
-      let many : length (map (λ c. c.which) round) ≡ length round = length-map round (λ c. c.which) in
-      let back : length round ≡ length r.back = ap length r.round_is ∙ length-map r.back (λ x. x.choice) in
+      let many : length (map (λ e. e.choice.which) round) ≡ length round = length-map round (λ e. e.choice.which) in
       let some = r.some in
-      (omega (arith, many, back, some), found_circle w way round r)
+      (omega (arith, many, some), found_circle w way round r)
 
 -- what is told of some in a ring
 pub ring_is : (next : ℕ → Option ℕ) (below : ℕ) (ns : List ℕ) → IsRing next ns → IsCircle next below ns

@@ -151,7 +151,7 @@ pub record MarkedIn (stand : ℕ → Bool) (kind : Uses → Numbers) (ps : List 
 -- ---- the graph of who waits for whom: the node of a process has its number and one
 
 abbrev pub edge_to : ℕ → ℕ → Edge
-edge_to n next = record { to = next + 1; choice = record { which = n; pick = 0 } }
+edge_to n next = record { to = next + 1; choice = record { which = n; pick = 0 }; behind = 0; tail = 0 }
 
 abbrev pub edges_to : ℕ → Option ℕ → ℕ → List Edge
 edges_to n None below = []
@@ -178,7 +178,7 @@ pub record AreWaits (next : ℕ → Option ℕ) (below count : ℕ) (fans : List
 -- no edge leads further
 pub record LeadWithin (below count : ℕ) (fans : List Fan) : Type 0 where
   pub many : length fans ≡ count + 1
-  pub within : (k : ℕ) (e : Edge) → IsEdge fans k e → e.to ≤ below
+  pub within : (k : ℕ) (e : Edge) → IsEdge fans k e → (e.to ≤ below) × (e.behind ≡ 0)
 
 -- ---- once round a circle
 

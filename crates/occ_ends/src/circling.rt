@@ -76,6 +76,8 @@ fn edge(number: u32, next: u32) -> Edge
     Edge {
         to: next + 1,
         choice,
+        behind: 0,
+        tail: 0,
     }
 }
 
@@ -106,13 +108,13 @@ fn graph(alloc: Global, ends: &Ends, tables: &Tables, below: u32) -> Result<Vec<
     Ok(fans)
 }
 
-/// The processes that the choices of a way round tell.
-fn members(alloc: Global, round: &[Choice]) -> Result<Vec<u32>, AllocError>
-    ensures { IfOk result (λ numbers. numbers.items ≡ map (λ c. c.which) round.now) }
+/// The processes that the edges of a way round tell.
+fn members(alloc: Global, round: &[Edge]) -> Result<Vec<u32>, AllocError>
+    ensures { IfOk result (λ numbers. numbers.items ≡ map (λ e. e.choice.which) round.now) }
 {
     let mut numbers = Vec::new(alloc);
-    for choice in round {
-        numbers.push(choice.which)?;
+    for edge in round {
+        numbers.push(edge.choice.which)?;
     }
     Ok(numbers)
 }

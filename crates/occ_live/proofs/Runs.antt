@@ -1,5 +1,5 @@
 -- A live run is a replay.
-use Rattle.std.proofs.Common.{◌≡◌, ◌∙◌, refl, sym, ap, subst, Bool, true, false, IsTrue, ℕ, ◌+◌, ◌<◌, List, [], ◌∷◌, ◌++◌, Some, length, take, length-append}
+use Rattle.std.proofs.Common.{◌≡◌, ◌∙◌, refl, sym, ap, subst, Bool, true, IsTrue, ℕ, ◌+◌, List, [], ◌∷◌, ◌++◌, Some, length, take, length-append}
 use Rattle.std.specs.Prelude.{slice_get}
 use mathlib.Core.Bool.{true≢false}
 use Rattle.occ_machine.specs.Compiled.{Program}

@@ -1,5 +1,5 @@
 -- A live run goes on over the bytes that it has, and over more.
-use Rattle.std.proofs.Common.{◌≡◌, ◌∙◌, refl, sym, ap, subst, Bool, true, false, IsFalse, IsTrue, ℕ, suc, ◌+◌, ◌<◌, ◌^◌, List, [], ◌∷◌, ◌++◌, Some, None, Option, get_or, length, take, drop, arith, length-append}
+use Rattle.std.proofs.Common.{◌≡◌, ◌∙◌, refl, sym, ap, subst, Bool, true, false, IsFalse, IsTrue, ℕ, suc, ◌<◌, ◌^◌, List, [], ◌∷◌, ◌++◌, Some, None, Option, get_or, length, drop, arith, length-append}
 use Rattle.std.specs.Io.KnownBytes.{Consumes}
 use mathlib.Core.Bool.{true≢false}
 use Rattle.occ_term.specs.declared.communication.Communication.{Communication}
@@ -71,10 +71,10 @@ module _ (p : Program) (list : List Choice) (read : List ℕ) (is_open : Bool) (
   heard_same stays = record { begun_so = x; stays = stays }
 
   module _ (still : IsTrue is_open) (asks : LooksPastBytes read n begun choice.pick) where
-    abbrev after : Task
-    after = ready_with x.began.left (standing_at begun.end items x.began.left.wait)
+    abbrev stopped : Task
+    stopped = ready_with x.began.left (standing_at begun.end items x.began.left.wait)
 
-    past : StaysWithin choice.pick its.net begun.number after → ⊥
+    past : StaysWithin choice.pick its.net begun.number stopped → ⊥
     past = asks p x.began.first x.began.left items its.net (held_before p read choice x.old begun items n x.began its.net its.holds) x.began.may (left_here p read choice x.old begun items n x.began)
 
     none_left : its.net.keyboard ≡ []
@@ -98,7 +98,7 @@ module _ (p : Program) (list : List Choice) (read : List ℕ) (is_open : Bool) (
         number = begun.number;
         body = x.began.turn.body;
         before = x.began.turn.before;
-        after = after;
+        after = stopped;
         selects = selects;
         has_body = x.began.turn.has_body;
         has_task = ap (λ l. slice_get l begun.number) its.holds.tasks ∙ x.began.turn.there;
@@ -234,8 +234,10 @@ pub is_marked : {W : Type 0} (contents : W → Option (List ℕ)) (first out : C
 is_marked contents first out mark trace h = record { before = h.before; behind = h.behind; are = h.are; place = h.place }
 
 module _ (p : Program) (list : List Choice) (read : List ℕ) (is_open : Bool) (kept : List Choice) (n : Tables) (s : StandsLive p list read is_open kept n) where
-  pub has_come : length kept < 2 ^ 64 → HasCome p read kept n
-  has_come few = record { net = s.net; few = few; replays = live_replays p list read is_open kept s.net s.run; holds = s.holds }
+  pub has_come : (bytes : List ℕ) (cs : List Choice) → bytes ≡ read → cs ≡ kept → length cs < 2 ^ 64 → HasCome p bytes cs n
+  has_come bytes cs e f few =
+      subst (λ l. HasCome p l cs n) (sym e)
+      (record { net = s.net; few = few; replays = subst (λ l. Replays p read l s.net) (sym f) (live_replays p list read is_open kept s.net s.run); holds = s.holds })
 
   begins_list : Begins kept list
   begins_list = live_begins p list read is_open kept s.net s.run

@@ -26,7 +26,7 @@ returns c = λ p keyboard net h.
     let waits : AreWaits next c.min-below.result c.min-below.result fans = c.in_ok-fans.ensures.waits p keyboard net h in
     let lasts : IsLasting fans (Forever c.in-Forever.way c.in-Forever.round) =
     subst (λ l. IsLasting l (Forever c.in-Forever.way c.in-Forever.round)) c.deref.ensures.value (subst (IsLasting c.deref.result.now) c.in-Forever.is c.in_ok-round.ensures) in
-    let same : c.in_ok-numbers-in-Forever.numbers.items ≡ map (λ x. x.which) c.in-Forever.round.items = c.in_ok-numbers-in-Forever.ensures ∙ ap (map (λ x. x.which)) c.as_slice.ensures.value in
+    let same : c.in_ok-numbers-in-Forever.numbers.items ≡ map (λ x. x.choice.which) c.in-Forever.round.items = c.in_ok-numbers-in-Forever.ensures ∙ ap (map (λ x. x.choice.which)) c.as_slice.ensures.value in
     let found = some_circles waits c.in-Forever.way.items c.in-Forever.round.items lasts in
     let ring : IsRing next c.once_round.result.items =
     c.once_round.ensures next (subst (λ ns. 0 < length ns) (sym same) found.0) (subst (Circles next) (sym same) found.1) in

@@ -1,4 +1,4 @@
-use Rattle.std.proofs.Common.{◌≡◌, ◌∙◌, ◌+◌, ◌-◌, ◌<◌, ◌^◌, refl, sym, ap, subst, true, List, [], None, Some, length, take, rules, arith, length-append}
+use Rattle.std.proofs.Common.{◌≡◌, ◌∙◌, ◌+◌, ◌-◌, ◌<◌, ◌^◌, refl, sym, ap, subst, true, [], None, Some, length, rules, arith, length-append}
 use Rattle.std.specs.Prelude.{slice_get}
 use Rattle.std.proofs.lemmas.Option.{slice_get_within}
 use mathlib.Core.Bool.{true≢false}
@@ -13,7 +13,7 @@ use Rattle.occ_live.proofs.Runs.{live_used}
 use Rattle.occ_shown.specs.Counting.{writer_of}
 use Rattle.occ_shown.proofs.Growth.{Appends-none}
 use Rattle.occ_live.proofs.Shown.{if_err_both, if_err_map, if_ok_map, part_fails, same_count, told_on, up_to, write_told}
-use Rattle.occ_live.proofs.Standing.{all_written, fails_live, is_live, is_marked, read_nothing, shows_nothing, starts_live}
+use Rattle.occ_live.proofs.Standing.{all_written, fails_live, has_come, is_live, is_marked, read_nothing, shows_nothing, starts_live}
 use Rattle.occ_live.proofs.living.run_live.Goals as goal
 
 pub loop-ending-init : goal.loop-ending-init
@@ -222,3 +222,23 @@ returns-in-Err-turned-clause-told g c =
 pub returns-in-Err-show_at_times-clause-told : goal.returns-in-Err-show_at_times-clause-told
 returns-in-Err-show_at_times-clause-told g c =
     write_told c.args.keys.now c.live_turn-turned.new.keys c.args.out.now c.live_turn-turned.new.out c.show_at_times.new.out c.in-Err-show_at_times.unshown (c.in-Ok-turned.ensures.none_failed ∙ c.loop-ending.invariant.failed) c.in-Err-show_at_times.ensures.told
+
+pub come_to-requires-clause-stands : goal.come_to-requires-clause-stands
+come_to-requires-clause-stands g c =
+    let kept = c.loop-ending.kept.items in
+    let few : length kept < 2 ^ 64 = search rules in
+    has_come c.args.code.now (choices_of c.args.plan.now) c.loop-ending.bytes.items c.loop-ending.is_open kept c.loop-ending.tables c.loop-ending.invariant.stands c.deref.result.now kept c.deref.ensures.value refl few
+
+pub come_to-requires-in_default-at-clause-stands : goal.come_to-requires-in_default-at-clause-stands
+come_to-requires-in_default-at-clause-stands g c =
+    let kept = c.loop-ending.kept.items in
+    let few : length kept < 2 ^ 64 = search rules in
+    has_come c.args.code.now (choices_of c.args.plan.now) c.loop-ending.bytes.items c.loop-ending.is_open kept c.loop-ending.tables c.loop-ending.invariant.stands c.deref-in_default-at.result.now kept c.deref-in_default-at.ensures.value refl few
+
+pub show_at_times-requires-clause-stands : goal.show_at_times-requires-clause-stands
+show_at_times-requires-clause-stands g c =
+    let t = c.in-Ok-turned.ensures in
+    let read = c.deref-in-loop-ending in
+    let kept = c.deref-in-loop-ending-2 in
+    let few : length kept.result.now < 2 ^ 64 = search rules in
+    has_come c.args.code.now (choices_of c.args.plan.now) c.live_turn-turned.new.bytes.items c.in-Ok-turned.still_open c.live_turn-turned.new.kept.items c.live_turn-turned.new.tables t.stands read.result.now kept.result.now read.ensures.value kept.ensures.value few
