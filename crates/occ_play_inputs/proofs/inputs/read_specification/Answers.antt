@@ -3,8 +3,8 @@ use Rattle.occ_play_inputs.proofs.Joining.{one_text}
 use Rattle.occ_sources.specs.Sources.{joined}
 use Rattle.occ_play_inputs.proofs.inputs.read_specification.Goals as goal
 
-pub returns-in_ok-read_behind-clause-joined : goal.returns-in_ok-read_behind-clause-joined
-returns-in_ok-read_behind-clause-joined g c =
+pub returns-clause-joined : goal.returns-clause-joined
+returns-clause-joined g c =
     let put = c.in_ok-read_behind.ensures.joined in
     let source = c.read_behind.new.source in
     one_text source.bytes.items source.ends.items put.0
