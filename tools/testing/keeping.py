@@ -78,8 +78,8 @@ RUNS = [
     ("--within echo.occ a.occ", "a", (0, SAME.format("1 answer") + "each run ends within 2 turns\n", "")),
     ("--within echo.occ a.occ", "b", (2, '1 ended "a" by 2 choices\nnot one of the specification\'s: 1 answer\n', "")),
     # bounds
-    ("--within a.occ ab.occ --states 10", "", (4, "no verdict: the program passed the bound of 10 states\n", "")),
-    ("--within ab.occ a.occ --states 10", "", (4, "no verdict: the specification passed the bound of 10 states\n", "")),
+    ("--within a.occ ab.occ --states 4", "", (4, "no verdict: the program passed the bound of 4 states\n", "")),
+    ("--within ab.occ a.occ --states 4", "", (4, "no verdict: the specification passed the bound of 4 states\n", "")),
     ("--within ab.occ b.occ --states 1", "", (4, "no verdict: the program passed the bound of 1 state\n", "")),
     # refusals
     ("--within shared.occ a.occ", "", (1, "", "specification: refused 50 SharedVariable line 5 x\n")),
