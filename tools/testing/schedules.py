@@ -78,6 +78,28 @@ def crowded(program):
             yield f"no thread was refused: {told}"
 
 
+def deep(program):
+    """Faults of searches of states that many turns lead to, or that have shown much: each takes little memory."""
+    sums = """PROC main (CHAN OF BYTE keyboard, screen)
+  CHAN OF INT c:
+  PAR
+    SEQ i = 0 FOR 4000
+      c ! i
+    SEQ i = 0 FOR 4000
+      INT x:
+      ALT
+        c ? x
+          SKIP
+:
+"""
+    letters = "PROC main (CHAN OF BYTE keyboard, screen)\n  WHILE TRUE\n    screen ! 'a'\n:\n"
+    with room({"sums.occ": sums, "letters.occ": letters}) as folder:
+        for words, status in ((["--explore=full", "sums.occ"], 0), (["--explore", "--states", "4000", "letters.occ"], 4)):
+            done = run(program, folder, words, memory=100_000 * KILOBYTE)
+            if done[0] != status:
+                yield f"{' '.join(words)}: {done}"
+
+
 def jobs():
     """The tests."""
     cases = [*all_cases()]
@@ -94,3 +116,4 @@ def jobs():
         if case.where.startswith("tests/runs/networks.txt") and case.title.startswith(("a pipeline", "a tag")) and "--trace" in case.words:
             yield Job(f"{case.where}: cut short", lambda program, source=case.source: cut_short(program, source))
     yield Job("64 threads in little memory", crowded)
+    yield Job("searches of what is deep and of what shows much", deep)
