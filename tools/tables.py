@@ -1,6 +1,6 @@
 #!/usr/bin/env python3
 """Keeps files equal to what they are made from: the names and the causes of refusals, which docs/language.md has; the words of the
-command line, in crates/occ_play_inputs/src/words.rt, from which the manual page and the shells' completions are made; and the index of
+command line, in crates/occ_play_inputs/src/command.rt, from which the manual page and the shells' completions are made; and the index of
 rules, docs/rules.md, from docs/rules.txt (tools/rules.py).
 
     python3 tools/tables.py           says which file differs; the status is 1 where one does
@@ -15,6 +15,7 @@ sys.dont_write_bytecode = True
 import rules
 
 TOP = pathlib.Path(__file__).resolve().parent.parent
+WORDS = TOP / "crates/occ_play_inputs/src/command.rt"
 
 
 def literal(text):
@@ -49,20 +50,10 @@ def names():
 def words():
     """The words of the command line, in the order of the help: name, name of the value, whether it has to stand behind `=`,
     what the value may be, and what the help says."""
-    text = (TOP / "crates/occ_play_inputs/src/words.rt").read_text()
-    names = {name: re.findall(r'"(\w+)"', values) for name, values in re.findall(r"static (\w+): \[&str; \d+\] = \[(.*?)\];", text)}
-    made = {head: body for head, body in re.findall(r"(?ms)^fn (\w+_word)<'a>\(alloc: Global\)[^{]*\{\n(.*?)^\}", text)}
-    for head in re.findall(r"(?m)^ +(?:\d+|_) => (?:Ok\()?(\w+_word)\(alloc\)", text):
-        body = made[head]
-        long, value = (re.search(rf'\.{field}\("([^"]+)"\)', body) for field in ("long", "value_name"))
-        one_of = re.search(r"ValueParser::Names\((\w+)\.as_slice", body)
-        yield (
-            long[1] if long else None,
-            value[1] if value else None,
-            "require_equals(true)" in body,
-            names[one_of[1]] if one_of else [],
-            re.search(r'\.help\(\s*"([^"]+)"', body)[1],
-        )
+    rows = re.findall(r'Word \{ name: "([^"]+)", form: Form::(\w+), value: "([^"]*)", takes: (.*?),\s+needs: .*?help: "(.*?)" \}', WORDS.read_text(), re.S)
+    for name, form, value, takes, said in rows:
+        one_of = re.findall(r'"(\w+)"', takes)
+        yield None if form == "Files" else name, value or None, form == "Search", one_of, said
     yield "help", None, False, [], "Prints this help"
     yield "version", None, False, [], "Prints the version"
 
@@ -74,7 +65,7 @@ def version():
 
 def manual():
     """The manual page."""
-    text = (TOP / "crates/occ_play_inputs/src/words.rt").read_text()
+    text = WORDS.read_text()
     about = re.search(r'\.about\("([^"]+)"\)', text)[1]
     turn, statuses, example = re.search(r'MORE_HELP: &str =\s*r#"(.*?)\n"#', text, re.S)[1].split("\n\n")
     escaped = lambda said: re.sub(r"(?m)^\.", r"\\&.", said.replace("\\", "\\e").replace("-", "\\-").replace("'", "\\(aq"))

@@ -3,6 +3,7 @@
 #![tactic(auto)]
 
 mod apart;
+mod command;
 pub mod failure;
 pub mod inputs;
 pub mod words;
