@@ -7,3 +7,5 @@ pub mod Explained
 pub mod Trying
 pub mod Terminals
 pub mod Looked
+pub mod Traced
+pub mod Watched

@@ -22,6 +22,7 @@ use crate::terminal::{allows_bold, explains};
 use crate::tracing::trace;
 use crate::troubles::explain_failure;
 use crate::typing::leave_typed;
+use crate::watching::play_watching;
 use occ_files::{Disk, Folder, Noting, Reason, printed_name, reason_of};
 use occ_play::{
     FreeGate, Options, PlayFault, Played, RunFault, play_in, play_workers_in, status_of,
@@ -29,7 +30,6 @@ use occ_play::{
 use occ_play_inputs::failure::{of_arguments, of_words};
 use occ_play_inputs::{Failure, Inputs, Stream, Trouble, Words, read_words};
 use occ_shown::Counted;
-use occ_watching::play_watching;
 use std::alloc::Global;
 use std::io::{IsTerminal, Write};
 use std::rt::{Env, Files};

@@ -3,9 +3,9 @@ ghost use Rattle.std.specs.Prelude.{◌≡◌, ◌<◌, ◌-◌, ◌^◌, IfSome
 ghost use Rattle.occ_board.specs.Traces.{publishing};
 ghost use Rattle.occ_play.specs.Watching.{MayTellText};
 ghost use Rattle.occ_shown.specs.Counting.{failures_of};
-ghost use Rattle.occ_watching.specs.Coming.{ToldByCrew, SeenByCrew};
+ghost use Rattle.occ_program.specs.Watched.{ToldByCrew, SeenByCrew};
 
-use crate::looking::{last_lines, look_on};
+use crate::looks::{last_lines, look_on};
 use occ_play::{
     Board, FreeGate, Naming, Note, Opened, Options, PlayFault, Played, Publisher, Watcher,
     play_watched,
@@ -21,7 +21,7 @@ use std::thread::{Threads, join};
 /// times. Beside the answer come the lines of what that thread's watcher is shown when the run is over: those of all
 /// communications of the run that shows the answer. There are none where there was no memory for them, or where the watcher was
 /// given no place at the board. None at all where there was no memory for the board.
-pub fn play_watching<R: Threads + Wait + Sync, W: Write>(
+pub(crate) fn play_watching<R: Threads + Wait + Sync, W: Write>(
     rt: &R,
     options: &Options,
     alloc: Global,

@@ -1,8 +1,8 @@
 use Rattle.std.proofs.Common.{◌≡◌, [], ap, false, subst, sym}
 use Rattle.std.specs.Prelude.{IfSome}
 use Rattle.occ_board.specs.Traces.{held_by, publishing}
-use Rattle.occ_watching.proofs.Coming.{noted_answer, noted_fault}
-use Rattle.occ_watching.proofs.watching.play_slot.Goals as goal
+use Rattle.occ_program.proofs.Watched.{noted_answer, noted_fault}
+use Rattle.occ_program.proofs.watching.play_slot.Goals as goal
 
 pub returns-in-Ok : goal.returns-in-Ok
 returns-in-Ok g c =

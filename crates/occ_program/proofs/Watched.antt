@@ -14,7 +14,7 @@ use Rattle.occ_play.specs.declared.fault.PlayFault.TheVariants as play
 use Rattle.occ_play.specs.Playing.{AfterFault, Wrote}
 use Rattle.occ_play.specs.Watching.{IsWatched}
 use Rattle.occ_play.specs.Working.{FailsBy, IsAnswerWithin, IsSomeAnswerWithin, IsSomeCrewsAnswer}
-use Rattle.occ_watching.specs.Coming.{CameByCrew, CameTo, ToldByCrew, SeenByCrew}
+use Rattle.occ_program.specs.Watched.{CameByCrew, CameTo, ToldByCrew, SeenByCrew}
 
 came_from_fault : {W : Type 0} (contents : W → Option (List ℕ)) (Answers : Played → List ℕ → Type 0) (Refusal : PlayFault → Type 0) (old new : Counted W) (f : PlayFault)
     → AfterFault contents (λ bytes. (played : Played) × Answers played bytes) Refusal old new f → CameTo Answers Refusal (Err f)

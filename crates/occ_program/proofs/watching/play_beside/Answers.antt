@@ -1,9 +1,9 @@
 use Rattle.std.proofs.Common.{◌∙◌, Global, Some, ap, subst, sym}
 use Rattle.std.specs.Prelude.{IfSome}
-use Rattle.occ_watching.specs.Coming.{SeenByCrew, ToldByCrew}
-use Rattle.occ_watching.proofs.Coming.{seen_answer, seen_fault}
-use Rattle.occ_watching.proofs.watching.play_beside.Goals as goal
-use Rattle.occ_watching.proofs.watching.play_beside.Goals.{in-Some-Ok, in-Some-Err, in-None}
+use Rattle.occ_program.specs.Watched.{SeenByCrew, ToldByCrew}
+use Rattle.occ_program.proofs.Watched.{seen_answer, seen_fault}
+use Rattle.occ_program.proofs.watching.play_beside.Goals as goal
+use Rattle.occ_program.proofs.watching.play_beside.Goals.{in-Some-Ok, in-Some-Err, in-None}
 
 pub returns : goal.returns
 returns g c =
