@@ -11,7 +11,7 @@ use Rattle.occ_play.specs.declared.playing.Played.{Played}
 use Rattle.occ_play.specs.declared.fault.PlayFault.{PlayFault}
 use Rattle.occ_play.specs.Playing.{IsAnswer, Refuses}
 use Rattle.occ_play.specs.Status.{fault_status}
-use Rattle.occ_seeds.specs.Seeds.{seeded}
+use Rattle.occ_play_inputs.specs.Seeds.{seeded}
 
 -- a run of the source by these choices ends
 pub record RunEnds (options : Options) (source keyboard : List ℕ) (list : List Choice) : Type 0 where

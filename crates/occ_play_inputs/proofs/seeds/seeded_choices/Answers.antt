@@ -1,6 +1,6 @@
-use Rattle.occ_seeds.specs.Seeds.{seeded}
-use Rattle.occ_seeds.proofs.Rows.{pushed}
-use Rattle.occ_seeds.proofs.seeds.seeded_choices.Goals as goal
+use Rattle.occ_play_inputs.specs.Seeds.{seeded}
+use Rattle.occ_play_inputs.proofs.SeedRows.{pushed}
+use Rattle.occ_play_inputs.proofs.seeds.seeded_choices.Goals as goal
 
 pub loop-preserved : goal.loop-preserved
 loop-preserved c =

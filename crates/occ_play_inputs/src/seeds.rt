@@ -1,7 +1,7 @@
 //! Choices that are made from a seed.
 ghost use Rattle.std.specs.Prelude.{◌≡◌, IfOk};
 ghost use Rattle.occ_choices.specs.Plans.{choices_of};
-ghost use Rattle.occ_seeds.specs.Seeds.{number_after, seeded};
+ghost use Rattle.occ_play_inputs.specs.Seeds.{number_after, seeded};
 
 use occ_choices::Plan;
 use occ_net_replay::Choice;

@@ -1,7 +1,7 @@
 -- One choice more of those that a seed stands for.
 use Rattle.std.proofs.Common.{◌≡◌, ◌∙◌, ℕ, suc, ◌+◌, ◌-◌, ◌<◌, ◌/◌, List, [], ◌∷◌, ◌++◌, sym, ap, subst, append_assoc, arith}
 use Rattle.occ_net_replay.specs.declared.choice.Choice.{Choice}
-use Rattle.occ_seeds.specs.Seeds.{number_after, seeded}
+use Rattle.occ_play_inputs.specs.Seeds.{number_after, seeded}
 
 -- the two numbers behind this one, as a choice
 abbrev pub choice_after : ℕ → Choice
