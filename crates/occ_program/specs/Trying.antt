@@ -1,6 +1,6 @@
 -- Seeds that are tried one after the other.
 -- Manual: nothing; this is (own).
-use Rattle.std.specs.Prelude.{Bool, Err, IfErr, IfOk, IsFalse, IsTrue, List, None, Ok, Option, Result, Some, codes, false, ℕ, ⊤, ◌+◌, ◌++◌, ◌<◌, ◌≡◌, ◌≢◌, ◌⊎◌}
+use Rattle.std.specs.Prelude.{Bool, IfErr, IfOk, IsFalse, IsTrue, List, None, Ok, Option, Result, Some, codes, false, ℕ, ⊤, ◌+◌, ◌++◌, ◌<◌, ◌≡◌, ◌≢◌, ◌⊎◌}
 use Rattle.std.specs.Fmt.{decimal}
 use Rattle.occ_net_replay.specs.declared.choice.Choice.{Choice}
 use Rattle.occ_choices.specs.Plans.{choices_of}
