@@ -24,3 +24,4 @@ pub mod Rerun
 pub mod CountedPicks
 pub mod Rowed
 pub mod Halves
+pub mod Retold
