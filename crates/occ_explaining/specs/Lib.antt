@@ -1,5 +1,6 @@
 pub mod Files
 pub mod Explaining
+pub mod Shown
 pub mod Typing
 pub mod Objects
 pub mod Unreached

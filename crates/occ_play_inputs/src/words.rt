@@ -4,10 +4,10 @@ ghost use Rattle.std.specs.Option.{ForSome, option_copied};
 ghost use Rattle.occ_choices.specs.Crews.{IsCrew};
 ghost use Rattle.occ_code.specs.CodeOf.{IsQuantum};
 ghost use Rattle.occ_play_inputs.specs.Modes.{IsMode};
-ghost use Rattle.occ_play_inputs.specs.Paths.{AreApart, HasOwnFile, IsSourcePath, IsUnread, IsUntyped, IsUnwritten};
+ghost use Rattle.occ_play_inputs.specs.Paths.{AreApart, HasOwnFile, IsPageApart, IsSourcePath, IsUnread, IsUntyped, IsUnwritten};
 ghost use Rattle.occ_play_inputs.specs.Searches.{IsFull, IsSearch};
 
-use crate::apart::{are_apart, are_untyped, are_unwritten, has_own_file, is_unread};
+use crate::apart::{are_apart, are_untyped, are_unwritten, has_own_file, is_page_apart, is_unread};
 use clap::builder::ValueParser;
 use clap::error::ErrorKind;
 use clap::{Arg, ArgAction, ArgMatches, Command, Error, value_parser};
@@ -51,12 +51,12 @@ pub const MOST_STATES: u32 = 10_000_000;
 static TOLD: [&str; 3] = ["answers", "endings", "full"];
 
 /// How many words there are.
-const WORDS: u32 = 25;
+const WORDS: u32 = 26;
 
 /// The words that say something of one run.
-static OF_ONE_RUN: [&str; 14] = [
-    "limit", "workers", "choices", "chart", "arrows", "last", "trace", "trace-to", "steps", "seed",
-    "tries", "watch", "live", "typed",
+static OF_ONE_RUN: [&str; 15] = [
+    "limit", "workers", "choices", "chart", "arrows", "last", "trace", "trace-to", "steps", "page",
+    "seed", "tries", "watch", "live", "typed",
 ];
 
 /// The words beside which a run can't be live.
@@ -67,7 +67,7 @@ static OF_A_SEARCH: [&str; 4] = ["record", "explore", "within", "states"];
 
 /// What is told where two words name one file.
 const ONE_FILE: &str =
-    "--record, --typed, --chart, --trace-to and --steps each write into a file of their own";
+    "--record, --typed, --chart, --trace-to, --steps and --page each write into a file of their own";
 
 /// What is told below the words.
 const MORE_HELP: &str =
@@ -140,6 +140,8 @@ pub struct Words<'a> {
     pub json: bool,
     /// The path of the file into which a line for each turn is written.
     pub steps: Option<&'a str>,
+    /// The path of the file into which a page that shows the run is written.
+    pub page: Option<&'a str>,
     /// What a search of all lists of choices tells; none where one run is played. Then `record` names files, one for each
     /// answer, and the limit, the workers, the choices, the trace, the turns and the chart say nothing.
     pub explore: Option<Asked>,
@@ -169,6 +171,8 @@ pub struct Words<'a> {
     ghost typed_unread: { IsUnread typed file choices },
     ghost typed_apart: { HasOwnFile typed «record» chart trace_to steps },
     ghost more_untyped: { All (IsUntyped typed) more.items },
+    ghost page_apart: { IsPageApart page file choices «record» chart trace_to steps typed },
+    ghost more_unpaged: { All (IsUntyped page) more.items },
 }
 
 /// Reads the words, of which the first is the program's name.
@@ -273,6 +277,12 @@ fn words_of<'a>(matches: &ArgMatches<'a>, more: Vec<&'a str>) -> Result<Words<'a
     {
         return Err(ONE_FILE);
     }
+    let page = matches.get_str("page");
+    if !is_page_apart(page, file, choices, record, chart, trace_to, steps, typed)
+        || !are_untyped(more.as_slice(), page)
+    {
+        return Err(ONE_FILE);
+    }
     let (json, check) = (matches.get_flag("json"), matches.get_flag("check"));
     if json && !check && trace_to.is_none() {
         return Err("--json stands beside --trace-to or --check");
@@ -299,6 +309,7 @@ fn words_of<'a>(matches: &ArgMatches<'a>, more: Vec<&'a str>) -> Result<Words<'a
         trace_to,
         json,
         steps,
+        page,
         explore: explore_of(explore),
         full: is_full(explore),
         within,
@@ -438,14 +449,15 @@ fn word_of<'a>(alloc: Global, number: u32) -> Result<Arg<'a>, AllocError> {
         13 => Ok(trace_to_word(alloc)),
         14 => Ok(json_word(alloc)),
         15 => Ok(steps_word(alloc)),
-        16 => Ok(watch_word(alloc)),
-        17 => live_word(alloc),
-        18 => Ok(explain_word(alloc)),
-        19 => plain_word(alloc),
-        20 => explore_word(alloc),
-        21 => within_word(alloc),
-        22 => Ok(states_word(alloc)),
-        23 => check_word(alloc),
+        16 => Ok(page_word(alloc)),
+        17 => Ok(watch_word(alloc)),
+        18 => live_word(alloc),
+        19 => Ok(explain_word(alloc)),
+        20 => plain_word(alloc),
+        21 => explore_word(alloc),
+        22 => within_word(alloc),
+        23 => Ok(states_word(alloc)),
+        24 => check_word(alloc),
         _ => Ok(file_word(alloc)),
     }
 }
@@ -597,6 +609,12 @@ fn steps_word<'a>(alloc: Global) -> Arg<'a> {
         .help(
             "Writes a line for each turn into FILE: who was ready, who took the turn, and where it stopped",
         )
+}
+
+fn page_word<'a>(alloc: Global) -> Arg<'a> {
+    Arg::new(alloc, "page").long("page").value_name("FILE").help(
+        "Writes a page for a browser into FILE, which goes through the run turn by turn",
+    )
 }
 
 fn watch_word<'a>(alloc: Global) -> Arg<'a> {

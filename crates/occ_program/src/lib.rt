@@ -13,6 +13,7 @@ mod keeping;
 mod live;
 mod looking;
 mod page;
+mod paging;
 pub mod program;
 mod reading;
 mod recording;
