@@ -8,7 +8,7 @@ ghost use Rattle.occ_program.specs.Pages.{LeavesOrRefuses, TracePage, Traces, Tr
 use crate::drawing::plan_of;
 use crate::page::{Page, write_page};
 use crate::program::options_of;
-use crate::traced::{Form, traced};
+use occ_explaining::{Form, traced};
 use occ_files::Folder;
 use occ_play::{PlayFault, Played};
 use occ_play_inputs::{Failure, Inputs, Stream, Words};

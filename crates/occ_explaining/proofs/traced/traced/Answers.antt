@@ -2,8 +2,8 @@ use Rattle.std.proofs.Common.{◌∙◌, List, ap}
 use Rattle.occ_term.specs.Runs.{Entry, entries}
 use Rattle.occ_term.specs.declared.names.Channel.{Channel}
 use Rattle.occ_shown.specs.Answers.{names_of}
-use Rattle.occ_program.specs.Traced.{form_text}
-use Rattle.occ_program.proofs.traced.traced.Goals as goal
+use Rattle.occ_explaining.specs.Traced.{form_text}
+use Rattle.occ_explaining.proofs.traced.traced.Goals as goal
 
 pub returns-clause-traced : goal.returns-clause-traced
 returns-clause-traced c =

@@ -3,7 +3,7 @@ ghost use Rattle.std.specs.Prelude.{◌≡◌, IfErr, IfOk};
 ghost use Rattle.occ_play.specs.Playing.{Refuses};
 ghost use Rattle.occ_shown.specs.Answers.{entries_in};
 ghost use Rattle.occ_term.specs.Runs.{entries};
-ghost use Rattle.occ_program.specs.Traced.{IsFormText, IsTracedBy};
+ghost use Rattle.occ_explaining.specs.Traced.{IsFormText, IsTracedBy};
 
 use occ_board::Shown;
 use occ_choices::Plan;
@@ -17,7 +17,7 @@ use std::alloc::{AllocError, Global};
 
 /// How a trace is written.
 #[derive(Clone, Copy, Debug, Drop)]
-pub(crate) enum Form {
+pub enum Form {
     /// As the lines that an answer has of it.
     Lines,
     /// As an object of JSON for each communication, and one for the ending.
@@ -62,7 +62,7 @@ fn text_of(alloc: Global, list: &[Shown], ending: Ending, form: Form) -> Result<
 /// # Errors
 ///
 /// As of `play_in`, but for `Write`.
-pub(crate) fn traced(
+pub fn traced(
     options: &Options,
     alloc: Global,
     source: &[u8],
