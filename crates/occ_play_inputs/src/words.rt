@@ -18,7 +18,7 @@ use occ_term::Errors;
 use std::alloc::{AllocError, Global};
 
 /// The version of the program, which `CHANGELOG.md` tells of.
-pub const VERSION: &str = "0.9.0";
+pub const VERSION: &str = "1.0.0";
 
 /// How many turns a run may take where no word says so.
 pub const DEFAULT_LIMIT: u32 = 1_000_000;
