@@ -22,9 +22,9 @@ pub const HEAD: &str = r##"<!DOCTYPE html>
 html { font: 16px/1.35 "DejaVu Sans", Verdana, Arial, sans-serif; background: var(--ground); color: var(--ink); }
 body { margin: 0; height: 100vh; display: flex; flex-direction: column; }
 header { padding: 8px 12px; border-bottom: 1px solid var(--rule); background: var(--ground); }
-h1 { font-size: 1.1rem; margin: 0; display: inline-block; }
+h1 { font-size: 1.1rem; margin: 0 12px 0 0; display: inline-block; }
 h2 { font-size: .95rem; margin: 8px 0 4px; }
-#ending { display: inline-block; margin-left: 12px; font-weight: bold; }
+#ending { display: inline-block; font-weight: bold; }
 #controls { display: flex; align-items: center; gap: 6px; margin: 6px 0; }
 #slider { flex: 1 1 80px; min-width: 60px; height: 28px; accent-color: var(--ready); }
 button { font: inherit; min-width: 40px; min-height: 34px; color: var(--ink); background: var(--band); border: 1px solid var(--soft);
