@@ -24,4 +24,3 @@ pub mod Rerun
 pub mod CountedPicks
 pub mod Rowed
 pub mod Halves
-pub mod Retold

@@ -17,13 +17,15 @@ use Rattle.occ_machine.specs.declared.task.Wait.{Wait}
 use Rattle.occ_machine.specs.declared.task.Wait.TheVariants as W
 use Rattle.occ_net_replay.specs.declared.choice.Choice.{Choice}
 use Rattle.occ_net_replay.specs.Following.{AreBytes}
-use Rattle.occ_net_replay.specs.Replay.{Net, Tasks, HasTask, ending_by, first_noted, is_done, main_done, made_ready, may_go, offers_among, offers_on, ready_from, selected_process, standing, standing_by}
+use Rattle.occ_net_replay.specs.Replay.{Net, Tasks, HasTask, ending_by, first_noted, is_done, main_done, made_ready, may_go, offers_among, offers_on, ready_from, selected_process, standing, standing_by, took_turn}
 use Rattle.occ_net_replay.specs.Moments.{NoneReady, Quiet}
 use Rattle.occ_net_replay.specs.Waiting.{IsReplay, IsTurn, OffersAlone, ListensAlone, ForksAlone, listens_on}
 use Rattle.occ_net_replay.proofs.Alone.{replays_are_quiet, turns_are_few, turns_fork_alone, turns_listen_alone, turns_never_take, turns_offer_alone}
 use Rattle.occ_net_replay.proofs.Law.{ready_tasks_stop}
 use Rattle.occ_net_replay.proofs.Tables.{ready_at}
+use Rattle.occ_explore_laws.specs.Picks.{HasPicks}
 use Rattle.occ_net_tables.specs.declared.tables.Tables.{Tables}
+use Rattle.occ_net_tables.specs.Counting.{TurnsBy}
 use Rattle.occ_net_tables.specs.Endings.{GoesOn}
 use Rattle.occ_net_tables.specs.Holding.{AreTrue, Holds, IsOrdinary, joins_on}
 use Rattle.occ_net_tables.specs.Settling.{Mid, SettlesTo, Standing, TurnsTo}
@@ -260,5 +262,25 @@ module _ (p : Program) (kb : List ℕ) (n : Tables) (s : Standing p kb n) where
               stops = adv.stops;
               settles = x.settles;
             };
+            holds = x.holds;
+          }
+
+      -- the same with the number of picks
+      pub turns_by : (choice : Choice) (net : Net) (last : Tables) (k : ℕ) → Holds p kb n net → place ≡ choice.which % length n.ready.items → SettlesTo p kb choice.pick number adv.after net last → HasPicks (took_turn net number adv.after) number adv.after k → TurnsBy p kb choice net k last
+      turns_by choice net last k h q x picks =
+          record {
+            next = x.next;
+            turn = record {
+              number = number;
+              body = body;
+              before = t;
+              after = adv.after;
+              selects = ap (λ l. selected_process l choice.which) (ap (ready_from 0) h.tasks ∙ sym h.sound.ready_is) ∙ ap (slice_get n.ready.items) (sym q) ∙ at;
+              has_body = has;
+              has_task = ap (λ l. slice_get l number) h.tasks ∙ there;
+              stops = adv.stops;
+              settles = x.settles;
+            };
+            has_picks = picks;
             holds = x.holds;
           }

@@ -95,10 +95,6 @@ pub record Holds (p : Program) (keyboard : List ℕ) (n : Tables) (net : Net) : 
   pub sound : Sound n net.noted
   pub sized : Sized p n
 
--- the same network, of which this was said
-abbrev pub retold : Net → List Communication → Net
-retold net said = record net { trace = said }
-
 -- so it is of whatever network the tables hold
 abbrev pub HeldBy : Tables → (Net → Type 0) → Type 0
 HeldBy tables Says = (p : Program) (keyboard : List ℕ) (net : Net) → Holds p keyboard tables net → Says net

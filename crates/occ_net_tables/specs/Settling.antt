@@ -44,11 +44,6 @@ pub record Standing (p : Program) (keyboard : List ℕ) (n : Tables) : Type 0 wh
   pub open_end : ending_of p.errors net ≡ None
   pub holds : Holds p keyboard n net
 
--- the same, but for what was said
-pub record StandsUntold (p : Program) (keyboard : List ℕ) (n : Tables) : Type 0 where
-  pub said : List Communication
-  pub standing : Standing p keyboard (record n { trace = said })
-
 -- the process at this place among the ready ones comes by a turn to this task
 pub record IsTurnAt (p : Program) (n : Tables) (place number : ℕ) (after : Task) : Type 0 where
   pub body : Body
