@@ -1,7 +1,7 @@
 use Rattle.std.proofs.Common.{◌≡◌, ◌<◌, ◌≤◌, ◌∙◌, [], ap, arith, length, map, subst, sym}
 use Rattle.occ_explore_walks.specs.declared.graph.Lasting.TheVariants.{Forever, Within}
 use Rattle.occ_explore_walks.specs.Walks.{IsGraph, IsLasting}
-use Rattle.occ_ends.specs.Ends.{AreWaits, Circles, IsCircle, IsRing, next_noted}
+use Rattle.occ_ends.specs.Ends.{AreWaits, Circles, IsCircle, IsRing, others_noted}
 use Rattle.occ_ends.proofs.Rounds.{no_waits, ring_is, some_circles, within_graph}
 use Rattle.occ_ends.proofs.circling.circle.Goals as goal
 
@@ -13,7 +13,7 @@ lasting-requires c =
 pub returns-in-Within : goal.returns-in-Within
 returns-in-Within c = λ p keyboard net h.
     let fans = c.in_ok-fans.fans.items in
-    let next = next_noted c.args.ends.now net.tasks in
+    let next = others_noted c.args.ends.now net.tasks in
     let waits : AreWaits next c.min-below.result c.min-below.result fans = c.in_ok-fans.ensures.waits p keyboard net h in
     let lasts : IsLasting fans (Within c.in-Within.field-0) = subst (λ l. IsLasting l (Within c.in-Within.field-0)) c.deref.ensures.value (subst (IsLasting c.deref.result.now) c.in-Within.is c.in_ok-round.ensures) in
     let none : IsCircle next c.min-below.result [] = no_waits waits c.in-Within.field-0 lasts.0 in
@@ -22,7 +22,7 @@ returns-in-Within c = λ p keyboard net h.
 pub returns : goal.returns
 returns c = λ p keyboard net h.
     let fans = c.in_ok-fans.fans.items in
-    let next = next_noted c.args.ends.now net.tasks in
+    let next = others_noted c.args.ends.now net.tasks in
     let waits : AreWaits next c.min-below.result c.min-below.result fans = c.in_ok-fans.ensures.waits p keyboard net h in
     let lasts : IsLasting fans (Forever c.in-Forever.way c.in-Forever.round) =
     subst (λ l. IsLasting l (Forever c.in-Forever.way c.in-Forever.round)) c.deref.ensures.value (subst (IsLasting c.deref.result.now) c.in-Forever.is c.in_ok-round.ensures) in
