@@ -225,6 +225,10 @@ pub record IsRing (others : ℕ → List ℕ) (ns : List ℕ) : Type 0 where
 abbrev pub waits_noted : Ends → Bool → Wait → List ℕ
 waits_noted ends still wait = waits_on (end_noted ends.readers.items) (end_noted ends.writers.items) still wait
 
+-- those that a process waits for
+abbrev pub ListsOthers : {A : Type 0} → Ends → Tables → ℕ → Vec ℕ A → Type 0
+ListsOthers ends tables n others = HeldBy tables (λ net. others.items ≡ others_noted ends net.tasks n)
+
 abbrev pub HoldWaits : {A : Type 0} → Ends → Tables → ℕ → Vec Fan A → Type 0
 HoldWaits ends tables below fans = HeldBy tables (λ net. AreWaits (others_noted ends net.tasks) below below fans.items)
 

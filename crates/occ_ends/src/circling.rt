@@ -1,7 +1,6 @@
 //! Circles of processes that wait for one another.
 ghost use Rattle.std.specs.Prelude.{◌≡◌, ◌<◌, ◌≤◌, IfNone, IfOk, IfSome, length, map, min, option_to_list, slice_get};
-ghost use Rattle.occ_net_tables.specs.Holding.{HeldBy};
-ghost use Rattle.occ_ends.specs.Ends.{HoldWaits, HoldsCircle, IsAgain, IsFresh, IsRoot, LeadWithin, MakesRing, arm_writer, arm_writers, edge_to, edges_to, end_noted, others_noted, waits_noted};
+ghost use Rattle.occ_ends.specs.Ends.{HoldWaits, HoldsCircle, IsAgain, IsFresh, IsRoot, LeadWithin, ListsOthers, MakesRing, arm_writer, arm_writers, edge_to, edges_to, end_noted, waits_noted};
 
 use crate::ends::Ends;
 use occ_explore_walks::{Edge, Fan, Lasting, lasting};
@@ -86,8 +85,7 @@ fn others_of(
     tables: &Tables,
     number: u32,
 ) -> Result<Vec<u32>, AllocError>
-    ensures { IfOk result (λ others.
-        HeldBy tables.now (λ net. others.items ≡ others_noted ends.now net.tasks number)) }
+    ensures { IfOk result (ListsOthers ends.now tables.now number) }
 {
     let still = tables.ready().is_empty();
     match tables.task(number) {
@@ -204,7 +202,8 @@ fn once_round(alloc: Global, numbers: &[u32]) -> Result<Vec<u32>, AllocError>
         return Ok(Vec::new(alloc));
     }
     let (first, end) = again(numbers);
-    Vec::from_slice(alloc, &numbers[first..end])
+    let ring = Vec::from_slice(alloc, &numbers[first..end])?;
+    Ok(ring)
 }
 
 /// Processes each of which waits for the one behind it, and the last one for the first: for it to input what it offers, or to
@@ -225,7 +224,8 @@ pub(crate) fn circle(
         Lasting::Within(_) => Ok(Vec::new(alloc)),
         Lasting::Forever { way: _, round } => {
             let numbers = members(alloc, round.as_slice())?;
-            once_round(alloc, numbers.as_slice())
+            let ring = once_round(alloc, numbers.as_slice())?;
+            Ok(ring)
         }
     }
 }

@@ -1,5 +1,5 @@
 //! Which processes are endless where they stand: in a loop whose condition is the constant TRUE, or as a branch of such a one.
-ghost use Rattle.std.specs.Prelude.{◌≡◌, ◌<◌, ◌≤◌, IfNone, IfOk, IfSome, IsFalse, IsTrue, length, pos, ℕ};
+ghost use Rattle.std.specs.Prelude.{◌≡◌, ◌<◌, ◌≤◌, ◌⊎◌, IfNone, IfOk, IfSome, IsFalse, IsTrue, length, pos, ℕ};
 ghost use Rattle.occ_machine.specs.declared.instr.Instr.TheVariants.{Choose, LoopBack, Push};
 ghost use Rattle.occ_ends.specs.Endless.{AreEndlessIn, FlagsBelow, FlagsBranches, FlagsProcess, IsEndlessLoop, IsInEndlessLoop, StandsInLoop};
 
@@ -109,6 +109,15 @@ fn flag_below(wait: &Wait, number: u32, flags: &mut Vec<bool>)
     }
 }
 
+/// Whether a process is endless that goes on at this place, and may have been flagged as a branch of such a one.
+fn is_endless(flagged: bool, code: &Code, number: u32, place: u32) -> bool
+    ensures yes { IsTrue result → IsTrue flagged ⊎ StandsInLoop code.now.bodies number place }
+    ensures no { IsFalse result →
+        IsFalse flagged × (StandsInLoop code.now.bodies number place → ⊥) }
+{
+    flagged || stands_in_loop(code, number, place)
+}
+
 /// Flags a process where it is endless, and then its branches.
 fn flag_process(code: &Code, tables: &Tables, number: u32, flags: &mut Vec<bool>)
     requires { number < length flags.old.items }
@@ -118,7 +127,7 @@ fn flag_process(code: &Code, tables: &Tables, number: u32, flags: &mut Vec<bool>
         return;
     };
     let place = number as usize;
-    if !flags[place] && !stands_in_loop(code, number, task.pc) {
+    if !is_endless(flags[place], code, number, task.pc) {
         return;
     }
     flags[place] = true;

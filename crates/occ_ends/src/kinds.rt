@@ -167,7 +167,8 @@ pub fn left_in(
     if count > MOST {
         return Err(AllocError);
     }
-    let ends = ends_of(alloc, uses, tables, code.channels().len())?;
+    let channels = code.channels();
+    let ends = ends_of(alloc, uses, tables, channels.len())?;
     let endless = endless_in(alloc, code, tables, count)?;
     let circle = circle(alloc, &ends, tables, count)?;
     let halted = halted_in(alloc, tables, count)?;

@@ -281,6 +281,10 @@ abbrev pub AddsTaskLines : {A : Type 0} → List Channel → Sides → List Know
 AddsTaskLines cs ends known tables n old new =
     HeldBy tables (λ net. new.items ≡ old.items ++ task_lines (names_of cs) ends.readers.now ends.writers.now known net.tasks n)
 
+-- those of these that choose, of whatever network the tables hold
+abbrev pub ListsChoosing : {A : Type 0} → Tables → List ℕ → Vec ℕ A → Type 0
+ListsChoosing tables ns choosing = HeldBy tables (λ net. choosing.items ≡ choosing_among net.tasks ns)
+
 -- the line of a circle, of whatever network the tables hold
 abbrev pub AddsCircle : {A : Type 0} → Tables → (circle : List ℕ) → (old new : Vec ℕ A) → Type 0
 AddsCircle tables circle old new = HeldBy tables (λ net. AddsText old new (circle_text net.tasks circle))

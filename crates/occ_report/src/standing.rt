@@ -4,7 +4,7 @@ ghost use Rattle.occ_net_tables.specs.Holding.{HeldBy};
 ghost use Rattle.occ_term.specs.Endings.{ending_text};
 ghost use Rattle.occ_places.specs.Places.{name_of, stop_of};
 ghost use Rattle.occ_shown.specs.Answers.{AddsText, HasWords};
-ghost use Rattle.occ_report.specs.Reports.{arm_told, arms_told, awaited_told, branches_text, choosing_among, choosing_ones, halted_text, halting_text, line_told, name_text, task_chooses, offer_told, on_line, process_text, AddsCircle, AddsLine, AddsOnLine, AddsTaskLine, AddsTaskLines, choosing_told, joining_text, reader_at, standing_told, writer_at};
+ghost use Rattle.occ_report.specs.Reports.{arm_told, arms_told, awaited_told, branches_text, choosing_ones, halted_text, halting_text, line_told, name_text, task_chooses, offer_told, on_line, process_text, AddsCircle, AddsLine, ListsChoosing, AddsOnLine, AddsTaskLine, AddsTaskLines, choosing_told, joining_text, reader_at, standing_told, writer_at};
 
 use occ_machine::{Arm, Wait};
 use occ_net_tables::Tables;
@@ -147,8 +147,7 @@ fn is_choosing(tables: &Tables, number: u32) -> bool
 
 /// Those of these processes that choose.
 fn choosing_among(alloc: Global, tables: &Tables, numbers: &[u32]) -> Result<Vec<u32>, AllocError>
-    ensures { IfOk result (λ choosing.
-        HeldBy tables.now (λ net. choosing.items ≡ choosing_among net.tasks numbers.now)) }
+    ensures { IfOk result (ListsChoosing tables.now numbers.now) }
 {
     let mut choosing = Vec::new(alloc);
     let mut rest = numbers;

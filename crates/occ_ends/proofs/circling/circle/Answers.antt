@@ -28,6 +28,7 @@ returns c = λ p keyboard net h.
     subst (λ l. IsLasting l (Forever c.in-Forever.way c.in-Forever.round)) c.deref.ensures.value (subst (IsLasting c.deref.result.now) c.in-Forever.is c.in_ok-round.ensures) in
     let same : c.in_ok-numbers-in-Forever.numbers.items ≡ map (λ x. x.choice.which) c.in-Forever.round.items = c.in_ok-numbers-in-Forever.ensures ∙ ap (map (λ x. x.choice.which)) c.as_slice.ensures.value in
     let found = some_circles waits c.in-Forever.way.items c.in-Forever.round.items lasts in
-    let ring : IsRing next c.once_round.result.items =
-    c.once_round.ensures next (subst (λ ns. 0 < length ns) (sym same) found.0) (subst (Circles next) (sym same) found.1) in
-    subst (λ k. IsCircle next k c.once_round.result.items) c.min-below.ensures (ring_is next c.min-below.result c.once_round.result.items ring)
+    let whole : c.as_slice-in-Forever.result.now ≡ map (λ x. x.choice.which) c.in-Forever.round.items = c.as_slice-in-Forever.ensures.value ∙ same in
+    let ring : IsRing next c.in_ok-ring-in-Forever.ring.items =
+    c.in_ok-ring-in-Forever.ensures next (subst (λ ns. 0 < length ns) (sym whole) found.0) (subst (Circles next) (sym whole) found.1) in
+    subst (λ k. IsCircle next k c.in_ok-ring-in-Forever.ring.items) c.min-below.ensures (ring_is next c.min-below.result c.in_ok-ring-in-Forever.ring.items ring)

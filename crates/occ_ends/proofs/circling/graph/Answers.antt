@@ -20,10 +20,10 @@ loop-number-preserved c =
     let fan = c.in_ok-fan_of.field-0 in
     let (within, waits) = c.loop-number.invariant in
     let is : c.push-in-loop-number.new.self.items ≡ fans ++ fan ∷ [] = c.in_ok-push-2.ensures.items in (
-      subst (LeadWithin below (number + 1)) (sym is) (next_within fans fan number c.in_ok-others.others.items within c.in_ok-fan_of.ensures),
+      subst (LeadWithin below (number + 1)) (sym is) (next_within fans fan number c.as_slice.result.now within c.in_ok-fan_of.ensures),
       λ p keyboard net h.
           let next = others_noted c.args.ends.now net.tasks in
-          let edges : fan.edges.items ≡ edges_to number (next number) below = c.in_ok-fan_of.ensures ∙ ap (λ x. edges_to number x below) (c.next_of-next.ensures p keyboard net h) in
+          let edges : fan.edges.items ≡ edges_to number (next number) below = c.in_ok-fan_of.ensures ∙ ap (λ x. edges_to number x below) (c.as_slice.ensures.value ∙ c.in_ok-others.ensures p keyboard net h) in
           subst (AreWaits next below (number + 1)) (sym is) (next_waits next fans fan number (waits p keyboard net h) edges),
     )
 

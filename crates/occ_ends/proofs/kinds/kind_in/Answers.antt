@@ -1,7 +1,7 @@
 use Rattle.std.proofs.Common.{map, subst, sym}
 use Rattle.occ_ends.specs.Ends.{noted_for}
 use Rattle.occ_ends.specs.Kinds.{IsKind}
-use Rattle.occ_ends.proofs.Kinds.{kind_is}
+use Rattle.occ_ends.proofs.LeftOnes.{kind_is}
 use Rattle.occ_ends.proofs.kinds.kind_in.Goals as goal
 
 pub returns : goal.returns

@@ -1,5 +1,5 @@
 -- Who is left at a stop, and what kind of stop it is.
-use Rattle.std.proofs.Common.{◌≡◌, ◌∙◌, ◌⊎◌, inl, inr, refl, sym, ap, subst, Bool, true, false, IsTrue, ℕ, zero, suc, ◌+◌, ◌<◌, ◌≤◌, List, [], ◌∷◌, ◌++◌, Option, Some, None, get_or, length, arith}
+use Rattle.std.proofs.Common.{◌≡◌, ◌∙◌, ◌⊎◌, inl, inr, refl, sym, ap, subst, Bool, true, false, IsTrue, ℕ, zero, suc, ◌+◌, ◌<◌, ◌≤◌, List, [], ◌∷◌, ◌++◌, Option, Some, None, append-nil, get_or, length, arith}
 use Rattle.std.specs.Prelude.{if◌then◌else◌, nat_eq, option_to_list, slice_get, ◌||◌, ◌%◌}
 use Rattle.std.specs.List.{All}
 use Rattle.std.specs.Option.{option_and_then}
@@ -69,15 +69,11 @@ held_those test (suc count) n lt h = held_append (those test count) (if test cou
 
 pub those_rise : (test : ℕ → Bool) (count : ℕ) → IsRising (those test count)
 those_rise test zero = tt
-those_rise test (suc count) = by (test count)
+those_rise test (suc count) = by (test count) (those_rise test count)
   where
-    by : (b : Bool) → IsRising (those test count ++ (if b then count ∷ [] else []))
-    by true = rising_push (those test count) count (those_rise test count) (λ m h. (those_held test count m h).0)
-    by false = subst IsRising (sym (append_none (those test count))) (those_rise test count)
-      where
-        append_none : (xs : List ℕ) → xs ++ [] ≡ xs
-        append_none [] = refl
-        append_none (x ∷ xs) = ap (λ ys. x ∷ ys) (append_none xs)
+    by : (b : Bool) → IsRising (those test count) → IsRising (those test count ++ (if b then count ∷ [] else []))
+    by true before = rising_push (those test count) count before (λ m h. (those_held test count m h).0)
+    by false before = subst IsRising (sym (append-nil (those test count))) before
 
 -- a loop's step
 pub those_more : (test : ℕ → Bool) (n : ℕ) (before after : List ℕ) → before ≡ those test n → after ≡ before ++ (if test n then n ∷ [] else []) → after ≡ those test (n + 1)
