@@ -1,9 +1,10 @@
 //! What a process stands at, in bytes.
-ghost use Rattle.std.specs.Prelude.{◌≡◌, IfOk, OnOk, Some, codes};
+ghost use Rattle.std.specs.Prelude.{◌≡◌, IfOk, OnOk, Some, codes, slice_get};
+ghost use Rattle.occ_net_tables.specs.Holding.{HeldBy};
 ghost use Rattle.occ_term.specs.Endings.{ending_text};
 ghost use Rattle.occ_places.specs.Places.{name_of, stop_of};
 ghost use Rattle.occ_shown.specs.Answers.{AddsText, HasWords};
-ghost use Rattle.occ_report.specs.Reports.{arm_told, arms_told, awaited_told, branches_text, circle_text, halted_text, halting_text, line_told, name_text, offer_told, on_line, process_text, AddsLine, AddsOnLine, AddsTaskLine, AddsTaskLines, choosing_told, joining_text, reader_at, standing_told, writer_at};
+ghost use Rattle.occ_report.specs.Reports.{arm_told, arms_told, awaited_told, branches_text, choosing_ones, halted_text, halting_text, line_told, name_text, task_chooses, offer_told, on_line, process_text, AddsCircle, AddsLine, ListsChoosing, AddsOnLine, AddsTaskLine, AddsTaskLines, choosing_told, joining_text, reader_at, standing_told, writer_at};
 
 use occ_machine::{Arm, Wait};
 use occ_net_tables::Tables;
@@ -118,7 +119,11 @@ fn write_arms(
     Ok(())
 }
 
-fn write_branches(alloc: Global, out: &mut Vec<u8>, branches: &[u32]) -> Result<(), AllocError>
+pub(crate) fn write_branches(
+    alloc: Global,
+    out: &mut Vec<u8>,
+    branches: &[u32],
+) -> Result<(), AllocError>
     ensures { OnOk result (AddsText out.old out.new (branches_text branches.now)) }
 {
     let mut rest = branches;
@@ -130,20 +135,66 @@ fn write_branches(alloc: Global, out: &mut Vec<u8>, branches: &[u32]) -> Result<
     Ok(())
 }
 
+/// Whether the process with this number chooses.
+fn is_choosing(tables: &Tables, number: u32) -> bool
+    ensures { HeldBy tables.now (λ net. result ≡ task_chooses (slice_get net.tasks number)) }
+{
+    match tables.task(number) {
+        Some(task) => matches!(task.wait, Wait::Chooses { .. }),
+        None => false,
+    }
+}
+
+/// Those of these processes that choose.
+fn choosing_among(alloc: Global, tables: &Tables, numbers: &[u32]) -> Result<Vec<u32>, AllocError>
+    ensures { IfOk result (ListsChoosing tables.now numbers.now) }
+{
+    let mut choosing = Vec::new(alloc);
+    let mut rest = numbers;
+    while let Some((number, others)) = rest.split_first() {
+        if is_choosing(tables, *number) {
+            choosing.push(*number)?;
+        }
+        rest = others;
+    }
+    Ok(choosing)
+}
+
+/// Those that wait by one of several arms, where there are some.
+fn write_choosing_ones(alloc: Global, out: &mut Vec<u8>, choosing: &[u32]) -> Result<(), AllocError>
+    ensures { OnOk result (AddsText out.old out.new (choosing_ones choosing.now)) }
+{
+    if choosing.is_empty() {
+        return Ok(());
+    }
+    out.push(b',')?;
+    write_branches(alloc, out, choosing)?;
+    if choosing.len() == 1 {
+        out.extend_from_slice(b" by one of its arms")
+    } else {
+        out.extend_from_slice(b" by one of their arms")
+    }
+}
+
 /// Processes that wait in a circle, where there are some.
 pub(crate) fn write_circle(
     alloc: Global,
     out: &mut Vec<u8>,
+    tables: &Tables,
     circle: &[u32],
 ) -> Result<(), AllocError>
-    ensures { OnOk result (AddsText out.old out.new (circle_text circle.now)) }
+    ensures { OnOk result (AddsCircle tables.now circle.now out.old out.new) }
 {
     if circle.is_empty() {
         return Ok(());
     }
-    out.extend_from_slice(b"  in a circle, each waits for the next:")?;
+    let choosing = choosing_among(alloc, tables, circle)?;
+    out.extend_from_slice(b"  in a circle, each waits for the next")?;
+    write_choosing_ones(alloc, out, choosing.as_slice())?;
+    out.push(b':')?;
     write_branches(alloc, out, circle)?;
-    out.extend_from_slice(b"\n")
+    out.push(b'\n')?;
+    Ok(())
 }
 
 fn write_offer(
