@@ -20,16 +20,16 @@ fn write_those(
     alloc: Global,
     out: &mut Vec<u8>,
     head: &[u8],
-    numbers: &[u32],
+    who: &[u32],
     one: &'static [u8],
     many: &'static [u8],
 ) -> Result<(), AllocError>
     ensures { OnOk result (AddsText out.old out.new
-        (those_line head.now numbers.now one.entry.now many.entry.now)) }
+        (those_line head.now who.now one.entry.now many.entry.now)) }
 {
-    let tail = by_number(numbers, one, many);
+    let tail = by_number(who, one, many);
     out.extend_from_slice(head)?;
-    write_branches(alloc, out, numbers)?;
+    write_branches(alloc, out, who)?;
     out.extend_from_slice(tail)
 }
 
