@@ -1,6 +1,6 @@
 -- The lines of processes, one after the other.
-use Rattle.std.proofs.Common.{◌≡◌, ◌∙◌, ◌++◌, ◌+◌, ℕ, List, [], length, map, suc, ap, sym, subst, append_assoc, arith}
-use Rattle.std.specs.Prelude.{slice_get, min}
+use Rattle.std.proofs.Common.{◌≡◌, ◌∙◌, ◌++◌, ◌∷◌, ◌+◌, ℕ, List, [], length, map, suc, ap, sym, subst, append_assoc, arith}
+use Rattle.std.specs.Prelude.{if◌then◌else◌, slice_get, min}
 use Rattle.occ_machine.specs.Compiled.{Program}
 use Rattle.occ_net_replay.specs.declared.choice.Choice.{Choice}
 use Rattle.occ_net_replay.specs.Replay.{Net}
@@ -20,7 +20,7 @@ use Rattle.occ_ends.specs.Endless.{HeldIn}
 use Rattle.occ_ends.specs.Kinds.{IsLeft}
 use Rattle.occ_net_replay.specs.Replay.{Tasks}
 use Rattle.occ_places.specs.Places.{Known}
-use Rattle.occ_report.specs.Reports.{IsCircleOf, IsReport, Noted, circle_text, kind_told, report_head, task_lines, task_line, told_of}
+use Rattle.occ_report.specs.Reports.{IsCircleOf, IsReport, Noted, choosing_among, circle_text, kind_told, report_head, task_lines, task_line, told_of, task_chooses}
 
 -- a loop's step: the lines so far, and that of one more process
 pub lines_step : (names : Names) (readers writers : Noted) (known : List Known) (tasks : Tasks) (n : ℕ) (start before after : List ℕ)
@@ -31,6 +31,12 @@ lines_step names readers writers known tasks n start before after e f =
     f ∙ ap (λ l. l ++ task_line names readers writers known n (slice_get tasks n)) e
     ∙ append_assoc start (task_lines names readers writers known tasks n) (task_line names readers writers known n (slice_get tasks n))
     ∙ sym (ap (λ k. start ++ task_lines names readers writers known tasks k) next)
+
+-- a loop's step: those that choose so far, and one more process
+pub choosing_step : (tasks : Tasks) (n : ℕ) (others before after all : List ℕ) → after ≡ before ++ (if task_chooses (slice_get tasks n) then n ∷ [] else [])
+    → before ++ choosing_among tasks (n ∷ others) ≡ all → after ++ choosing_among tasks others ≡ all
+choosing_step tasks n others before after all e h =
+    ap (λ l. l ++ choosing_among tasks others) e ∙ append_assoc before (if task_chooses (slice_get tasks n) then n ∷ [] else []) (choosing_among tasks others) ∙ h
 
 -- what is written of the tables that a run leaves is its report
 pub report_is : (us : List Using) (t : Term) (p : Program) (kb : List ℕ) (list : List Choice) (known : List Known) (r : Ran) (h : IsRan p kb list Given r)

@@ -151,14 +151,23 @@ by_number [] one many = many
 by_number (n ∷ []) one many = one
 by_number (n ∷ m ∷ ns) one many = many
 
-abbrev pub those_line : (head : List ℕ) → List ℕ → (tail : List ℕ) → List ℕ
-those_line head ns tail = head ++ branches_text ns ++ tail
+abbrev pub those_line : (head : List ℕ) → List ℕ → (one many : List ℕ) → List ℕ
+those_line head ns one many = head ++ branches_text ns ++ by_number ns one many
+
+abbrev pub circling_line : List ℕ → List ℕ
+circling_line ns = those_line (codes "circle:") ns (codes " waits for itself\n") (codes " wait for one another\n")
+
+abbrev pub halted_line : List ℕ → List ℕ
+halted_line ns = those_line (codes "halted:") ns (codes " was halted\n") (codes " were halted\n")
+
+abbrev pub unfinished_line : List ℕ → List ℕ
+unfinished_line ns = those_line (codes "unfinished:") ns (codes " was not at its end\n") (codes " were not at their ends\n")
 
 -- what kind of stop it is, with the processes for which it is of that kind
 abbrev pub line_of_kind : Kind → Left → List ℕ
-line_of_kind stops.Circle left = those_line (codes "circle:") left.circle.items (by_number left.circle.items (codes " waits for itself\n") (codes " wait for one another\n"))
-line_of_kind stops.Halted left = those_line (codes "halted:") left.halted.items (by_number left.halted.items (codes " was halted\n") (codes " were halted\n"))
-line_of_kind stops.Unfinished left = those_line (codes "unfinished:") left.unfinished.items (by_number left.unfinished.items (codes " was not at its end\n") (codes " were not at their ends\n"))
+line_of_kind stops.Circle left = circling_line left.circle.items
+line_of_kind stops.Halted left = halted_line left.halted.items
+line_of_kind stops.Unfinished left = unfinished_line left.unfinished.items
 line_of_kind stops.Idle left = codes "idle: who is left is endless, and waits for what has ended\n"
 
 abbrev pub kind_line : Left → List ℕ
@@ -197,9 +206,15 @@ choosing_ones [] = []
 choosing_ones (n ∷ ns) = codes "," ++ branches_text (n ∷ ns) ++ by_number (n ∷ ns) (codes " by one of its arms") (codes " by one of their arms")
 
 -- processes each of which waits for the next, and the last one for the first; some of them by one of several arms
+abbrev pub ring_head : (choosing : List ℕ) → List ℕ
+ring_head choosing = codes "  in a circle, each waits for the next" ++ choosing_ones choosing ++ codes ":"
+
+abbrev pub ring_text : (choosing : List ℕ) → List ℕ → List ℕ
+ring_text choosing [] = []
+ring_text choosing (n ∷ ns) = ring_head choosing ++ branches_text (n ∷ ns) ++ codes "\n"
+
 abbrev pub circle_text : Tasks → List ℕ → List ℕ
-circle_text tasks [] = []
-circle_text tasks (n ∷ ns) = codes "  in a circle, each waits for the next" ++ choosing_ones (choosing_among tasks (n ∷ ns)) ++ codes ":" ++ branches_text (n ∷ ns) ++ codes "\n"
+circle_text tasks ns = ring_text (choosing_among tasks ns) ns
 
 -- the processes that are told of: all but for those whose number would be 2 to the 32 less 1, of which a program has none
 abbrev pub told_of : Tasks → ℕ
@@ -220,7 +235,7 @@ pub record IsReport (t : Term) (p : Program) (keyboard : List ℕ) (list : List 
   pub begins : Begins used list
   pub whole : ending_of p.errors net ≡ None → used ≡ list
   pub ends : Ends
-  pub are_ends : AreEnds t net.tasks (length p.channels) ends
+  pub are_ends : AreEnds (all_using t) net.tasks (length p.channels) ends
   pub left : Left
   pub is_left : IsLeft (all_using t) p net.tasks left
   pub is : bytes ≡ network_report (names_of p.channels) ends.readers.items ends.writers.items known left net (or_limit (ending_of p.errors net))
@@ -280,6 +295,10 @@ AddsTaskLine cs ends known tables n old new =
 abbrev pub AddsTaskLines : {A : Type 0} → List Channel → Sides → List Known → Tables → ℕ → (old new : Vec ℕ A) → Type 0
 AddsTaskLines cs ends known tables n old new =
     HeldBy tables (λ net. new.items ≡ old.items ++ task_lines (names_of cs) ends.readers.now ends.writers.now known net.tasks n)
+
+-- one more, where it chooses, of whatever network the tables hold
+abbrev pub AddsChoosing : {A : Type 0} → Tables → ℕ → (old new : Vec ℕ A) → Type 0
+AddsChoosing tables n old new = HeldBy tables (λ net. new.items ≡ old.items ++ (if task_chooses (slice_get net.tasks n) then n ∷ [] else []))
 
 -- those of these that choose, of whatever network the tables hold
 abbrev pub ListsChoosing : {A : Type 0} → Tables → List ℕ → Vec ℕ A → Type 0
