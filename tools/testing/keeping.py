@@ -131,7 +131,7 @@ def recorded(program):
 def answers_of(program, folder, name):
     """What a search finds, without the numbers of choices."""
     out = run_text(program, folder, ["--explore", name])[1]
-    return {ending + shown for ending, shown in ANSWER.findall(out)}
+    return {ending + shown for ending, shown, _ in ANSWER.findall(out)}
 
 
 def compared(program, first, second):

@@ -274,7 +274,7 @@ def explored(program):
         wrong = []
         source = TOP / "examples/faults/dining.occ"
         status, out, err = run(program, room, ["--explore", "--quantum", "1000", "--record", "x", source])
-        lines = re.findall(r'(?m)^([0-9]+) (ended|stopped) "([^"]*)" by [0-9]+ choices$', out)
+        lines = re.findall(r'(?m)^([0-9]+) (ended|stopped) "([^"]*)" by [0-9]+ choices(?:: circle)?$', out)
         if (status, err, len(lines)) != (2, "", 7) or [ending for _, ending, _ in lines].count("stopped") != 1:
             wrong.append(f"{source.name}: {status} {out!r} {err!r}")
         for number, ending, screen in lines:
@@ -296,13 +296,13 @@ def reported(program):
         for source, endings in [(TOP / "examples/faults/dining.occ", ["stopped"]), ("two.occ", ["stopped", "fault ARITH line 11"])]:
             plain = run(program, room, ["--explore", "--quantum", "1000", source])
             status, out, err = run(program, room, ["--explore", "--quantum", "1000", "--explain", "--record", "x", source])
-            numbers = re.findall(r"(?m)^(\d+) (?!ended)(.*):$", err)
+            numbers = re.findall(r"(?m)^(\d+) (stopped|fault .*?)(?:, [a-z]+: .*|:)$", err)
             if (status, out, "") != plain or sorted(ending for _, ending in numbers) != sorted(endings):
                 wrong.append(f"{source}: {status} {out!r} {err!r}")
             told = ""
             for number, ending in numbers:
                 again = run(program, room, ["--choices", f"x.{number}.choices", "--quantum", "1000", "--explain", source])
-                told += f"{number} {ending}:\n{again[2]}"
+                told += f"{number} stopped, {again[2]}" if ending == "stopped" else f"{number} {ending}:\n{again[2]}"
                 if not again[1].endswith(f"{ending}\n"):
                     wrong.append(f"{source}: {number} is another answer: {again}")
             if told != err:
