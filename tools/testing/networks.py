@@ -123,11 +123,11 @@ def faults_of(program, seed, known=None):
         if full[0] not in (0, 2, 3, 4):
             yield f"seed {seed}: {full}"
             return
-        few = searched(program, folder, keyboard, ["--explore", "--record", "a", *words])
         if full[0] == 4:
             return
         if known is not None:
             known.append(seed)
+        few = searched(program, folder, keyboard, ["--explore", "--record", "a", *words])
         if sorted(few[1].values()) != sorted(full[1].values()) or few[0] != full[0] or few[2] != full[2]:
             yield f"seed {seed}: {few[3]} and of all states {full[3]}"
         ends = searched(program, folder, keyboard, ["--explore=endings", *words])
