@@ -10,7 +10,7 @@ use Rattle.occ_play.specs.Playing.{IsTextsCode}
 use Rattle.occ_text.specs.Lines.{LinesOf}
 use Rattle.occ_text.specs.Words.{LogicalLine}
 use Rattle.occ_explaining.specs.Traced.{IsTraced}
-use Rattle.occ_explaining.specs.declared.traced.Form.TheVariants.{Json}
+use Rattle.occ_explaining.specs.declared.tracing.Form.TheVariants.{Json}
 use Rattle.occ_explaining.specs.Explaining.{ReportsOn, StepsOf}
 
 -- the names of the first so many processes, each on a line, which is empty where a name isn't known

@@ -13,8 +13,8 @@ use Rattle.occ_play.specs.declared.playing.Options.{Options}
 use Rattle.occ_play.specs.Playing.{Ran}
 use Rattle.occ_shown.specs.Answers.{names_of, trace_text}
 use Rattle.occ_term.specs.Runs.{Entry, entries}
-use Rattle.occ_explaining.specs.declared.traced.Form.{Form}
-use Rattle.occ_explaining.specs.declared.traced.Form.TheVariants.{Lines, Json}
+use Rattle.occ_explaining.specs.declared.tracing.Form.{Form}
+use Rattle.occ_explaining.specs.declared.tracing.Form.TheVariants.{Lines, Json}
 
 -- a line for each communication and one for the ending, as an answer has them; or an object of JSON for each
 abbrev pub form_text : Form → List Entry → Ending → List ℕ

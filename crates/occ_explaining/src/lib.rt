@@ -15,7 +15,7 @@ mod refusal_names;
 pub mod refused;
 pub mod reported;
 pub mod stepped;
-pub mod traced;
+pub mod tracing;
 pub mod unreached;
 
 pub use charted::named_chart;
@@ -27,5 +27,5 @@ pub use past::past_of;
 pub use refused::explained_fault;
 pub use reported::report_of;
 pub use stepped::steps_of;
-pub use traced::{Form, traced};
+pub use tracing::{Form, traced};
 pub use unreached::unreached_told;

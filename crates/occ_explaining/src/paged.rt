@@ -6,7 +6,7 @@ ghost use Rattle.occ_play.specs.Playing.{Refuses};
 use crate::charted::MOST_NAMED;
 use crate::reported::{lines_of, plan_of, report_of, tree_of};
 use crate::stepped::steps_of;
-use crate::traced::{Form, traced};
+use crate::tracing::{Form, traced};
 use occ_json::page;
 use occ_net_replay::Choice;
 use occ_places::{Places, places_of};

@@ -21,8 +21,8 @@ use Rattle.occ_play_inputs.specs.declared.inputs.Inputs.{Inputs}
 use Rattle.occ_play_inputs.specs.declared.words.Words.{Words}
 use Rattle.occ_program.specs.Coming.{RefusesSource, options_in}
 use Rattle.occ_program.specs.declared.page.Page.{Page}
-use Rattle.occ_explaining.specs.declared.traced.Form.{Form}
-use Rattle.occ_explaining.specs.declared.traced.Form.TheVariants.{Lines, Json}
+use Rattle.occ_explaining.specs.declared.tracing.Form.{Form}
+use Rattle.occ_explaining.specs.declared.tracing.Form.TheVariants.{Lines, Json}
 use Rattle.occ_explaining.specs.Traced.{IsTraced}
 
 -- none where no word names one or no run answered; else this text, and nothing else, at the path that the word names

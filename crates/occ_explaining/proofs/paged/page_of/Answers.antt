@@ -1,7 +1,7 @@
 use Rattle.std.proofs.Common.{List, subst}
 use Rattle.occ_net_replay.specs.declared.choice.Choice.{Choice}
 use Rattle.occ_explaining.specs.Traced.{IsTraced}
-use Rattle.occ_explaining.specs.declared.traced.Form.TheVariants.{Json}
+use Rattle.occ_explaining.specs.declared.tracing.Form.TheVariants.{Json}
 use Rattle.occ_explaining.proofs.paged.page_of.Goals as goal
 
 pub returns-clause-shown : goal.returns-clause-shown

@@ -3,7 +3,7 @@ use Rattle.occ_term.specs.Runs.{Entry, entries}
 use Rattle.occ_term.specs.declared.names.Channel.{Channel}
 use Rattle.occ_shown.specs.Answers.{names_of}
 use Rattle.occ_explaining.specs.Traced.{form_text}
-use Rattle.occ_explaining.proofs.traced.traced.Goals as goal
+use Rattle.occ_explaining.proofs.tracing.traced.Goals as goal
 
 pub returns-clause-traced : goal.returns-clause-traced
 returns-clause-traced c =

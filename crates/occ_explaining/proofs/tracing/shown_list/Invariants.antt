@@ -1,7 +1,7 @@
 use Rattle.std.proofs.Common.{◌≡◌, ◌+◌, ◌++◌, length}
 use Rattle.occ_term.specs.Runs.{entries}
 use Rattle.occ_shown.specs.Answers.{names_of}
-use Rattle.occ_explaining.proofs.traced.shown_list.Given as goal
+use Rattle.occ_explaining.proofs.tracing.shown_list.Given as goal
 
 -- what is listed, and what is left
 abbrev pub invariant-loop-communication : goal.invariant-loop-communication
