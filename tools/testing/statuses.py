@@ -260,7 +260,7 @@ def recorded(program):
             wrong.append(f"what was played again: {again}")
         if short[0] != 4 or not short[1].endswith("limit\n") or (room / "used").read_text() != (room / "short").read_text():
             wrong.append(f"what a short list came to: {short}")
-        if not drawn.startswith("<svg") or not drawn.endswith("</svg>\n") or ">c 7<" not in drawn or ">screen 55 '7'<" not in drawn:
+        if not drawn.startswith("<svg") or not drawn.endswith("</svg>\n") or ">1: c 7<" not in drawn or ">2: screen 55 '7'<" not in drawn:
             wrong.append(f"what was drawn: {drawn!r}")
         if sorted(path.name for path in room.iterdir()) != ["again", "drawn", "drawn.too", "few", "kept", "short", "used", "used.too", "x.occ"]:
             wrong.append(f"what was left: {sorted(path.name for path in room.iterdir())}")
