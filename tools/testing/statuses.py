@@ -462,7 +462,7 @@ def starving(program, room, source):
     shapes = list(tree.parse(room / "a.svg").getroot())
     over = [after.text for line, after in zip(shapes, shapes[1:]) if line.get("stroke") == "black"]
     under = [after.text for line, after in zip(shapes, shapes[1:]) if line.get("stroke") == "red"]
-    if status != 2 or over != [f"{line[2]} {line[4]}" for line in made]:
+    if status != 2 or over != [f"{line[1]}: {line[2]} {line[4]}" for line in made]:
         yield f"arrows: {over}"
     heads = [text.text for text in tree.parse(room / "a.svg").getroot().iter(f"{SVG}text")]
     if "philosopher p2" not in heads or not any(words.startswith("a circle waits: p2 p7 p3") for words in heads):
