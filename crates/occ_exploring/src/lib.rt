@@ -9,6 +9,7 @@ pub mod laws;
 mod lines;
 pub mod only;
 mod strings;
+mod using;
 pub mod within;
 
 pub use exploring::{explore_in, status_of_search};

@@ -1,7 +1,7 @@
 //! Tells what each process stands at where an answer of a search has not ended.
 ghost use Rattle.std.specs.Prelude.{◌≡◌, ◌<◌, IfOk, IsFalse, IsTrue, ◌⊎◌, ◌≢◌, length};
 ghost use Rattle.occ_term.specs.declared.ending.Ending.TheVariants.{Ended};
-ghost use Rattle.occ_program.specs.Explained.{IsReported, NoneEnds, SomeEnds, TellsAnswers, TellsAt, answer_head};
+ghost use Rattle.occ_program.specs.Explained.{EndsLike, IsReported, NoneEnds, SomeEnds, TellsAnswers, TellsAt, answer_head, below_ending};
 
 use crate::explaining::{print_text, run_report};
 use occ_exploring::Answer;
@@ -9,8 +9,8 @@ use occ_play::{Ending, PlayFault};
 use occ_play_inputs::{Inputs, Words};
 use std::alloc::{AllocError, Global};
 
-/// Prints, where the words ask for it, the report of the first of these answers with each ending but that of a whole run. Where
-/// memory runs out for that, nothing is printed.
+/// Prints, where the words ask for it, the report of the first of these answers with each ending but that of a whole run, and of
+/// stops the first of each kind. Where memory runs out for that, nothing is printed.
 pub(crate) fn explain_answers<R: Eprint>(
     rt: &R,
     alloc: Global,
@@ -54,28 +54,36 @@ fn told_at(
     ensures { IfOk result (λ text. TellsAt words.now inputs.now answers.now place text.items) }
 {
     let answer = &answers[place];
-    if is_new(&answers[..place], answer.ending) {
+    if is_new(&answers[..place], answer) {
         reported(alloc, words, inputs, place + 1, answer)
     } else {
         Ok(Vec::new(alloc))
     }
 }
 
-/// Whether this is the ending of no whole run, and of none of these answers.
-fn is_new(before: &[Answer], ending: Ending) -> bool
-    ensures new { IsTrue result → (ending ≢ Ended) × NoneEnds before.now ending }
-    ensures old { IsFalse result → (ending ≡ Ended) ⊎ SomeEnds before.now ending }
+/// Whether an answer is that of no whole run, and none of these ends like it.
+fn is_new(before: &[Answer], answer: &Answer) -> bool
+    ensures new { IsTrue result → (answer.now.ending ≢ Ended) × NoneEnds before.now answer.now }
+    ensures old { IsFalse result → (answer.now.ending ≡ Ended) ⊎ SomeEnds before.now answer.now }
 {
-    ending != Ending::Ended && none_ends(before, ending)
+    answer.ending != Ending::Ended && none_ends(before, answer)
 }
 
-/// Whether none of these answers has this ending.
-fn none_ends(answers: &[Answer], ending: Ending) -> bool
-    ensures none { IsTrue result → NoneEnds answers.now ending }
-    ensures some { IsFalse result → SomeEnds answers.now ending }
+/// Whether both have one ending, by stops of one kind.
+fn ends_like(answer: &Answer, like: &Answer) -> bool
+    ensures yes { IsTrue result → EndsLike answer.now like.now }
+    ensures no { IsFalse result → EndsLike answer.now like.now → ⊥ }
+{
+    answer.ending == like.ending && answer.kind == like.kind
+}
+
+/// Whether none of these answers ends like it.
+fn none_ends(answers: &[Answer], like: &Answer) -> bool
+    ensures none { IsTrue result → NoneEnds answers.now like.now }
+    ensures some { IsFalse result → SomeEnds answers.now like.now }
 {
     for answer in answers {
-        if answer.ending == ending {
+        if ends_like(answer, like) {
             return false;
         }
     }
@@ -98,10 +106,21 @@ fn reported(
     Ok(text)
 }
 
+/// What stands between an ending and its report: the report of a stop begins with its kind.
+fn below_ending(ending: Ending) -> &'static str
+    ensures { result.now ≡ below_ending ending }
+{
+    match ending {
+        Ending::Stopped | Ending::StoppedBy(_) => ", ",
+        Ending::Ended | Ending::Fault(_) | Ending::Limit => ":\n",
+    }
+}
+
 /// The number and the ending of an answer.
 fn answer_head(alloc: Global, number: usize, ending: Ending) -> Result<Vec<u8>, AllocError>
     ensures { IfOk result (λ head. head.items ≡ answer_head number ending) }
 {
-    let head = format!(in alloc; "{number} {ending}:\n")?;
+    let below = below_ending(ending);
+    let head = format!(in alloc; "{number} {ending}{below}")?;
     Ok(head.into_bytes())
 }

@@ -1,0 +1,13 @@
+-- What the processes of a text use.
+-- Manual: nothing; this is (own).
+use Rattle.std.specs.Prelude.{List, map, ℕ, ◌≡◌}
+use Rattle.occ_ends.specs.Ends.{all_using, noted_for}
+use Rattle.occ_ends.specs.declared.uses.ProcessUses.{ProcessUses}
+use Rattle.occ_play.specs.Playing.{Unfolds}
+use Rattle.occ_term.specs.UnfoldedProgram.{UnfoldedProgram, meaning}
+
+-- of the program that the text unfolds to
+pub record HasUses (source : List ℕ) (uses : List ProcessUses) : Type 0 where
+  pub program : UnfoldedProgram
+  pub unfolds : Unfolds source program
+  pub are : map noted_for uses ≡ all_using (meaning program)
