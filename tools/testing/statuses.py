@@ -159,7 +159,7 @@ CASES = [
     of(LETTER, ["--record", "x.occ"], 7, "", None),
     of(LETTER, ["--record", "a", "--chart", "a"], 7, "", None),
     of(LETTER, ["--choices", "a", "--chart", "a"], 7, "", None, files={"a": "0 0\n"}),
-    of(LETTER, ["--record", "./x.occ"], 7, "", "--record, --typed, --chart, --trace-to and --steps each write into a file of their own\n"),
+    of(LETTER, ["--record", "./x.occ"], 7, "", "--record, --typed, --chart, --trace-to, --steps and --page each write into a file of their own\n"),
     of(LETTER, ["--choices", "a"], 7, "", "refused 90 BadChoice line 2\n", files={"a": "0 0\n0\n"}),
     Case([b"\xff.occ"], 7, "", "an argument is no UTF-8\n"),
     of(LETTER, ["--trace"], 0, "A\n1 c1 screen p0>screen 65\nended\n"),
@@ -209,6 +209,10 @@ CASES = [
     of(LETTER, ["--steps", "a", "--chart", "a"], 7, "", None),
     of(LETTER, ["--steps", "a", "--explore"], 7, "", None),
     of(LETTER, ["--steps", "a", "--check"], 7, "", None),
+    of(LETTER, ["--page", "/dev/null"], 0, "A"),
+    of(LETTER, ["--page", "none/x"], 6, "A", "write failed\n"),
+    of(LETTER, ["--explain", "--steps", "none/u", "--page", "none/z"], 6, "A", f"write failed\nnone/u: {MISSING}"),
+    of(LETTER, ["--explain", "--page", "none/u"], 6, "A", f"write failed\nnone/u: {MISSING}"),
     of(LETTER, ["--seed", "1"], 0, "A"),
     of(LETTER, ["--seed", "1", "--tries", "3"], 0, "A"),
     of(STOPS, ["--seed", "7", "--tries", "3"], 2, "stopped\n", "seed 7: the first one by which the run does not end\n"),
@@ -393,13 +397,13 @@ def by_workers(program):
         wrong = []
         for number in range(20):
             limit = 5 + number
-            words = ["--workers", "3", "--limit", str(limit), "--trace", "--record", "kept", "--trace-to", "lines", "--steps", "turns", "--chart", "drawn", "x.occ"]
+            words = ["--workers", "3", "--limit", str(limit), "--trace", "--record", "kept", "--trace-to", "lines", "--steps", "turns", "--chart", "drawn", "--page", "shown", "x.occ"]
             came = run(program, room, words)
-            kept, lines, turns, drawn = ((room / name).read_text() for name in ("kept", "lines", "turns", "drawn"))
+            kept, lines, turns, drawn, shown = ((room / name).read_text() for name in ("kept", "lines", "turns", "drawn", "shown"))
             told = [found[1] for turn in turns.splitlines() for found in [re.search(r", (\d+) p\d+>", turn)] if found]
             made = [line for line in lines.splitlines() if line[0].isdigit()]
             count = len([line for line in tree.fromstring(drawn).iter(f"{SVG}path") if line.get("stroke") == "black"])
-            if not came[1].endswith(lines) or len(turns.splitlines()) != kept.count("\n") or kept.count("\n") > limit or len(told) != len(made) or count != len(made):
+            if not came[1].endswith(lines) or len(turns.splitlines()) != kept.count("\n") or kept.count("\n") > limit or len(told) != len(made) or count != len(made) or f"\f{turns}\f" not in shown:
                 wrong.append(f"{words}: {came} {kept.count(chr(10))} {len(told)} {count}")
             if (came[0] == 4) != (kept.count("\n") == limit and lines.endswith("limit\n")):
                 wrong.append(f"{words}: {came[0]} after {kept.count(chr(10))}")

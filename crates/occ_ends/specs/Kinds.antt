@@ -93,7 +93,7 @@ pub record AreThose (Says : ℕ → Type 0) (ns : List ℕ) : Type 0 where
 
 -- Of a state: a circle of processes that wait, once round, if there is one; those that were halted; and those that were to come to their
 -- ends.
-pub record IsLeft (us : List Using) (p : Program) (tasks : Tasks) (left : Left) : Type 0 where
+pub record IsRest (us : List Using) (p : Program) (tasks : Tasks) (left : Left) : Type 0 where
   pub circle : IsCircle (others_among us (length p.channels) tasks) (length tasks) left.circle.items
   pub halted : AreThose (IsHalted tasks) left.halted.items
   pub unfinished : AreThose (IsUnfinished p.bodies tasks) left.unfinished.items
@@ -109,7 +109,7 @@ kind_of left = kind_by left.circle.items left.halted.items left.unfinished.items
 
 -- of whatever network of this program the tables hold
 abbrev pub IsLeftIn : List ProcessUses → Program → Tables → Left → Type 0
-IsLeftIn uses p tables left = HeldIn p tables (λ net. IsLeft (map noted_for uses) p net.tasks left)
+IsLeftIn uses p tables left = HeldIn p tables (λ net. IsRest (map noted_for uses) p net.tasks left)
 
 abbrev pub IsKindIn : List ProcessUses → Program → Tables → Kind → Type 0
 IsKindIn uses p tables kind = HeldIn p tables (λ net. IsKind (map noted_for uses) p net.tasks kind)

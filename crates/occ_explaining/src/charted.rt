@@ -13,7 +13,7 @@ use occ_report::circle_of;
 use std::alloc::{AllocError, Global};
 
 /// How many processes have a name at most.
-const MOST_NAMED: usize = 4_294_967_295;
+pub(crate) const MOST_NAMED: usize = 4_294_967_295;
 
 /// The chart of the run that `occ_play::play_in` plays for this plan, as `occ_charting::chart` draws it: each column has the name of
 /// the PROC that its process runs, where it is known, and at the foot stand processes that wait in a circle, where there are some.

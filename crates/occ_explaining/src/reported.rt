@@ -80,7 +80,7 @@ pub(crate) fn unfolded_of(alloc: Global, source: &[u8]) -> Result<Unfolded, Play
 }
 
 /// The plan of these choices.
-fn plan_of(alloc: Global, choices: &[Choice]) -> Result<Plan, AllocError>
+pub(crate) fn plan_of(alloc: Global, choices: &[Choice]) -> Result<Plan, AllocError>
     ensures { IfOk result (λ plan. choices_of plan ≡ choices.now) }
 {
     Ok(Plan::Choices(Vec::from_slice(alloc, choices)?))

@@ -1,6 +1,6 @@
 //! Says what a search has found.
 ghost use Rattle.std.specs.Prelude.{◌≡◌, ◌≤◌, IfOk, OnOk, length};
-ghost use Rattle.occ_exploring.specs.Texts.{all_text, answer_line, answer_lines, answers_text, bound_text, so_many, error_text, exploration_text, held_text, kind_text, lasting_text, left_text, said_of};
+ghost use Rattle.occ_exploring.specs.Texts.{all_text, answer_line, answer_lines, answers_text, bound_text, so_many, error_text, exploration_text, held_text, stop_kind_text, lasting_text, left_text, said_of};
 ghost use Rattle.occ_shown.specs.Answers.{AddsText};
 
 use crate::strings::write_string;
@@ -61,7 +61,7 @@ fn write_held(
 
 /// Of what kind a stop is, where that is told.
 fn kind_text(kind: Option<Kind>) -> &'static [u8]
-    ensures { result.now ≡ kind_text kind }
+    ensures { result.now ≡ stop_kind_text kind }
 {
     match kind {
         None => b"",

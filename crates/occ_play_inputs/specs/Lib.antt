@@ -4,3 +4,4 @@ pub mod Modes
 pub mod Paths
 pub mod Searches
 pub mod Notices
+pub mod Seeds

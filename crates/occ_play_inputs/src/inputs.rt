@@ -8,10 +8,10 @@ ghost use Rattle.occ_play_inputs.specs.Notices.{notice_of};
 ghost use Rattle.occ_play_inputs.specs.declared.failure.Stream.TheVariants.{Keyboard, Specification};
 
 use crate::failure::{Failure, Stream, of_input, of_read};
+use crate::seeds::seeded_plan;
 use crate::words::Words;
 use occ_choices::{Plan, read_choices};
 use occ_files::{CountedReader, read_input};
-use occ_seeds::seeded_plan;
 use occ_sources::{add_text, last_line};
 use std::alloc::{AllocError, Global};
 use std::fs;

@@ -4,10 +4,10 @@ ghost use Rattle.std.specs.Option.{ForSome, option_copied};
 ghost use Rattle.occ_choices.specs.Crews.{IsCrew};
 ghost use Rattle.occ_code.specs.CodeOf.{IsQuantum};
 ghost use Rattle.occ_play_inputs.specs.Modes.{IsMode};
-ghost use Rattle.occ_play_inputs.specs.Paths.{AreApart, HasOwnFile, IsSourcePath, IsUnread, IsUntyped, IsUnwritten};
+ghost use Rattle.occ_play_inputs.specs.Paths.{AreApart, HasOwnFile, IsPageApart, IsSourcePath, IsUnread, IsUntyped, IsUnwritten};
 ghost use Rattle.occ_play_inputs.specs.Searches.{IsFull, IsSearch};
 
-use crate::apart::{are_apart, are_untyped, are_unwritten, has_own_file, is_unread};
+use crate::apart::{are_apart, are_untyped, are_unwritten, has_own_file, is_page_apart, is_unread};
 use crate::command::command;
 use clap::error::ErrorKind;
 use clap::{ArgMatches, Command, Error};
@@ -18,7 +18,7 @@ use occ_term::Errors;
 use std::alloc::{AllocError, Global};
 
 /// The version of the program, which `CHANGELOG.md` tells of.
-pub const VERSION: &str = "0.9.0";
+pub const VERSION: &str = "1.0.0";
 
 /// How many turns a run may take where no word says so.
 pub const DEFAULT_LIMIT: u32 = 1_000_000;
@@ -46,7 +46,7 @@ pub const MOST_STATES: u32 = 10_000_000;
 
 /// What is told where two words name one file.
 const ONE_FILE: &str =
-    "--record, --typed, --chart, --trace-to and --steps each write into a file of their own";
+    "--record, --typed, --chart, --trace-to, --steps and --page each write into a file of their own";
 
 /// What the words of the command line say.
 #[derive(Debug, Drop)]
@@ -97,6 +97,8 @@ pub struct Words<'a> {
     pub json: bool,
     /// The path of the file into which a line for each turn is written.
     pub steps: Option<&'a str>,
+    /// The path of the file into which a page that shows the run is written.
+    pub page: Option<&'a str>,
     /// What a search of all lists of choices tells; none where one run is played. Then `record` names files, one for each
     /// answer, and the limit, the workers, the choices, the trace, the turns and the chart say nothing.
     pub explore: Option<Asked>,
@@ -126,6 +128,8 @@ pub struct Words<'a> {
     ghost typed_unread: { IsUnread typed file choices },
     ghost typed_apart: { HasOwnFile typed «record» chart trace_to steps },
     ghost more_untyped: { All (IsUntyped typed) more.items },
+    ghost page_apart: { IsPageApart page file choices «record» chart trace_to steps typed },
+    ghost more_unpaged: { All (IsUntyped page) more.items },
 }
 
 /// Reads the words, of which the first is the program's name.
@@ -230,6 +234,12 @@ fn words_of<'a>(matches: &ArgMatches<'a>, more: Vec<&'a str>) -> Result<Words<'a
     {
         return Err(ONE_FILE);
     }
+    let page = matches.get_str("page");
+    if !is_page_apart(page, file, choices, record, chart, trace_to, steps, typed)
+        || !are_untyped(more.as_slice(), page)
+    {
+        return Err(ONE_FILE);
+    }
     let (json, check) = (matches.get_flag("json"), matches.get_flag("check"));
     if json && !check && trace_to.is_none() {
         return Err("--json stands beside --trace-to or --check");
@@ -256,6 +266,7 @@ fn words_of<'a>(matches: &ArgMatches<'a>, more: Vec<&'a str>) -> Result<Words<'a
         trace_to,
         json,
         steps,
+        page,
         explore: explore_of(explore),
         full: is_full(explore),
         within,

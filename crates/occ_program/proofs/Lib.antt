@@ -5,3 +5,4 @@ mod Recorded
 mod Statuses
 mod Terminals
 mod Told
+mod Watched

@@ -10,6 +10,7 @@ use Rattle.occ_play.specs.declared.fault.PlayFault.{PlayFault}
 use Rattle.occ_chart.specs.declared.part.Part.{Part}
 use Rattle.occ_chart.specs.declared.part.Part.TheVariants.{First, Last}
 use Rattle.occ_explaining.specs.Explaining.{IsNamedChart, StepsOf}
+use Rattle.occ_explaining.specs.Shown.{PageOf}
 use Rattle.occ_net_replay.specs.declared.choice.Choice.{Choice}
 use Rattle.occ_explore.specs.declared.exploration.Answer.{Answer}
 use Rattle.occ_exploring.specs.Within.{outside_of}
@@ -20,9 +21,9 @@ use Rattle.occ_play_inputs.specs.declared.inputs.Inputs.{Inputs}
 use Rattle.occ_play_inputs.specs.declared.words.Words.{Words}
 use Rattle.occ_program.specs.Coming.{RefusesSource, options_in}
 use Rattle.occ_program.specs.declared.page.Page.{Page}
-use Rattle.occ_tracing.specs.declared.tracing.Form.{Form}
-use Rattle.occ_tracing.specs.declared.tracing.Form.TheVariants.{Lines, Json}
-use Rattle.occ_tracing.specs.Traced.{IsTraced}
+use Rattle.occ_explaining.specs.declared.tracing.Form.{Form}
+use Rattle.occ_explaining.specs.declared.tracing.Form.TheVariants.{Lines, Json}
+use Rattle.occ_explaining.specs.Traced.{IsTraced}
 
 -- none where no word names one or no run answered; else this text, and nothing else, at the path that the word names
 abbrev pub HasText : (List ℕ → Type 0) → Bor (List ℕ) → Option Page → Type 0
@@ -73,6 +74,16 @@ StepsPage words inputs played page = HasPage (StepsRun words inputs) words.steps
 
 abbrev pub TellsSteps : Words → Inputs → Result Played PlayFault → Result (Option Page) PlayFault → Type 0
 TellsSteps words inputs played told = HasOrRefuses (StepsPage words inputs played) words inputs told
+
+-- a page that shows the run by those choices
+abbrev pub PageOfRun : Words → Inputs → Played → List ℕ → Type 0
+PageOfRun words inputs p text = PageOf (options_in words) inputs.source.items inputs.keyboard.items p.choices.items text
+
+abbrev pub ShownPage : Words → Inputs → Result Played PlayFault → Option Page → Type 0
+ShownPage words inputs played page = HasPage (PageOfRun words inputs) words.page played page
+
+abbrev pub ShowsRun : Words → Inputs → Result Played PlayFault → Result (Option Page) PlayFault → Type 0
+ShowsRun words inputs played shown = HasOrRefuses (ShownPage words inputs played) words inputs shown
 
 -- how a trace is written, as the words say
 abbrev pub form_in : Bool → Form

@@ -12,7 +12,9 @@ mod exploring;
 mod keeping;
 mod live;
 mod looking;
+mod looks;
 mod page;
+mod paging;
 pub mod program;
 mod reading;
 mod recording;
@@ -23,6 +25,7 @@ mod terminal;
 mod tracing;
 mod troubles;
 mod typing;
+mod watching;
 
 pub use exit::exit_code;
 pub use program::run;

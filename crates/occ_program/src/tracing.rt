@@ -8,10 +8,10 @@ ghost use Rattle.occ_program.specs.Pages.{LeavesOrRefuses, TracePage, Traces, Tr
 use crate::drawing::plan_of;
 use crate::page::{Page, write_page};
 use crate::program::options_of;
+use occ_explaining::{Form, traced};
 use occ_files::Folder;
 use occ_play::{PlayFault, Played};
 use occ_play_inputs::{Failure, Inputs, Stream, Words};
-use occ_tracing::{Form, traced};
 use std::alloc::Global;
 
 /// Writes the trace of the run of these inputs into the file that the words name, where it answered: of the run by the choices that

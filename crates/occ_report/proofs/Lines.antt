@@ -17,7 +17,7 @@ use Rattle.occ_ends.specs.declared.ends.Ends.{Ends}
 use Rattle.occ_ends.specs.declared.kinds.Left.{Left}
 use Rattle.occ_ends.specs.Ends.{AreEnds, Using, all_using}
 use Rattle.occ_ends.specs.Endless.{HeldIn}
-use Rattle.occ_ends.specs.Kinds.{IsLeft}
+use Rattle.occ_ends.specs.Kinds.{IsRest}
 use Rattle.occ_net_replay.specs.Replay.{Tasks}
 use Rattle.occ_places.specs.Places.{Known}
 use Rattle.occ_report.specs.Reports.{IsCircleOf, IsReport, Noted, choosing_among, circle_text, kind_told, report_head, task_lines, task_line, told_of, task_chooses}
@@ -43,7 +43,7 @@ pub report_is : (us : List Using) (t : Term) (p : Program) (kb : List ℕ) (list
     (trace : List Communication) (n : ℕ) → ((k : List ℕ) (net : Net) → Holds p k r.tables net → net.trace ≡ trace) → n ≡ length trace
     → (start first head bytes : List ℕ) (processes count : ℕ) (left : Left) → start ≡ [] → first ≡ start ++ kind_told r.ending left → head ≡ first ++ report_head n r.ending → count ≡ min processes 4294967295
     → us ≡ all_using t → (ends : Ends) → HeldBy r.tables (λ net. AreEnds us net.tasks (length p.channels) ends)
-    → HeldIn p r.tables (λ net. IsLeft us p net.tasks left)
+    → HeldIn p r.tables (λ net. IsRest us p net.tasks left)
     → (middle : List ℕ) → ((q : Program) (k : List ℕ) (net : Net) → Holds q k r.tables net → middle ≡ head ++ task_lines (names_of p.channels) ends.readers.items ends.writers.items known net.tasks count)
     → HeldBy r.tables (λ net. bytes ≡ middle ++ circle_text net.tasks left.circle.items) → processes ≡ length p.bodies → IsReport t p kb list known bytes
 report_is us t p kb list known r h trace n shows counted start first head bytes processes count left none begun starts least is ends are is_left middle lines last all =
@@ -65,13 +65,13 @@ report_is us t p kb list known r h trace n shows counted start first head bytes 
       ends = ends;
       are_ends = subst (λ l. AreEnds l net.tasks (length p.channels) ends) is (are p kb net h.run.holds);
       left = left;
-      is_left = subst (λ l. IsLeft l p net.tasks left) is (is_left kb net h.run.holds);
+      is_left = subst (λ l. IsRest l p net.tasks left) is (is_left kb net h.run.holds);
       is = rw (sym told, sym made, sym h.ending) whole;
     }
 
 -- of the tables that a run leaves
 pub circle_is : (us : List Using) (t : Term) (p : Program) (kb : List ℕ) (list : List Choice) (r : Ran) (h : IsRan p kb list Given r) (left : Left) → us ≡ all_using t
-    → HeldIn p r.tables (λ net. IsLeft us p net.tasks left) → IsCircleOf t p kb list left.circle.items
+    → HeldIn p r.tables (λ net. IsRest us p net.tasks left) → IsCircleOf t p kb list left.circle.items
 circle_is us t p kb list r h left is is_left =
     let net = h.run.net in
     record {
@@ -80,5 +80,5 @@ circle_is us t p kb list r h left is is_left =
       replays = placed_replays p kb h.run.placed;
       begins = h.used;
       whole = h.whole;
-      is_circle = (subst (λ l. IsLeft l p net.tasks left) is (is_left kb net h.run.holds)).circle;
+      is_circle = (subst (λ l. IsRest l p net.tasks left) is (is_left kb net h.run.holds)).circle;
     }

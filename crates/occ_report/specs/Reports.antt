@@ -22,7 +22,7 @@ use Rattle.occ_shown.specs.Answers.{AddsText, items_text, names_of}
 use Rattle.occ_net_tables.specs.Outcomes.{Begins}
 use Rattle.occ_ends.specs.declared.ends.Ends.{Ends}
 use Rattle.occ_ends.specs.Ends.{AreEnds, IsCircle, all_using, noted_for}
-use Rattle.occ_ends.specs.Kinds.{IsLeft, kind_of, others_among}
+use Rattle.occ_ends.specs.Kinds.{IsRest, kind_of, others_among}
 use Rattle.occ_ends.specs.declared.kinds.Kind.{Kind}
 use Rattle.occ_ends.specs.declared.kinds.Kind.TheVariants as stops
 use Rattle.occ_ends.specs.declared.kinds.Left.{Left}
@@ -237,7 +237,7 @@ pub record IsReport (t : Term) (p : Program) (keyboard : List ℕ) (list : List 
   pub ends : Ends
   pub are_ends : AreEnds (all_using t) net.tasks (length p.channels) ends
   pub left : Left
-  pub is_left : IsLeft (all_using t) p net.tasks left
+  pub is_left : IsRest (all_using t) p net.tasks left
   pub is : bytes ≡ network_report (names_of p.channels) ends.readers.items ends.writers.items known left net (or_limit (ending_of p.errors net))
 
 -- Processes that wait in a circle in the state that the replay of the used choices comes to, where there are some.

@@ -1,0 +1,47 @@
+-- Pages that show a run.
+-- Manual: nothing; this is (own).
+use Rattle.std.specs.Prelude.{List, Vec, [], length, min, suc, zero, ℕ, ◌++◌, ◌∷◌, ◌≡◌}
+use Rattle.occ_json.specs.Pages.{page_text}
+use Rattle.occ_machine.specs.Compiled.{Program}
+use Rattle.occ_net_replay.specs.declared.choice.Choice.{Choice}
+use Rattle.occ_places.specs.Places.{Fits, Known, name_of}
+use Rattle.occ_play.specs.declared.playing.Options.{Options}
+use Rattle.occ_play.specs.Playing.{IsTextsCode}
+use Rattle.occ_text.specs.Lines.{LinesOf}
+use Rattle.occ_text.specs.Words.{LogicalLine}
+use Rattle.occ_explaining.specs.Traced.{IsTraced}
+use Rattle.occ_explaining.specs.declared.tracing.Form.TheVariants.{Json}
+use Rattle.occ_explaining.specs.Explaining.{ReportsOn, StepsOf}
+
+-- the names of the first so many processes, each on a line, which is empty where a name isn't known
+abbrev pub name_lines : List Known → ℕ → List ℕ
+name_lines known zero = []
+name_lines known (suc n) = name_lines known n ++ name_of known n ++ 10 ∷ []
+
+-- The names of all processes of a source, of a table that fits its code and its lines.
+pub record NamesOf (options : Options) (source bytes : List ℕ) : Type 0 where
+  pub program : Program
+  pub code : IsTextsCode options source program
+  pub read : List LogicalLine
+  pub reads : LinesOf source read
+  pub known : List Known
+  pub fits : Fits program read known
+  pub are : bytes ≡ name_lines known (min (length program.bodies) 4294967295)
+
+-- The page of the run of a source by these choices: between the beginning and the end that each page has stand the source, the names of its
+-- processes, the trace as lines of JSON, the lines of the turns, and the report on the end.
+pub record PageOf (options : Options) (source keyboard : List ℕ) (list : List Choice) (bytes : List ℕ) : Type 0 where
+  pub names : List ℕ
+  pub named : NamesOf options source names
+  pub trace : List ℕ
+  pub traced : IsTraced options source keyboard list Json trace
+  pub turns : List ℕ
+  pub stepped : StepsOf options source keyboard list turns
+  pub report : List ℕ
+  pub reported : ReportsOn options source keyboard list report
+  pub is : bytes ≡ page_text source names trace turns report
+
+-- ---- private contracts alone cite what follows
+
+abbrev pub HasNames : {A : Type 0} → List Known → ℕ → Vec ℕ A → Type 0
+HasNames known n bytes = bytes.items ≡ name_lines known n
