@@ -261,7 +261,7 @@ def recorded(program):
             wrong.append(f"what was played again: {again}")
         if short[0] != 4 or not short[1].endswith("limit\n") or (room / "used").read_text() != (room / "short").read_text():
             wrong.append(f"what a short list came to: {short}")
-        if not drawn.startswith("<svg") or not drawn.endswith("</svg>\n") or ">c 7<" not in drawn or ">screen 55 '7'<" not in drawn:
+        if not drawn.startswith("<svg") or not drawn.endswith("</svg>\n") or ">1: c 7<" not in drawn or ">2: screen 55 '7'<" not in drawn:
             wrong.append(f"what was drawn: {drawn!r}")
         if sorted(path.name for path in room.iterdir()) != ["again", "drawn", "drawn.too", "few", "kept", "short", "used", "used.too", "x.occ"]:
             wrong.append(f"what was left: {sorted(path.name for path in room.iterdir())}")
@@ -463,7 +463,7 @@ def starving(program, room, source):
     shapes = list(tree.parse(room / "a.svg").getroot())
     over = [after.text for line, after in zip(shapes, shapes[1:]) if line.get("stroke") == "black"]
     under = [after.text for line, after in zip(shapes, shapes[1:]) if line.get("stroke") == "red"]
-    if status != 2 or over != [f"{line[2]} {line[4]}" for line in made]:
+    if status != 2 or over != [f"{line[1]}: {line[2]} {line[4]}" for line in made]:
         yield f"arrows: {over}"
     heads = [text.text for text in tree.parse(room / "a.svg").getroot().iter(f"{SVG}text")]
     if "philosopher p2" not in heads or not any(words.startswith("a circle waits: p2 p7 p3") for words in heads):

@@ -13,9 +13,9 @@ use Rattle.occ_chart.specs.declared.part.Part.{Part}
 use Rattle.occ_chart.specs.declared.part.Part.TheVariants.{First, Last}
 use Rattle.occ_chart.specs.declared.xml.Style.TheVariants.{Plain, Red, Note, RedNote}
 use Rattle.occ_chart.specs.Columns.{AreColumns, Footing, column_of}
-use Rattle.occ_chart.specs.Labels.{arrow_words, end_words, end_name, texts_of}
+use Rattle.occ_chart.specs.Labels.{end_words, end_name, numbered_words, texts_of}
 use Rattle.occ_chart.specs.Shapes.{along, down, label, path, stub, text_at}
-use Rattle.occ_chart.specs.Xml.{Element, attribute, attribute_text, elements_text}
+use Rattle.occ_chart.specs.Xml.{AddsElements, Element, attribute, attribute_text, elements_text}
 use Rattle.occ_term.specs.declared.names.Channel.{Channel}
 use Rattle.occ_term.specs.declared.communication.Communication.{Communication}
 
@@ -62,9 +62,29 @@ is_cut part es = nat_lt most_arrows (asked part) && nat_lt most_arrows (length e
 
 -- ---- places in the picture, in points
 
+-- how many letters the head of a column has, the longest of them, and the longest words at the foot
+abbrev pub head_letters : List (List ℕ) → End → ℕ
+head_letters names x = length (end_name names x) + length (end_words (end_name names x) x)
+
+abbrev pub widest_head : List (List ℕ) → List End → ℕ
+widest_head names [] = 0
+widest_head names (x ∷ xs) = max (head_letters names x) (widest_head names xs)
+
+abbrev pub widest_foot : List Footing → ℕ
+widest_foot [] = 0
+widest_foot (s ∷ ss) = max (length s.words) (widest_foot ss)
+
+-- for how many letters each column has room: for those, but for 8 at least and 24 at most
+abbrev pub width_of : List (List ℕ) → List End → List Footing → ℕ
+width_of names columns ss = min (max (max (widest_head names columns) (widest_foot ss)) 8) 24
+
+-- the letters of so many columns
+unfoldable pub across : (letters count : ℕ) → ℕ
+across letters count = letters * count
+
 -- a column for each that takes part, from the left
-abbrev pub column : ℕ → ℕ
-column k = 180 * k + 90
+abbrev pub column : (letters : ℕ) → ℕ → ℕ
+column letters k = 8 * across letters k + 96
 
 -- a row for each communication, from the top
 abbrev pub row : ℕ → ℕ
@@ -73,45 +93,46 @@ row i = 30 * i + 80
 -- ---- its shapes
 
 -- the heads of the columns, in this height: the name of the PROC that a process runs, and its number, or what else it is
-abbrev pub heads : List (List ℕ) → (y k : ℕ) → List End → List Element
-heads names y k [] = []
-heads names y k (x ∷ xs) = label Plain (column k) y 24 (end_name names x) (end_words (end_name names x) x) ∷ heads names y (k + 1) xs
+abbrev pub heads : List (List ℕ) → (letters y k : ℕ) → List End → List Element
+heads names letters y k [] = []
+heads names letters y k (x ∷ xs) = label Plain (column letters k) y 24 (end_name names x) (end_words (end_name names x) x) ∷ heads names letters y (k + 1) xs
 
-abbrev pub lifelines : (bottom k : ℕ) → List End → List Element
-lifelines bottom k [] = []
-lifelines bottom k (x ∷ xs) = path (down (column k) bottom) (codes "silver") ∷ lifelines bottom (k + 1) xs
+abbrev pub lifelines : (letters bottom k : ℕ) → List End → List Element
+lifelines letters bottom k [] = []
+lifelines letters bottom k (x ∷ xs) = path (down (column letters k) bottom) (codes "silver") ∷ lifelines letters bottom (k + 1) xs
 
 -- halfway between two columns, and the room of what stands there
-abbrev pub halfway : ℕ → ℕ → ℕ
-halfway j k = 90 * (j + k) + 90
+abbrev pub halfway : (letters j k : ℕ) → ℕ
+halfway letters j k = 4 * across letters (j + k) + 96
 
-abbrev pub room_between : ℕ → ℕ → ℕ
-room_between j k = 24 * (max j k - min j k)
+abbrev pub room_between : (letters j k : ℕ) → ℕ
+room_between letters j k = max 24 (across letters (max j k - min j k))
 
--- an arrow from the sender's column to the receiver's, under the channel's name and the message
-abbrev pub arrow_from : (j k i : ℕ) → Entry → List Element
-arrow_from j k i e =
-    path (along (column j) (column k) (row i)) (codes "black") ∷ label Plain (halfway j k) (30 * i + 74) (room_between j k) (arrow_words e) [] ∷ []
+-- an arrow from the sender's column to the receiver's, under its number, the channel's name and the message
+abbrev pub arrow_from : (letters j k i : ℕ) → Entry → List Element
+arrow_from letters j k i e =
+    path (along (column letters j) (column letters k) (row i)) (codes "black")
+    ∷ label Plain (halfway letters j k) (30 * i + 74) (room_between letters j k) (numbered_words e) [] ∷ []
 
-abbrev pub arrow : List End → ℕ → Entry → List Element
-arrow columns i e = arrow_from (column_of e.sender columns) (column_of e.receiver columns) i e
+abbrev pub arrow : (letters : ℕ) → List End → ℕ → Entry → List Element
+arrow letters columns i e = arrow_from letters (column_of e.sender columns) (column_of e.receiver columns) i e
 
 -- each communication in a row of its own
-abbrev pub arrows : List End → ℕ → List Entry → List Element
-arrows columns i [] = []
-arrows columns i (e ∷ es) = arrow columns i e ++ arrows columns (i + 1) es
+abbrev pub arrows : (letters : ℕ) → List End → ℕ → List Entry → List Element
+arrows letters columns i [] = []
+arrows letters columns i (e ∷ es) = arrow letters columns i e ++ arrows letters columns (i + 1) es
 
 -- who stands at the foot of its column, and why
 abbrev pub foot_at : (x bottom : ℕ) → List ℕ → List Element
 foot_at x bottom words = path (stub x bottom) (codes "red") ∷ label Red x (bottom + 28) 24 words [] ∷ []
 
-abbrev pub drawn_feet : List End → (bottom : ℕ) → List Footing → List Element
-drawn_feet columns bottom [] = []
-drawn_feet columns bottom (s ∷ ss) = foot_at (column (column_of (OfProcess s.process) columns)) bottom s.words ++ drawn_feet columns bottom ss
+abbrev pub drawn_feet : (letters : ℕ) → List End → (bottom : ℕ) → List Footing → List Element
+drawn_feet letters columns bottom [] = []
+drawn_feet letters columns bottom (s ∷ ss) = foot_at (column letters (column_of (OfProcess s.process) columns)) bottom s.words ++ drawn_feet letters columns bottom ss
 
 -- the heads again, under a long chart
-abbrev pub heads_again : List (List ℕ) → (bottom count : ℕ) → List End → List Element
-heads_again names bottom count columns = if nat_lt 40 count then heads names (bottom + 46) 0 columns else []
+abbrev pub heads_again : List (List ℕ) → (letters bottom count : ℕ) → List End → List Element
+heads_again names letters bottom count columns = if nat_lt 40 count then heads names letters (bottom + 46) 0 columns else []
 
 -- ---- its notes
 
@@ -129,13 +150,13 @@ note_after bottom count high = if nat_eq count 0 then [] else text_at Note 10 (b
 abbrev pub circle_words : List ℕ → List ℕ
 circle_words ns = codes "a circle waits:" ++ numbers_text ns
 
-abbrev pub circle_label : (bottom columns : ℕ) → List ℕ → Element
-circle_label bottom columns ns = label RedNote 10 (bottom + 104) (24 * max 1 columns) (circle_words ns) []
+abbrev pub circle_label : (letters bottom columns : ℕ) → List ℕ → Element
+circle_label letters bottom columns ns = label RedNote 10 (bottom + 104) (across letters (columns - 1) + 24) (circle_words ns) []
 
 -- processes that wait for one another in a circle, where such are given
-abbrev pub note_circle : (bottom columns : ℕ) → List ℕ → List Element
-note_circle bottom columns [] = []
-note_circle bottom columns (n ∷ ns) = circle_label bottom columns (n ∷ ns) ∷ []
+abbrev pub note_circle : (letters bottom columns : ℕ) → List ℕ → List Element
+note_circle letters bottom columns [] = []
+note_circle letters bottom columns (n ∷ ns) = circle_label letters bottom columns (n ∷ ns) ∷ []
 
 abbrev pub note_ending : (bottom : ℕ) → Ending → Element
 note_ending bottom ending = text_at Note 10 (bottom + 68) [] (ending_text ending)
@@ -149,15 +170,16 @@ svg_opening width height =
     ++ codes " font-family=\"sans-serif\" font-size=\"12\" text-anchor=\"middle\">\n<rect width=\"100%\" height=\"100%\" fill=\"white\"></rect>\n"
 
 -- over the foot
-abbrev pub above : List (List ℕ) → List End → List Entry → (before : ℕ) → Bool → List ℕ
-above names columns es before high =
-    svg_opening (180 * max 1 (length columns)) (row (length es) + 120) ++ elements_text (heads names 20 0 columns) ++ elements_text (lifelines (row (length es)) 0 columns)
-    ++ elements_text (note_before before high) ++ elements_text (arrows columns 0 es)
+abbrev pub above : (letters : ℕ) → List (List ℕ) → List End → List Entry → (before : ℕ) → Bool → List ℕ
+above letters names columns es before high =
+    svg_opening (8 * across letters (length columns - 1) + 192) (row (length es) + 120) ++ elements_text (heads names letters 20 0 columns)
+    ++ elements_text (lifelines letters (row (length es)) 0 columns) ++ elements_text (note_before before high) ++ elements_text (arrows letters columns 0 es)
 
-abbrev pub foot : List (List ℕ) → List End → (count after : ℕ) → Bool → List Footing → (circle : List ℕ) → Ending → List ℕ
-foot names columns count after high ss circle ending =
-    elements_text (drawn_feet columns (row count) ss) ++ elements_text (heads_again names (row count) count columns) ++ elements_text (note_ending (row count) ending ∷ [])
-    ++ elements_text (note_after (row count) after high) ++ elements_text (note_circle (row count) (length columns) circle) ++ codes "</svg>\n"
+abbrev pub foot : (letters : ℕ) → List (List ℕ) → List End → (count after : ℕ) → Bool → List Footing → (circle : List ℕ) → Ending → List ℕ
+foot letters names columns count after high ss circle ending =
+    elements_text (drawn_feet letters columns (row count) ss) ++ elements_text (heads_again names letters (row count) count columns)
+    ++ elements_text (note_ending (row count) ending ∷ []) ++ elements_text (note_after (row count) after high)
+    ++ elements_text (note_circle letters (row count) (length columns) circle) ++ codes "</svg>\n"
 
 -- Of all communications of a run that part which is asked for, with a column for each that sends or receives one of them or stands at
 -- the foot, and each of them once, in order.
@@ -166,8 +188,8 @@ pub record IsChart (es : List Entry) (part : Part) (ending : Ending) (names : Li
   pub are : AreColumns (shown_of part es) ss columns
   pub is :
       bytes
-      ≡ above names columns (shown_of part es) (before_of part es) (is_cut part es)
-      ++ foot names columns (length (shown_of part es)) (after_of part es) (is_cut part es) ss circle ending
+      ≡ above (width_of names columns ss) names columns (shown_of part es) (before_of part es) (is_cut part es)
+      ++ foot (width_of names columns ss) names columns (length (shown_of part es)) (after_of part es) (is_cut part es) ss circle ending
 
 -- the head of one column
 abbrev pub head_of_end : {A : Type 0} → List (Vec ℕ A) → (x y : ℕ) → End → Element
@@ -177,6 +199,11 @@ head_of_end names x y end = label Plain x y 24 (end_name (texts_of names) end) (
 abbrev pub IsChartOf : {A : Type 0} → List Channel → List Communication → Part → Ending → List (Vec ℕ A) → List Footing → List ℕ → Vec ℕ A → Type 0
 IsChartOf cs trace part ending names ss circle bytes = IsChart (entries_in cs trace) part ending (texts_of names) ss circle bytes.items
 
+-- the heads were put behind a text again
+abbrev pub PutsHeadsAgain : {X E A B : Type 0} → Result X E → Vec ℕ A → Vec ℕ A → List (Vec ℕ B) → (letters bottom count : ℕ) → List End → Type 0
+PutsHeadsAgain done old new names letters bottom count columns = OnOk done (AddsElements old new (heads_again (texts_of names) letters bottom count columns))
+
 -- the foot was put behind a text
-abbrev pub PutsFoot : {X E A B : Type 0} → Result X E → Vec ℕ A → Vec ℕ A → List (Vec ℕ B) → List End → (count after : ℕ) → Bool → List Footing → (circle : List ℕ) → Ending → Type 0
-PutsFoot done old new names columns count after high stubs circle ending = OnOk done (AddsText old new (foot (texts_of names) columns count after high stubs circle ending))
+abbrev pub PutsFoot : {X E A B : Type 0} → Result X E → Vec ℕ A → Vec ℕ A → (letters : ℕ) → List (Vec ℕ B) → List End → (count after : ℕ) → Bool → List Footing → (circle : List ℕ) → Ending → Type 0
+PutsFoot done old new letters names columns count after high stubs circle ending =
+    OnOk done (AddsText old new (foot letters (texts_of names) columns count after high stubs circle ending))

@@ -47,6 +47,10 @@ message_text (Some name) ps = name ++ others_text ps
 abbrev pub arrow_words : Entry → List ℕ
 arrow_words e = e.name ++ 32 ∷ message_text e.tag e.message.items
 
+-- and before them its number in the trace
+abbrev pub numbered_words : Entry → List ℕ
+numbered_words e = decimal e.number ++ codes ": " ++ arrow_words e
+
 -- ---- heads
 
 -- the name that a process has

@@ -7,10 +7,11 @@ ghost use Rattle.occ_chart.specs.Labels.{texts_of};
 use crate::arrows::{row, write_arrows};
 use crate::columns::columns;
 use crate::feet::write_feet;
-use crate::heads::{write_heads, write_heads_again, write_lifelines};
+use crate::heads::{across, write_heads, write_heads_again, write_lifelines};
 use crate::notes::{write_after, write_before, write_circle, write_ending};
 use crate::part::{Part, shown_of};
 use crate::stub::Stub;
+use crate::widths::width_of;
 use crate::xml::write_number;
 use occ_board::Shown;
 use occ_net_trace::Trace;
@@ -39,25 +40,27 @@ fn write_opening(
 /// What stands over the foot.
 fn above(
     alloc: Global,
+    letters: u64,
     names: &[Vec<u8>],
     columns: &[End],
     shown: &[Shown],
     before: usize,
     is_cut: bool,
 ) -> Result<Vec<u8>, AllocError>
+    requires letters { letters ≤ 24 }
     requires few { length columns.now ≤ 2 ^ 40 }
     requires near { length shown.now ≤ 990 }
     ensures { IfOk result
-        (HasBytes (above (texts_of names.now) columns.now shown.now before is_cut)) }
+        (HasBytes (above letters (texts_of names.now) columns.now shown.now before is_cut)) }
 {
     let bottom = row(shown.len());
-    let width = 180 * columns.len().max(1) as u64;
+    let width = 8 * across(letters, columns.len().saturating_sub(1) as u64) + 192;
     let mut out = Vec::new(alloc);
     write_opening(alloc, &mut out, width, bottom + 120)?;
-    write_heads(alloc, &mut out, names, 20, columns)?;
-    write_lifelines(alloc, &mut out, bottom, columns)?;
+    write_heads(alloc, &mut out, names, letters, 20, columns)?;
+    write_lifelines(alloc, &mut out, letters, bottom, columns)?;
     write_before(alloc, &mut out, before, is_cut)?;
-    write_arrows(alloc, &mut out, columns, shown)?;
+    write_arrows(alloc, &mut out, letters, columns, shown)?;
     Ok(out)
 }
 
@@ -87,10 +90,12 @@ pub fn chart(
     let list = shown_of(alloc, trace, channels, part)?;
     let shown = list.as_slice();
     let columns = columns(alloc, shown, stubs)?;
+    let letters = width_of(alloc, names, columns.as_slice(), stubs)?;
     let left = all - part.count(all);
     let is_cut = part.is_cut(all);
     let mut out = above(
         alloc,
+        letters,
         names,
         columns.as_slice(),
         shown,
@@ -100,6 +105,7 @@ pub fn chart(
     write_below(
         alloc,
         &mut out,
+        letters,
         names,
         columns.as_slice(),
         shown.len(),
@@ -116,6 +122,7 @@ pub fn chart(
 fn write_below(
     alloc: Global,
     out: &mut Vec<u8>,
+    letters: u64,
     names: &[Vec<u8>],
     columns: &[End],
     count: usize,
@@ -125,16 +132,17 @@ fn write_below(
     circle: &[u32],
     ending: Ending,
 ) -> Result<(), AllocError>
+    requires letters { letters ≤ 24 }
     requires few { length columns.now ≤ 2 ^ 40 }
     requires near { count ≤ 990 }
-    ensures { PutsFoot result out.old out.new names.now columns.now count after is_cut stubs.now
-        circle.now ending }
+    ensures { PutsFoot result out.old out.new letters names.now columns.now count after is_cut
+        stubs.now circle.now ending }
 {
     let bottom = row(count);
-    write_feet(alloc, out, columns, bottom, stubs)?;
-    write_heads_again(alloc, out, names, bottom, count, columns)?;
+    write_feet(alloc, out, letters, columns, bottom, stubs)?;
+    write_heads_again(alloc, out, names, letters, bottom, count, columns)?;
     write_ending(alloc, out, bottom, ending)?;
     write_after(alloc, out, bottom, after, is_cut)?;
-    write_circle(alloc, out, bottom, columns.len(), circle)?;
+    write_circle(alloc, out, letters, bottom, columns.len(), circle)?;
     out.extend_from_slice(b"</svg>\n")
 }

@@ -115,19 +115,21 @@ fn write_foot(
 pub(crate) fn write_feet(
     alloc: Global,
     out: &mut Vec<u8>,
+    letters: u64,
     columns: &[End],
     bottom: u64,
     stubs: &[Stub],
 ) -> Result<(), AllocError>
+    requires letters { letters ≤ 24 }
     requires few { length columns.now ≤ 2 ^ 40 }
     requires bottom { bottom ≤ 2 ^ 40 }
     ensures { OnOk result
-        (AddsElements out.old out.new (drawn_feet columns.now bottom stubs.now)) }
+        (AddsElements out.old out.new (drawn_feet letters columns.now bottom stubs.now)) }
 {
     let mut rest = stubs;
     while let Some((first, others)) = rest.split_first() {
         let place = place_of(columns, End::Process(first.process()));
-        write_foot(alloc, out, column(place), bottom, first.words())?;
+        write_foot(alloc, out, column(letters, place), bottom, first.words())?;
         rest = others;
     }
     Ok(())

@@ -1,6 +1,6 @@
 //! The heads of columns, and the lines down from them.
 ghost use Rattle.std.specs.Prelude.{◌≡◌, ◌≤◌, ◌^◌, IfOk, OnOk, codes, length};
-ghost use Rattle.occ_chart.specs.Charts.{column, heads, heads_again, lifelines, head_of_end};
+ghost use Rattle.occ_chart.specs.Charts.{across, column, heads, lifelines, head_of_end, PutsHeadsAgain};
 ghost use Rattle.occ_chart.specs.Labels.{end_words, end_name, texts_of};
 ghost use Rattle.occ_chart.specs.Shapes.{down, path};
 ghost use Rattle.occ_chart.specs.Xml.{AddsElement, AddsElements};
@@ -12,12 +12,24 @@ use crate::xml::{Style, write_path};
 use occ_term::End;
 use std::alloc::{AllocError, Global};
 
-/// The place of a column in the picture.
-pub(crate) fn column(place: usize) -> u64
-    requires { place ≤ 2 ^ 40 }
-    ensures { result ≡ column place }
+/// How many letters so many columns have.
+#[tactic(auto, unfolding(crate::specs::Charts::across), using(crate::proofs::Letters::few_letters))]
+pub(crate) fn across(letters: u64, columns: u64) -> u64
+    requires letters { letters ≤ 24 }
+    requires columns { columns ≤ 2 ^ 41 }
+    ensures is { result ≡ across letters columns }
+    ensures few { result ≤ 2 ^ 46 }
 {
-    180 * place as u64 + 90
+    letters * columns
+}
+
+/// The place of a column in the picture.
+pub(crate) fn column(letters: u64, place: usize) -> u64
+    requires letters { letters ≤ 24 }
+    requires place { place ≤ 2 ^ 40 }
+    ensures { result ≡ column letters place }
+{
+    8 * across(letters, place as u64) + 96
 }
 
 /// The name of an end: `p` and a process's number, or what else it is.
@@ -40,7 +52,7 @@ pub fn write_end(alloc: Global, out: &mut Vec<u8>, end: End) -> Result<(), Alloc
 }
 
 /// What stands behind the name of an end.
-fn end_words(alloc: Global, name: &[u8], end: End) -> Result<Vec<u8>, AllocError>
+pub(crate) fn end_words(alloc: Global, name: &[u8], end: End) -> Result<Vec<u8>, AllocError>
     ensures { IfOk result (λ words. words.items ≡ end_words name.now end) }
 {
     let mut words = Vec::new(alloc);
@@ -52,7 +64,7 @@ fn end_words(alloc: Global, name: &[u8], end: End) -> Result<Vec<u8>, AllocError
 }
 
 /// The name that an end has.
-fn name_of(names: &[Vec<u8>], end: End) -> &[u8]
+pub(crate) fn name_of(names: &[Vec<u8>], end: End) -> &[u8]
     ensures { result.now ≡ end_name (texts_of names.now) end }
 {
     match end {
@@ -86,15 +98,17 @@ pub(crate) fn write_heads(
     alloc: Global,
     out: &mut Vec<u8>,
     names: &[Vec<u8>],
+    letters: u64,
     y: u64,
     columns: &[End],
 ) -> Result<(), AllocError>
-    requires { length columns.now ≤ 2 ^ 40 }
+    requires letters { letters ≤ 24 }
+    requires columns { length columns.now ≤ 2 ^ 40 }
     ensures { OnOk result
-        (AddsElements out.old out.new (heads (texts_of names.now) y 0 columns.now)) }
+        (AddsElements out.old out.new (heads (texts_of names.now) letters y 0 columns.now)) }
 {
     for i in 0..columns.len() {
-        write_head(alloc, out, names, column(i), y, columns[i])?;
+        write_head(alloc, out, names, column(letters, i), y, columns[i])?;
     }
     Ok(())
 }
@@ -104,17 +118,18 @@ pub(crate) fn write_heads_again(
     alloc: Global,
     out: &mut Vec<u8>,
     names: &[Vec<u8>],
+    letters: u64,
     y: u64,
     count: usize,
     columns: &[End],
 ) -> Result<(), AllocError>
+    requires letters { letters ≤ 24 }
     requires columns { length columns.now ≤ 2 ^ 40 }
     requires bottom { y ≤ 2 ^ 40 }
-    ensures { OnOk result
-        (AddsElements out.old out.new (heads_again (texts_of names.now) y count columns.now)) }
+    ensures { PutsHeadsAgain result out.old out.new names.now letters y count columns.now }
 {
     if count > 40 {
-        return write_heads(alloc, out, names, y + 46, columns);
+        return write_heads(alloc, out, names, letters, y + 46, columns);
     }
     Ok(())
 }
@@ -139,17 +154,19 @@ fn write_lifeline(alloc: Global, out: &mut Vec<u8>, x: u64, bottom: u64) -> Resu
 pub(crate) fn write_lifelines(
     alloc: Global,
     out: &mut Vec<u8>,
+    letters: u64,
     bottom: u64,
     columns: &[End],
 ) -> Result<(), AllocError>
-    requires { length columns.now ≤ 2 ^ 40 }
+    requires letters { letters ≤ 24 }
+    requires columns { length columns.now ≤ 2 ^ 40 }
     ensures { OnOk result
-        (AddsElements out.old out.new (lifelines bottom 0 columns.now)) }
+        (AddsElements out.old out.new (lifelines letters bottom 0 columns.now)) }
 {
     let mut place = 0;
     let mut rest = columns;
     while let Some((_, others)) = rest.split_first() {
-        write_lifeline(alloc, out, column(place), bottom)?;
+        write_lifeline(alloc, out, column(letters, place), bottom)?;
         place += 1;
         rest = others;
     }

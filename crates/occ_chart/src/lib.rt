@@ -13,6 +13,7 @@ mod messages;
 mod notes;
 mod part;
 mod stub;
+mod widths;
 mod xml;
 
 pub use arrows::words_of;

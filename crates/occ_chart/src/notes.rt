@@ -1,9 +1,10 @@
 //! What is noted beside the arrows of a chart.
-ghost use Rattle.std.specs.Prelude.{◌≡◌, ◌++◌, ◌+◌, ◌*◌, ◌≤◌, ◌^◌, ◌∷◌, [], IfOk, OnOk, codes, length, max};
-ghost use Rattle.occ_chart.specs.Charts.{circle_label, circle_words, cut_words, note_after, note_before, note_circle, note_ending};
+ghost use Rattle.std.specs.Prelude.{◌≡◌, ◌++◌, ◌+◌, ◌-◌, ◌≤◌, ◌^◌, ◌∷◌, [], IfOk, OnOk, codes, length};
+ghost use Rattle.occ_chart.specs.Charts.{across, circle_label, circle_words, cut_words, note_after, note_before, note_circle, note_ending};
 ghost use Rattle.occ_chart.specs.Xml.{AddsElement, AddsElements};
 ghost use Rattle.occ_term.specs.Endings.{ending_text};
 
+use crate::heads::across;
 use crate::labels::write_label;
 use crate::xml::{Style, write_text};
 use occ_shown::write_numbers;
@@ -68,11 +69,12 @@ pub(crate) fn write_after(
 }
 
 /// How many letters have room under so many columns.
-fn room_under(columns: usize) -> usize
-    requires { columns ≤ 2 ^ 40 }
-    ensures { result ≡ 24 * max 1 columns }
+fn room_under(letters: u64, columns: usize) -> usize
+    requires letters { letters ≤ 24 }
+    requires columns { columns ≤ 2 ^ 40 }
+    ensures { result ≡ across letters (columns - 1) + 24 }
 {
-    24 * columns.max(1)
+    across(letters, columns.saturating_sub(1) as u64) as usize + 24
 }
 
 /// What is said of processes that wait for one another in a circle.
@@ -87,16 +89,19 @@ fn circle_words(alloc: Global, circle: &[u32]) -> Result<Vec<u8>, AllocError>
 fn write_circle_words(
     alloc: Global,
     out: &mut Vec<u8>,
+    letters: u64,
     bottom: u64,
     columns: usize,
     circle: &[u32],
 ) -> Result<(), AllocError>
+    requires letters { letters ≤ 24 }
     requires columns { columns ≤ 2 ^ 40 }
     requires bottom { bottom ≤ 2 ^ 40 }
-    ensures { OnOk result (AddsElement out.old out.new (circle_label bottom columns circle.now)) }
+    ensures { OnOk result
+        (AddsElement out.old out.new (circle_label letters bottom columns circle.now)) }
 {
     let words = circle_words(alloc, circle)?;
-    let room = room_under(columns);
+    let room = room_under(letters, columns);
     let height = bottom + 104;
     write_label(
         alloc,
@@ -114,16 +119,19 @@ fn write_circle_words(
 pub(crate) fn write_circle(
     alloc: Global,
     out: &mut Vec<u8>,
+    letters: u64,
     bottom: u64,
     columns: usize,
     circle: &[u32],
 ) -> Result<(), AllocError>
+    requires letters { letters ≤ 24 }
     requires columns { columns ≤ 2 ^ 40 }
     requires bottom { bottom ≤ 2 ^ 40 }
-    ensures { OnOk result (AddsElements out.old out.new (note_circle bottom columns circle.now)) }
+    ensures { OnOk result
+        (AddsElements out.old out.new (note_circle letters bottom columns circle.now)) }
 {
     match circle.split_first() {
-        Some(_) => write_circle_words(alloc, out, bottom, columns, circle),
+        Some(_) => write_circle_words(alloc, out, letters, bottom, columns, circle),
         None => Ok(()),
     }
 }

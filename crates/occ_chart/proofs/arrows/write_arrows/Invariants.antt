@@ -6,7 +6,7 @@ use Rattle.occ_chart.proofs.arrows.write_arrows.Given as goal
 abbrev pub invariant-loop-first : goal.invariant-loop-first
 invariant-loop-first l = record {
   counted : l.number + length l.rest ≡ length l.shown;
-  written : l.out.items ++ elements_text (arrows l.columns l.number l.rest) ≡ l.fn.out.items ++ elements_text (arrows l.columns 0 l.fn.shown);
+  written : l.out.items ++ elements_text (arrows l.letters l.columns l.number l.rest) ≡ l.fn.out.items ++ elements_text (arrows l.letters l.columns 0 l.fn.shown);
 }
 
 abbrev pub decreases-loop-first : goal.decreases-loop-first
