@@ -19,8 +19,12 @@ use Rattle.occ_files.specs.Leaving.{LeavesOne, LeavesAll, LeavesNothing, Written
 use Rattle.occ_play_inputs.specs.declared.failure.Failure.{Failure}
 use Rattle.occ_play_inputs.specs.declared.inputs.Inputs.{Inputs}
 use Rattle.occ_play_inputs.specs.declared.words.Words.{Words}
-use Rattle.occ_program.specs.Coming.{RefusesSource, options_in}
+use Rattle.occ_play_inputs.specs.declared.failure.Stream.{Stream}
+use Rattle.occ_play_inputs.specs.declared.failure.Stream.TheVariants as streams
+use Rattle.occ_program.specs.Coming.{options_in}
 use Rattle.occ_program.specs.declared.page.Page.{Page}
+use Rattle.occ_program.specs.declared.telling.Told.{Told}
+use Rattle.occ_program.specs.declared.telling.Told.TheVariants as told
 use Rattle.occ_explaining.specs.declared.tracing.Form.{Form}
 use Rattle.occ_explaining.specs.declared.tracing.Form.TheVariants.{Lines, Json}
 use Rattle.occ_explaining.specs.Traced.{IsTraced}
@@ -44,62 +48,43 @@ Records path played page = HasPage (λ p text. text ≡ choice_text p.choices.it
 abbrev pub TypedPage : Words → Inputs → Result Played PlayFault → Option Page → Type 0
 TypedPage words inputs played page = HasPage (λ p text. text ≡ inputs.keyboard.items) words.typed played page
 
--- such a page, or the source was refused
-abbrev pub HasOrRefuses : (Option Page → Type 0) → Words → Inputs → Result (Option Page) PlayFault → Type 0
-HasOrRefuses Is words inputs (Ok page) = Is page
-HasOrRefuses Is words inputs (Err fault) = RefusesSource words inputs fault
+-- ---- what is told of a run by the choices that it used
 
 -- which communications are drawn, as the words say
 abbrev pub part_in : ℕ → Option ℕ → Part
 part_in most None = First most
 part_in most (Some n) = Last n
 
--- a chart of the run by those choices
-abbrev pub ChartsRun : Words → Inputs → Played → List ℕ → Type 0
-ChartsRun words inputs p text =
-    IsNamedChart (options_in words) inputs.source.items inputs.keyboard.items p.choices.items (part_in words.arrows words.last) text
-
-abbrev pub Charts : Words → Inputs → Result Played PlayFault → Option Page → Type 0
-Charts words inputs played page = HasPage (ChartsRun words inputs) words.chart played page
-
-abbrev pub Draws : Words → Inputs → Result Played PlayFault → Result (Option Page) PlayFault → Type 0
-Draws words inputs played drawn = HasOrRefuses (Charts words inputs played) words inputs drawn
-
--- the turns of the run by those choices
-abbrev pub StepsRun : Words → Inputs → Played → List ℕ → Type 0
-StepsRun words inputs p text = StepsOf (options_in words) inputs.source.items inputs.keyboard.items p.choices.items text
-
-abbrev pub StepsPage : Words → Inputs → Result Played PlayFault → Option Page → Type 0
-StepsPage words inputs played page = HasPage (StepsRun words inputs) words.steps played page
-
-abbrev pub TellsSteps : Words → Inputs → Result Played PlayFault → Result (Option Page) PlayFault → Type 0
-TellsSteps words inputs played told = HasOrRefuses (StepsPage words inputs played) words inputs told
-
--- a page that shows the run by those choices
-abbrev pub PageOfRun : Words → Inputs → Played → List ℕ → Type 0
-PageOfRun words inputs p text = PageOf (options_in words) inputs.source.items inputs.keyboard.items p.choices.items text
-
-abbrev pub ShownPage : Words → Inputs → Result Played PlayFault → Option Page → Type 0
-ShownPage words inputs played page = HasPage (PageOfRun words inputs) words.page played page
-
-abbrev pub ShowsRun : Words → Inputs → Result Played PlayFault → Result (Option Page) PlayFault → Type 0
-ShowsRun words inputs played shown = HasOrRefuses (ShownPage words inputs played) words inputs shown
-
 -- how a trace is written, as the words say
 abbrev pub form_in : Bool → Form
 form_in true = Json
 form_in false = Lines
 
--- the trace of the run by those choices
-abbrev pub TracesRun : Words → Inputs → Played → List ℕ → Type 0
-TracesRun words inputs p text =
-    IsTraced (options_in words) inputs.source.items inputs.keyboard.items p.choices.items (form_in words.json) text
+-- a chart of the run, its trace, its turns, or a page that shows it
+abbrev pub TellsRun : Told → Words → Inputs → Played → List ℕ → Type 0
+TellsRun told.Chart words inputs p text =
+    IsNamedChart (options_in words) inputs.source.items inputs.keyboard.items p.choices.items (part_in words.arrows words.last) text
+TellsRun told.Trace words inputs p text = IsTraced (options_in words) inputs.source.items inputs.keyboard.items p.choices.items (form_in words.json) text
+TellsRun told.Turns words inputs p text = StepsOf (options_in words) inputs.source.items inputs.keyboard.items p.choices.items text
+TellsRun told.Page words inputs p text = PageOf (options_in words) inputs.source.items inputs.keyboard.items p.choices.items text
 
-abbrev pub TracePage : Words → Inputs → Result Played PlayFault → Option Page → Type 0
-TracePage words inputs played page = HasPage (TracesRun words inputs) words.trace_to played page
+-- the path that the words name for it
+abbrev pub path_told : Told → Words → Option (Bor (List ℕ))
+path_told told.Chart words = words.chart
+path_told told.Trace words = words.trace_to
+path_told told.Turns words = words.steps
+path_told told.Page words = words.page
 
-abbrev pub Traces : Words → Inputs → Result Played PlayFault → Result (Option Page) PlayFault → Type 0
-Traces words inputs played traced = HasOrRefuses (TracePage words inputs played) words inputs traced
+-- what its file is called where writing it fails
+abbrev pub stream_told : Told → Stream
+stream_told told.Chart = streams.Chart
+stream_told told.Trace = streams.Trace
+stream_told told.Turns = streams.Turns
+stream_told told.Page = streams.Page
+
+-- that, at the path that the words name, if they do
+abbrev pub ToldPage : Told → Words → Inputs → Played → Option Page → Type 0
+ToldPage told words inputs p page = HasPage (TellsRun told words inputs) (path_told told words) (Ok p) page
 
 -- ---- what is then in the folder
 
@@ -118,12 +103,6 @@ pub record WritesPage (Is : Option Page → Type 0) (old new : Option (List Writ
 abbrev pub IsLeft : {F : Type 0} → (F → Option (List Written)) → (old new : F) → (Option Page → Type 0) → Result ⊤ Failure → Type 0
 IsLeft left old new Is (Ok done) = WritesPage Is (left old) (left new)
 IsLeft left old new Is (Err failure) = LeavesNothing (left old) (left new) ⊎ WritesPage Is (left old) (left new)
-
--- a refused source leaves none
-abbrev pub LeavesOrRefuses : {F : Type 0} → (F → Option (List Written)) → (old new : F) → (Option Page → Type 0) → Result (Result ⊤ PlayFault) Failure → Type 0
-LeavesOrRefuses left old new Is (Ok (Ok done)) = WritesPage Is (left old) (left new)
-LeavesOrRefuses left old new Is (Ok (Err fault)) = LeavesNothing (left old) (left new)
-LeavesOrRefuses left old new Is (Err failure) = LeavesNothing (left old) (left new) ⊎ WritesPage Is (left old) (left new)
 
 -- ---- the files of a search
 

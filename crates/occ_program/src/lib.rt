@@ -5,7 +5,6 @@
 
 mod choosing;
 mod counting;
-mod drawing;
 pub mod exit;
 mod explaining;
 mod exploring;
@@ -14,15 +13,13 @@ mod live;
 mod looking;
 mod looks;
 mod page;
-mod paging;
 pub mod program;
 mod reading;
 mod recording;
 mod reporting;
 mod seeding;
-mod stepping;
+mod telling;
 mod terminal;
-mod tracing;
 mod troubles;
 mod typing;
 mod watching;

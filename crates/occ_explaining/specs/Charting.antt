@@ -71,16 +71,12 @@ pub record IsRunChart (options : Options) (source keyboard : List ℕ) (list : L
       IsChart (shown (names_of text.program.channels) run.events).trace part (or_limit (ending_of code.errors net)) names
       (feet (names_of text.program.channels) net.tasks) circle bytes
 
--- ---- of what code has
+-- ---- private contracts alone cite what follows
 
 abbrev pub IsReplayChartOf : {A : Type 0} → Program → List ℕ → Plan → Part → List (Vec ℕ A) → List ℕ → Vec ℕ A → Type 0
 IsReplayChartOf p keyboard plan part names circle bytes = IsReplayChart p keyboard (choices_of plan) part (texts_of names) circle bytes.items
 
-abbrev pub IsRunChartOf : {A : Type 0} → Options → (source keyboard : List ℕ) → Plan → Part → List (Vec ℕ A) → List ℕ → Vec ℕ A → Type 0
-IsRunChartOf options source keyboard plan part names circle bytes =
-    IsRunChart options source keyboard (choices_of plan) part (texts_of names) circle bytes.items
-
--- private contracts alone cite these: the words of a process, and of whatever network the tables hold
+-- the words of a process, and of whatever network the tables hold
 abbrev pub AddsFooting : {A B : Type 0} → ℕ → Option (Vec ℕ A) → (old new : Vec Footing B) → Type 0
 AddsFooting n words old new = new.items ≡ old.items ++ foot_standing n (option_map (λ v. v.items) words)
 

@@ -1,6 +1,6 @@
 use Rattle.occ_shown.specs.Answers.{names_of}
-use Rattle.occ_charting.proofs.Charted.{feet_step}
-use Rattle.occ_charting.proofs.feet.feet.Goals as goal
+use Rattle.occ_explaining.proofs.Charted.{feet_step}
+use Rattle.occ_explaining.proofs.feet.feet.Goals as goal
 
 pub loop-number-preserved : goal.loop-number-preserved
 loop-number-preserved c = λ p keyboard net h.

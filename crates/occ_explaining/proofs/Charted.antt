@@ -4,7 +4,7 @@ use Rattle.std.specs.Prelude.{get_or, slice_get}
 use Rattle.occ_chart.specs.declared.part.Part.{Part}
 use Rattle.occ_chart.specs.Charts.{IsChart}
 use Rattle.occ_chart.specs.Columns.{Footing}
-use Rattle.occ_charting.specs.Charting.{IsReplayChart, IsRunChart, feet, feet_of, foot_in}
+use Rattle.occ_explaining.specs.Charting.{IsReplayChart, IsRunChart, feet, feet_of, foot_in}
 use Rattle.occ_machine.specs.Compiled.{Program}
 use Rattle.occ_net_replay.specs.declared.choice.Choice.{Choice}
 use Rattle.occ_net_replay.specs.Following.{AreBytes}

@@ -1,6 +1,6 @@
 //! Who stands at the foot of a chart.
 ghost use Rattle.std.specs.Prelude.{◌≡◌, IfOk, OnOk, length, min};
-ghost use Rattle.occ_charting.specs.Charting.{AddsFoot, AddsFooting, AreFeet};
+ghost use Rattle.occ_explaining.specs.Charting.{AddsFoot, AddsFooting, AreFeet};
 
 use occ_chart::{Stub, foot_of};
 use occ_net_tables::Tables;
