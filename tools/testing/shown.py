@@ -79,17 +79,17 @@ def made(program, folder, source, words=()):
     data = page[len(head) : len(page) - len(foot)]
     texts = data.split(b"\x0c")
     faults = ["a < in the data"] if b"<" in data else []
-    wanted = [source.encode(), None, (folder / "trace").read_bytes(), (folder / "turns").read_bytes()]
+    wanted = [source.encode(), None, b"", (folder / "trace").read_bytes(), (folder / "turns").read_bytes()]
     for place, text in enumerate(wanted):
         if text is not None and texts[place] + b"\x0c" != kept(text):
             faults.append(f"the text {place} is another one")
-    if len(texts) != 6 or texts[5]:
+    if len(texts) != 7 or texts[6]:
         faults.append(f"{len(texts)} texts")
-    plain = [re.sub(rb"\\u([0-9a-f]{4})", lambda code: bytes([int(code[1], 16)]), text) for text in texts[:5]]
+    plain = [re.sub(rb"\\u([0-9a-f]{4})", lambda code: bytes([int(code[1], 16)]), text) for text in texts[:6]]
     report = run(program, folder, ["--choices", "used", "--explain", "x.occ"], b"some keys\n")[2]
-    if report and plain[4] + b"  the schedule ends here: a longer one lets the run go on\n" != report and plain[4] != report:
+    if report and plain[5] + b"  the schedule ends here: a longer one lets the run go on\n" != report and plain[5] != report:
         faults.append(f"another report: {report[:200]}")
-    for number, name in re.findall(rb"(?m)^  p(\d+) ([\w.]+), line", plain[4]):
+    for number, name in re.findall(rb"(?m)^  p(\d+) ([\w.]+), line", plain[5]):
         if plain[1].split(b"\n")[int(number)] != name:
             faults.append(f"p{number.decode()} has another name")
     return [text.decode(errors="replace") for text in plain], faults
@@ -103,7 +103,7 @@ def composed(program, source, words=()):
 
 def walked(shown, texts):
     """What is wrong with what the page shows of each turn, on and back."""
-    _, _, trace, turns, report = texts
+    _, _, _, trace, turns, report = texts
     lines, entries = turns.splitlines(), [json.loads(line) for line in trace.splitlines()][:-1]
     seen, count = [], 0
     shown.press("Home")

@@ -3,11 +3,12 @@
 use Rattle.std.specs.Prelude.{List, Option, Vec, map, ℕ, ◌≡◌}
 use Rattle.occ_chart.specs.declared.part.Part.{Part}
 use Rattle.occ_ends.specs.Ends.{all_using, noted_for}
+use Rattle.occ_json.specs.declared.pages.RunTexts.{RunTexts}
 use Rattle.occ_net_replay.specs.declared.choice.Choice.{Choice}
 use Rattle.occ_play.specs.declared.playing.Options.{Options}
 use Rattle.occ_term.specs.UnfoldedProgram.{UnfoldedProgram, meaning}
 use Rattle.occ_explaining.specs.Explaining.{IsKnown, IsNamedChart, ReportsOn, StepsOf}
-use Rattle.occ_explaining.specs.Shown.{NamesOf, PageOf}
+use Rattle.occ_explaining.specs.Shown.{IsRunOf, NamesOf, PageOf}
 use Rattle.occ_explaining.specs.Traced.{IsTraced}
 use Rattle.occ_explaining.specs.Typing.{PastOf}
 use Rattle.occ_explaining.specs.declared.studied.Studied.{Studied}
@@ -39,9 +40,12 @@ ChartsBy s keyboard list part bytes = ForSource s (λ options source. IsNamedCha
 abbrev pub NamesBy : {A : Type 0} → Studied → Vec ℕ A → Type 0
 NamesBy s bytes = ForSource s (λ options source. NamesOf options source bytes.items)
 
+abbrev pub RunsBy : Studied → (keyboard head : List ℕ) → List Choice → RunTexts → Type 0
+RunsBy s keyboard head list r = ForSource s (λ options source. IsRunOf options source keyboard head list r)
+
 -- the page has the source itself
-abbrev pub PagesBy : {A : Type 0} → Studied → (source keyboard : List ℕ) → List Choice → Vec ℕ A → Type 0
-PagesBy s source keyboard list bytes = (options : Options) → IsStudied options source s → PageOf options source keyboard list bytes.items
+abbrev pub PagesBy : {A : Type 0} → Studied → (source : List ℕ) → List RunTexts → Vec ℕ A → Type 0
+PagesBy s source runs bytes = (options : Options) → IsStudied options source s → PageOf options source runs bytes.items
 
 -- a turn is that of the first choice, if any, that names none of the processes that are ready then
 abbrev pub PastBy : Studied → (keyboard : List ℕ) → List Choice → Option ℕ → Type 0

@@ -1,20 +1,46 @@
-//! Pages that show a run.
+//! Pages that show runs.
 ghost use Rattle.std.specs.Prelude.{◌≡◌, IfOk};
 ghost use Rattle.occ_explaining.specs.Shown.{HasNames};
-ghost use Rattle.occ_explaining.specs.Studied.{NamesBy, PagesBy};
+ghost use Rattle.occ_explaining.specs.Studied.{NamesBy, PagesBy, RunsBy};
 
 use crate::charted::MOST_NAMED;
 use crate::reported::report_of;
 use crate::stepped::steps_of;
 use crate::studied::Studied;
 use crate::tracing::{Form, trace_of};
-use occ_json::page;
+use occ_json::{RunTexts, page};
 use occ_net_replay::Choice;
 use occ_places::Places;
 use std::alloc::{AllocError, Global};
 
-/// A page that shows the run of this source by these choices, for a browser: the source, the PROC of each process, the trace, the turns,
-/// and the report on the end, between the beginning and the end of the page.
+/// What a page has of the run of a source by these choices: this line, the trace, the turns, and the report on the end.
+///
+/// # Errors
+///
+/// A refused growth.
+pub fn run_texts(
+    studied: &Studied,
+    alloc: Global,
+    keyboard: &[u8],
+    head: &[u8],
+    choices: &[Choice],
+) -> Result<RunTexts, AllocError>
+    ensures { IfOk result (RunsBy studied.now keyboard.now head.now choices.now) }
+{
+    let trace = trace_of(studied, alloc, keyboard, choices, Form::Json)?;
+    let turns = steps_of(studied, alloc, keyboard, choices)?;
+    let report = report_of(studied, alloc, keyboard, choices)?;
+    let head = Vec::from_slice(alloc, head)?;
+    Ok(RunTexts {
+        head,
+        trace,
+        turns,
+        report,
+    })
+}
+
+/// A page that shows such runs of this source, for a browser: the source, the PROC of each process, and the runs, between the beginning
+/// and the end of the page.
 ///
 /// # Errors
 ///
@@ -23,23 +49,12 @@ pub fn page_of(
     studied: &Studied,
     alloc: Global,
     source: &[u8],
-    keyboard: &[u8],
-    choices: &[Choice],
+    runs: &[RunTexts],
 ) -> Result<Vec<u8>, AllocError>
-    ensures { IfOk result (PagesBy studied.now source.now keyboard.now choices.now) }
+    ensures { IfOk result (PagesBy studied.now source.now runs.now) }
 {
     let names = names_of(studied, alloc)?;
-    let trace = trace_of(studied, alloc, keyboard, choices, Form::Json)?;
-    let turns = steps_of(studied, alloc, keyboard, choices)?;
-    let report = report_of(studied, alloc, keyboard, choices)?;
-    let bytes = page(
-        alloc,
-        source,
-        names.as_slice(),
-        trace.as_slice(),
-        turns.as_slice(),
-        report.as_slice(),
-    )?;
+    let bytes = page(alloc, source, names.as_slice(), runs)?;
     Ok(bytes)
 }
 

@@ -1,6 +1,6 @@
 -- Which files a run leaves.
 -- Manual: nothing; this is (own).
-use Rattle.std.specs.Prelude.{Bool, List, Some, None, Ok, Err, Option, Result, [], codes, false, suc, take, true, ℕ, ◌++◌, ◌∷◌, ◌≡◌, ◌⊎◌, ⊤}
+use Rattle.std.specs.Prelude.{Bool, List, Some, None, Ok, Err, Option, Result, Vec, [], codes, false, suc, take, true, ℕ, ◌++◌, ◌∷◌, ◌≡◌, ◌⊎◌, ⊤}
 use Rattle.std.specs.Fmt.{decimal}
 use Rattle.std.specs.Borrow.{Bor}
 use Rattle.std.specs.Option.{option_to_list}
@@ -10,9 +10,15 @@ use Rattle.occ_play.specs.declared.fault.PlayFault.{PlayFault}
 use Rattle.occ_chart.specs.declared.part.Part.{Part}
 use Rattle.occ_chart.specs.declared.part.Part.TheVariants.{First, Last}
 use Rattle.occ_explaining.specs.Explaining.{IsNamedChart, StepsOf}
-use Rattle.occ_explaining.specs.Shown.{PageOf}
+use Rattle.occ_explaining.specs.Shown.{IsRunOf, PageOf}
+use Rattle.occ_explaining.specs.Studied.{IsStudied}
+use Rattle.occ_explaining.specs.declared.studied.Studied.{Studied}
+use Rattle.occ_json.specs.declared.pages.RunTexts.{RunTexts}
 use Rattle.occ_net_replay.specs.declared.choice.Choice.{Choice}
+use Rattle.occ_play.specs.declared.playing.Options.{Options}
 use Rattle.occ_explore.specs.declared.exploration.Answer.{Answer}
+use Rattle.occ_explore.specs.declared.exploration.Asked.{Asked}
+use Rattle.occ_exploring.specs.Texts.{answer_line}
 use Rattle.occ_exploring.specs.Within.{outside_of}
 use Rattle.occ_exploring.specs.declared.within.Kept.{Kept}
 use Rattle.occ_files.specs.Leaving.{LeavesOne, LeavesAll, LeavesNothing, Written}
@@ -33,6 +39,11 @@ use Rattle.occ_explaining.specs.Traced.{IsTraced}
 abbrev pub HasText : (List ℕ → Type 0) → Bor (List ℕ) → Option Page → Type 0
 HasText Is path None = ⊥
 HasText Is path (Some page) = (page.path.now ≡ path.now) × Is page.text.items
+
+-- such a text at this path, if there is one
+abbrev pub HasTextAt : (List ℕ → Type 0) → Option (Bor (List ℕ)) → Option Page → Type 0
+HasTextAt Is None page = page ≡ None
+HasTextAt Is (Some path) page = HasText Is path page
 
 -- such a text of the run
 abbrev pub HasPage : (Played → List ℕ → Type 0) → Option (Bor (List ℕ)) → Result Played PlayFault → Option Page → Type 0
@@ -60,13 +71,17 @@ abbrev pub form_in : Bool → Form
 form_in true = Json
 form_in false = Lines
 
+-- a page that shows the run by these choices, and no other one
+abbrev pub ShowsRun : Options → (source keyboard : List ℕ) → List Choice → List ℕ → Type 0
+ShowsRun options source keyboard list text = (r : RunTexts) × IsRunOf options source keyboard [] list r × PageOf options source (r ∷ []) text
+
 -- a chart of the run, its trace, its turns, or a page that shows it
 abbrev pub TellsRun : Told → Words → Inputs → Played → List ℕ → Type 0
 TellsRun told.Chart words inputs p text =
     IsNamedChart (options_in words) inputs.source.items inputs.keyboard.items p.choices.items (part_in words.arrows words.last) text
 TellsRun told.Trace words inputs p text = IsTraced (options_in words) inputs.source.items inputs.keyboard.items p.choices.items (form_in words.json) text
 TellsRun told.Turns words inputs p text = StepsOf (options_in words) inputs.source.items inputs.keyboard.items p.choices.items text
-TellsRun told.Page words inputs p text = PageOf (options_in words) inputs.source.items inputs.keyboard.items p.choices.items text
+TellsRun told.Page words inputs p text = ShowsRun (options_in words) inputs.source.items inputs.keyboard.items p.choices.items text
 
 -- the path that the words name for it
 abbrev pub path_told : Told → Words → Option (Bor (List ℕ))
@@ -84,7 +99,7 @@ stream_told told.Page = streams.Page
 
 -- that, at the path that the words name, if they do
 abbrev pub ToldPage : Told → Words → Inputs → Played → Option Page → Type 0
-ToldPage told words inputs p page = HasPage (TellsRun told words inputs) (path_told told words) (Ok p) page
+ToldPage told words inputs p page = HasTextAt (TellsRun told words inputs p) (path_told told words) page
 
 -- ---- what is then in the folder
 
@@ -105,6 +120,22 @@ IsLeft left old new Is (Ok done) = WritesPage Is (left old) (left new)
 IsLeft left old new Is (Err failure) = LeavesNothing (left old) (left new) ⊎ WritesPage Is (left old) (left new)
 
 -- ---- the files of a search
+
+-- of each answer, from this number on: the line that is printed of it, and its run
+abbrev pub AreRunsOf : Words → Inputs → Asked → ℕ → List Answer → List RunTexts → Type 0
+AreRunsOf words inputs asked number [] rs = rs ≡ []
+AreRunsOf words inputs asked number (a ∷ others) [] = ⊥
+AreRunsOf words inputs asked number (a ∷ others) (r ∷ rs) =
+    IsRunOf (options_in words) inputs.source.items inputs.keyboard.items (answer_line asked number a) a.choices.items r × AreRunsOf words inputs asked (suc number) others rs
+
+-- a page that shows the runs of these answers
+abbrev pub ShowsAnswers : Words → Inputs → Asked → List Answer → List ℕ → Type 0
+ShowsAnswers words inputs asked answers text =
+    (rs : List RunTexts) × AreRunsOf words inputs asked 1 answers rs × PageOf (options_in words) inputs.source.items rs text
+
+-- at the path that the words name, if they do
+abbrev pub AnswersPage : Words → Inputs → Asked → List Answer → Option Page → Type 0
+AnswersPage words inputs asked answers page = HasTextAt (ShowsAnswers words inputs asked answers) words.page page
 
 -- the path of the choices of the answer with this number
 abbrev pub answer_path : List ℕ → ℕ → List ℕ
@@ -132,3 +163,9 @@ AreRecorded stem answers old new (Err failure) = (n : ℕ) × LeavesAll old new 
 -- that of the answer that is told to be none of the specification's
 abbrev pub RecordsOutside : Words → Kept → Option (List Written) → Option (List Written) → Result ⊤ Failure → Type 0
 RecordsOutside words kept old new result = AreRecorded words.record (option_to_list (outside_of kept)) old new result
+
+-- ---- private contracts alone cite what follows
+
+-- of whatever source it is that was read
+abbrev pub ShowsBy : {A : Type 0} → Studied → (source keyboard : List ℕ) → List Choice → Vec ℕ A → Type 0
+ShowsBy s source keyboard list text = (options : Options) → IsStudied options source s → ShowsRun options source keyboard list text.items

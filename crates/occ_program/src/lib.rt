@@ -13,6 +13,7 @@ mod live;
 mod looking;
 mod looks;
 mod page;
+mod paging;
 pub mod program;
 mod reading;
 mod recording;

@@ -4,16 +4,17 @@ ghost use Rattle.std.specs.Option.{option_copied};
 ghost use Rattle.occ_explaining.specs.Studied.{IsStudied};
 ghost use Rattle.occ_play_inputs.specs.Failures.{FailsToWrite};
 ghost use Rattle.occ_program.specs.Coming.{RefusesSource, options_in};
-ghost use Rattle.occ_program.specs.Pages.{IsLeft, TellsRun, ToldPage, form_in, part_in, path_told, stream_told};
+ghost use Rattle.occ_program.specs.Pages.{IsLeft, ShowsBy, TellsRun, ToldPage, form_in, part_in, path_told, stream_told};
 
 use crate::page::{Page, write_page};
 use crate::program::options_of;
 use occ_chart::Part;
-use occ_explaining::{Form, Studied, chart_of, page_of, steps_of, study, trace_of};
+use occ_explaining::{Form, Studied, chart_of, page_of, run_texts, steps_of, study, trace_of};
 use occ_files::Folder;
-use occ_play::{PlayFault, Played};
+use occ_play::{Choice, PlayFault, Played};
 use occ_play_inputs::{Failure, Inputs, Stream, Words};
 use std::alloc::{AllocError, Global};
+use std::slice;
 
 /// What is told of a run.
 #[derive(Clone, Copy, Drop)]
@@ -148,8 +149,23 @@ fn text_of(
         Told::Chart => chart_of(studied, alloc, keyboard, choices, part_of(words)),
         Told::Trace => trace_of(studied, alloc, keyboard, choices, form_of(words)),
         Told::Turns => steps_of(studied, alloc, keyboard, choices),
-        Told::Page => page_of(studied, alloc, inputs.source.as_slice(), keyboard, choices),
+        Told::Page => shown(studied, alloc, inputs.source.as_slice(), keyboard, choices),
     }
+}
+
+/// A page that shows the run of this source by these choices.
+fn shown(
+    studied: &Studied,
+    alloc: Global,
+    source: &[u8],
+    keyboard: &[u8],
+    choices: &[Choice],
+) -> Result<Vec<u8>, AllocError>
+    ensures { IfOk result (ShowsBy studied.now source.now keyboard.now choices.now) }
+{
+    let run = run_texts(studied, alloc, keyboard, b"", choices)?;
+    let text = page_of(studied, alloc, source, slice::from_ref(&run))?;
+    Ok(text)
 }
 
 /// Which communications are drawn, as the words say.
