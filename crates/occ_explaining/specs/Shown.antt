@@ -27,7 +27,7 @@ pub record NamesOf (options : Options) (source bytes : List ℕ) : Type 0 where
 
 -- What a page has of the run of a source by these choices: a line that is told of it, its trace as lines of JSON, the lines of its turns,
 -- and the report on its end.
-pub record IsRunOf (options : Options) (source keyboard head : List ℕ) (list : List Choice) (r : RunTexts) : Type 0 where
+pub record IsShownRun (options : Options) (source keyboard head : List ℕ) (list : List Choice) (r : RunTexts) : Type 0 where
   pub told : r.head.items ≡ head
   pub traced : IsTraced options source keyboard list Json r.trace.items
   pub stepped : StepsOf options source keyboard list r.turns.items

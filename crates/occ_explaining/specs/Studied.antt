@@ -8,7 +8,7 @@ use Rattle.occ_net_replay.specs.declared.choice.Choice.{Choice}
 use Rattle.occ_play.specs.declared.playing.Options.{Options}
 use Rattle.occ_term.specs.UnfoldedProgram.{UnfoldedProgram, meaning}
 use Rattle.occ_explaining.specs.Explaining.{IsKnown, IsNamedChart, ReportsOn, StepsOf}
-use Rattle.occ_explaining.specs.Shown.{IsRunOf, NamesOf, PageOf}
+use Rattle.occ_explaining.specs.Shown.{IsShownRun, NamesOf, PageOf}
 use Rattle.occ_explaining.specs.Traced.{IsTraced}
 use Rattle.occ_explaining.specs.Typing.{PastOf}
 use Rattle.occ_explaining.specs.declared.studied.Studied.{Studied}
@@ -41,7 +41,7 @@ abbrev pub NamesBy : {A : Type 0} → Studied → Vec ℕ A → Type 0
 NamesBy s bytes = ForSource s (λ options source. NamesOf options source bytes.items)
 
 abbrev pub RunsBy : Studied → (keyboard head : List ℕ) → List Choice → RunTexts → Type 0
-RunsBy s keyboard head list r = ForSource s (λ options source. IsRunOf options source keyboard head list r)
+RunsBy s keyboard head list r = ForSource s (λ options source. IsShownRun options source keyboard head list r)
 
 -- the page has the source itself
 abbrev pub PagesBy : {A : Type 0} → Studied → (source : List ℕ) → List RunTexts → Vec ℕ A → Type 0

@@ -10,7 +10,7 @@ use Rattle.occ_play.specs.declared.fault.PlayFault.{PlayFault}
 use Rattle.occ_chart.specs.declared.part.Part.{Part}
 use Rattle.occ_chart.specs.declared.part.Part.TheVariants.{First, Last}
 use Rattle.occ_explaining.specs.Explaining.{IsNamedChart, StepsOf}
-use Rattle.occ_explaining.specs.Shown.{IsRunOf, PageOf}
+use Rattle.occ_explaining.specs.Shown.{IsShownRun, PageOf}
 use Rattle.occ_explaining.specs.Studied.{IsStudied}
 use Rattle.occ_explaining.specs.declared.studied.Studied.{Studied}
 use Rattle.occ_json.specs.declared.pages.RunTexts.{RunTexts}
@@ -73,7 +73,7 @@ form_in false = Lines
 
 -- a page that shows the run by these choices, and no other one
 abbrev pub ShowsRun : Options → (source keyboard : List ℕ) → List Choice → List ℕ → Type 0
-ShowsRun options source keyboard list text = (r : RunTexts) × IsRunOf options source keyboard [] list r × PageOf options source (r ∷ []) text
+ShowsRun options source keyboard list text = (r : RunTexts) × IsShownRun options source keyboard [] list r × PageOf options source (r ∷ []) text
 
 -- a chart of the run, its trace, its turns, or a page that shows it
 abbrev pub TellsRun : Told → Words → Inputs → Played → List ℕ → Type 0
@@ -126,7 +126,7 @@ abbrev pub AreRunsOf : Words → Inputs → Asked → ℕ → List Answer → Li
 AreRunsOf words inputs asked number [] rs = rs ≡ []
 AreRunsOf words inputs asked number (a ∷ others) [] = ⊥
 AreRunsOf words inputs asked number (a ∷ others) (r ∷ rs) =
-    IsRunOf (options_in words) inputs.source.items inputs.keyboard.items (answer_line asked number a) a.choices.items r × AreRunsOf words inputs asked (suc number) others rs
+    IsShownRun (options_in words) inputs.source.items inputs.keyboard.items (answer_line asked number a) a.choices.items r × AreRunsOf words inputs asked (suc number) others rs
 
 -- a page that shows the runs of these answers
 abbrev pub ShowsAnswers : Words → Inputs → Asked → List Answer → List ℕ → Type 0
