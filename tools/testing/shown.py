@@ -1,7 +1,7 @@
 """Tries the page of --page.
 
 Its bytes are the beginning and the end that tools/page has, and between them the source, the names of the processes, and what
---trace-to --json, --steps and --explain write of that run. No byte `<` stands there.
+--trace-to --json, --steps and --explain write of that run; with --explore the same of each answer. No byte `<` stands there.
 
 Where there is a browser, it opens such pages. It goes through a run by the keys, on and back, and each turn has to show what --steps and the
 trace have of it, and at the end what --explain reports. A source with markup in its strings and comments has to be shown letter by letter.
@@ -101,6 +101,29 @@ def composed(program, source, words=()):
         yield from made(program, folder, source, words)[1]
 
 
+def searched(program, source):
+    """What is wrong with the bytes of a page of a search: of each answer it has the line, and what is written of the run by its choices."""
+    with room() as folder:
+        (folder / "x.occ").write_text(source)
+        lines = run(program, folder, ["--explore", "--record", "found", "--page", "page.html", "x.occ"])[1].splitlines(keepends=True)
+        answers = [line for line in lines if re.match(rb"\d+ (ended|stopped|fault)", line)]
+        page = (folder / "page.html").read_bytes()
+        head, foot = parts()
+        texts = page[len(head) : len(page) - len(foot)].split(b"\x0c")
+        if len(texts) != 3 + 4 * len(answers) or texts[-1] or texts[0] + b"\x0c" != kept(source.encode()):
+            yield f"{len(texts)} texts of {len(answers)} answers"
+            return
+        for number, line in enumerate(answers):
+            run(program, folder, ["--choices", f"found.{number + 1}.choices", "--trace-to", "trace", "--json", "--steps", "turns", "x.occ"])
+            wanted = [line, (folder / "trace").read_bytes(), (folder / "turns").read_bytes()]
+            for place, text in enumerate(wanted):
+                if texts[2 + 4 * number + place] + b"\x0c" != kept(text):
+                    yield f"answer {number + 1}: the text {place} is another one"
+        print_of_search = run(program, folder, ["--explore", "x.occ"])[1]
+        if print_of_search.splitlines(keepends=True) != lines:
+            yield "a search with a page prints something else"
+
+
 def walked(shown, texts):
     """What is wrong with what the page shows of each turn, on and back."""
     _, _, _, trace, turns, report = texts
@@ -164,6 +187,13 @@ def looked_at(program, path):
         lines = shown.of('[...document.querySelectorAll("#lines .code")].map((code) => code.textContent)')
         if lines != MARKUP.splitlines() or shown.of('document.querySelectorAll("b, i").length') or shown.of("document.scripts.length") != 2:
             yield f"markup: {lines}"
+        (folder / "x.occ").write_text((TOP / "examples/faults/dining.occ").read_text())
+        lines = run(program, folder, ["--explore", "--page", "page.html", "x.occ"])[1].decode().splitlines()
+        shown.open(folder / "page.html", "#2.16")
+        told = shown.of('[...$("answers").options].map((one) => one.textContent)')
+        if told != [line for line in lines if " by " in line] or shown.of('$("answers").value') != "1" or shown.of("now") != 16:
+            yield f"a search: {told}"
+        yield from laid_out(shown, "a search")
         made(program, folder, LONG)
         before = shown.busy()
         shown.open(folder / "page.html")
@@ -182,6 +212,9 @@ def jobs():
         source = (TOP / f"examples/{name}.occ").read_text()
         for words in ([], ["--seed", "3"], ["--limit", "5"]):
             yield Job(f"page: {name} {words}", lambda program, source=source, words=words: composed(program, source, words))
+    for name in ("faults/dining", "faults/door", "first_steps/relay", "selection/merge"):
+        source = (TOP / f"examples/{name}.occ").read_text()
+        yield Job(f"page of a search: {name}", lambda program, source=source: searched(program, source))
     yield Job("page: markup", lambda program: composed(program, MARKUP))
     path = found()
     if path:
