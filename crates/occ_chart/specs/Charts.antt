@@ -1,7 +1,7 @@
 -- The sequence chart of a run, in SVG: a column for each end that takes part, from top to bottom an arrow for each communication, and at
 -- the foot what each process waits for.
 -- Manual: nothing; this is (own).
-use Rattle.std.specs.Prelude.{All, Bool, List, OnOk, Result, [], codes, drop, false, if◌then◌else◌, length, max, min, nat_eq, nat_lt, slice_get, suc, take, true, unwrap_or, zero, ℕ, ◌&&◌, ◌++◌, ◌+◌, ◌-◌, ◌*◌, ◌∷◌, ◌^◌, ◌≡◌, ◌≤◌, Vec}
+use Rattle.std.specs.Prelude.{All, Bool, List, OnOk, Result, [], codes, drop, false, if◌then◌else◌, length, max, min, nat_eq, nat_lt, slice_get, suc, take, true, unwrap_or, zero, ℕ, ◌&&◌, ◌++◌, ◌+◌, ◌-◌, ◌*◌, ◌/◌, ◌∷◌, ◌^◌, ◌≡◌, ◌≤◌, Vec}
 use Rattle.std.specs.Fmt.{decimal}
 use Rattle.occ_term.specs.declared.communication.End.{End}
 use Rattle.occ_term.specs.declared.communication.End.TheVariants.{Process as OfProcess}
@@ -67,9 +67,9 @@ abbrev pub foot_letters : List Footing → End → ℕ
 foot_letters [] x = 0
 foot_letters (s ∷ ss) x = if is_end x (OfProcess s.process) then length s.words else foot_letters ss x
 
--- for how many letters a column has room: for its name, its number and the words at its foot, but for 8 at least and 24 at most
+-- for how many letters a column has room: for its name, its number and the words at its foot, but for 6 at least and 24 at most
 abbrev pub letters_of : List (List ℕ) → List Footing → End → ℕ
-letters_of names ss x = min (max (max (max (length (end_name names x)) (length (end_text x))) (foot_letters ss x)) 8) 24
+letters_of names ss x = min (max (max (max (length (end_name names x)) (length (end_text x))) (foot_letters ss x)) 6) 24
 
 -- Where columns stand, in letters from the left, behind one at this place that has room for so many: two of them are as far apart as the
 -- wider one is wide.
@@ -88,9 +88,9 @@ place_at places k = unwrap_or (slice_get places k) 0
 abbrev pub last_place : (places : List ℕ) → ℕ
 last_place places = place_at places (length places - 1)
 
--- in points
+-- in points: a letter has 7
 abbrev pub column : (places : List ℕ) → ℕ → ℕ
-column places k = 8 * place_at places k
+column places k = 7 * place_at places k
 
 -- a row for each communication, from the top
 abbrev pub row : ℕ → ℕ
@@ -128,7 +128,7 @@ lifelines places bottom k (x ∷ xs) = path (down (column places k) bottom) (cod
 
 -- halfway between two columns, and the room of what stands there
 abbrev pub halfway : (places : List ℕ) → (j k : ℕ) → ℕ
-halfway places j k = 4 * (place_at places j + place_at places k)
+halfway places j k = 7 * (place_at places j + place_at places k) / 2
 
 abbrev pub room_between : (places : List ℕ) → (j k : ℕ) → ℕ
 room_between places j k = max 24 (max (place_at places j) (place_at places k) - min (place_at places j) (place_at places k))
@@ -144,7 +144,7 @@ arrow places columns i e = arrow_from places (column_of e.sender columns) (colum
 
 -- the heads again, in a row of their own
 abbrev pub heads_in_row : List (List ℕ) → (places : List ℕ) → ℕ → List End → List Element
-heads_in_row names places i columns = heads names places (30 * i + 64) 0 columns
+heads_in_row names places i columns = heads names places (30 * i + 68) 0 columns
 
 -- each communication in a row of its own; heads stand again before one after so many others, and then after each 30
 abbrev pub arrows : List (List ℕ) → (places : List ℕ) → List End → (left i : ℕ) → List Entry → List Element
@@ -202,7 +202,7 @@ svg_opening width height =
 -- over the foot
 abbrev pub above : (places : List ℕ) → List (List ℕ) → List End → List Entry → (before : ℕ) → Bool → List ℕ
 above places names columns es before high =
-    svg_opening (8 * last_place places + 96) (below (length es) + 132) ++ elements_text (heads names places 18 0 columns)
+    svg_opening (7 * last_place places + 84) (below (length es) + 132) ++ elements_text (heads names places 18 0 columns)
     ++ elements_text (lifelines places (below (length es)) 0 columns) ++ elements_text (note_before before high) ++ elements_text (arrows names places columns 30 0 es)
 
 abbrev pub foot : (places : List ℕ) → List (List ℕ) → List End → (count after : ℕ) → Bool → List Footing → (circle : List ℕ) → Ending → List ℕ

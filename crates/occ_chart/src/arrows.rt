@@ -95,7 +95,7 @@ fn halfway(places: &[u64], from: usize, to: usize) -> u64
     requires { AreNear places.now }
     ensures { result ≡ halfway places.now from to }
 {
-    4 * (place_at(places, from) + place_at(places, to))
+    7 * (place_at(places, from) + place_at(places, to)) / 2
 }
 
 /// How many rows so many communications take.
@@ -183,7 +183,7 @@ fn write_heads_in_row(
     ensures { OnOk result (AddsElements out.old out.new
         (heads_in_row (texts_of names.now) places.now number columns.now)) }
 {
-    write_heads(alloc, out, names, places, 30 * number as u64 + 64, columns)
+    write_heads(alloc, out, names, places, 30 * number as u64 + 68, columns)
 }
 
 /// The arrow of each communication, in a row of its own, and the heads again before each 30 behind the first ones.

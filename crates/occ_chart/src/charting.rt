@@ -62,7 +62,7 @@ fn above(
         (HasBytes (above places.now (texts_of names.now) columns.now shown.now before is_cut)) }
 {
     let bottom = below(shown.len());
-    let width = 8 * last_place(places) + 96;
+    let width = 7 * last_place(places) + 84;
     let mut out = Vec::new(alloc);
     write_opening(alloc, &mut out, width, bottom + 132)?;
     write_heads(alloc, &mut out, names, places, 18, columns)?;

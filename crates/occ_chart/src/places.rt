@@ -25,7 +25,7 @@ fn foot_letters(stubs: &[Stub], end: End) -> usize
     0
 }
 
-/// For how many letters a column has room: for its name, its number and the words at its foot, but for 8 at least and 24 at most.
+/// For how many letters a column has room: for its name, its number and the words at its foot, but for 6 at least and 24 at most.
 fn letters_of(alloc: Global, names: &[Vec<u8>], stubs: &[Stub], end: End) -> Result<u64, AllocError>
     ensures is { IfOk result (λ n. n ≡ letters_of (texts_of names.now) stubs.now end) }
     ensures few { IfOk result (λ n. n ≤ 24) }
@@ -33,7 +33,7 @@ fn letters_of(alloc: Global, names: &[Vec<u8>], stubs: &[Stub], end: End) -> Res
     let name = name_of(names, end).len();
     let number = end_text(alloc, end)?.len();
     let widest = name.max(number).max(foot_letters(stubs, end));
-    Ok(widest.max(8).min(24) as u64)
+    Ok(widest.max(6).min(24) as u64)
 }
 
 /// Where each column stands, in letters from the left.
@@ -83,10 +83,10 @@ pub(crate) fn last_place(places: &[u64]) -> u64
     place_at(places, places.len().saturating_sub(1))
 }
 
-/// The place of a column in the picture, in points.
+/// The place of a column in the picture, in points: a letter has 7.
 pub(crate) fn column(places: &[u64], place: usize) -> u64
     requires { AreNear places.now }
     ensures { result ≡ column places.now place }
 {
-    8 * place_at(places, place)
+    7 * place_at(places, place)
 }
