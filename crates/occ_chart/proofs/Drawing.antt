@@ -8,8 +8,9 @@ use Rattle.occ_term.specs.declared.communication.End.{End}
 use Rattle.occ_term.specs.declared.ending.Ending.{Ending}
 use Rattle.occ_chart.specs.declared.part.Part.{Part}
 use Rattle.occ_chart.specs.declared.part.Part.TheVariants.{First, Last}
-use Rattle.occ_chart.specs.Charts.{IsChart, above, after_of, asked, before_of, drawn_of, foot, if_first, if_last, is_cut, not_drawn, most_arrows, places_of, rows_of, shown_of}
+use Rattle.occ_chart.specs.Charts.{IsChart, above, after_of, asked, before_of, drawn_of, foot, if_first, if_last, is_cut, not_drawn, most_arrows, places_of, shown_of, arrow, arrows, break, rows_left, row_behind}
 use Rattle.occ_chart.specs.Columns.{AreColumns, Footing}
+use Rattle.occ_chart.specs.Xml.{Element, element_text, elements_text}
 
 pub entries_length : (names : Names) (n : ℕ) (xs : List Communication) → length (entries names n xs) ≡ length xs
 entries_length names n [] = refl
@@ -89,8 +90,24 @@ charted_by es shown shown' part ending names ss circle columns columns' places p
     ∙ ap (λ k. top ++ foot places' names columns' (length shown') k high ss circle ending) six
     ∙ ap (λ b. top ++ foot places' names columns' (length shown') (if_first part left) b ss circle ending) cut)
 
--- so many communications take few rows
-pub rows_few : (left n : ℕ) → rows_of left n ≤ 2 * n
-rows_few left zero = omega arith
-rows_few zero (suc n) = let next = rows_few 29 n in omega (arith, next)
-rows_few (suc left) (suc n) = let next = rows_few left n in omega (arith, next)
+-- ---- texts of shapes behind one another
+
+elements_append : (xs ys : List Element) → elements_text (xs ++ ys) ≡ elements_text xs ++ elements_text ys
+elements_append [] ys = refl
+elements_append (x ∷ xs) ys = ap (λ t. element_text x ++ t) (elements_append xs ys) ∙ sym (append_assoc (element_text x) (elements_text xs) (elements_text ys))
+
+-- two that are put behind a text one after the other are put behind it
+pub both_put : (o p q : List ℕ) (xs ys : List Element) → p ≡ o ++ elements_text xs → q ≡ p ++ elements_text ys → q ≡ o ++ elements_text (xs ++ ys)
+both_put o p q xs ys e f = f ∙ ap (λ t. t ++ elements_text ys) e ∙ append_assoc o (elements_text xs) (elements_text ys) ∙ ap (λ t. o ++ t) (sym (elements_append xs ys))
+
+-- a loop's step: what is put now, and what is left
+pub put_next : (o p w : List ℕ) (xs ys : List Element) → p ≡ o ++ elements_text xs → o ++ elements_text (xs ++ ys) ≡ w → p ++ elements_text ys ≡ w
+put_next o p w xs ys e f = ap (λ t. t ++ elements_text ys) e ∙ append_assoc o (elements_text xs) (elements_text ys) ∙ ap (λ t. o ++ t) (sym (elements_append xs ys)) ∙ f
+
+pub arrows_next : (o p q w : List ℕ) (names : List (List ℕ)) (places : List ℕ) (columns : List End) (left i : ℕ) (e : Entry) (es : List Entry)
+    → p ≡ o ++ elements_text (break names places columns left i) → q ≡ p ++ elements_text (arrow places columns (row_behind left i) e)
+    → o ++ elements_text (arrows names places columns left i (e ∷ es)) ≡ w
+    → q ++ elements_text (arrows names places columns (rows_left left) (row_behind left i + 1) es) ≡ w
+arrows_next o p q w names places columns left i e es a b c =
+    let rest = arrow places columns (row_behind left i) e ++ arrows names places columns (rows_left left) (row_behind left i + 1) es in
+    put_next p q w (arrow places columns (row_behind left i) e) (arrows names places columns (rows_left left) (row_behind left i + 1) es) b (put_next o p w (break names places columns left i) rest a c)

@@ -68,15 +68,15 @@ foot_letters [] x = 0
 foot_letters (s ∷ ss) x = if is_end x (OfProcess s.process) then length s.words else foot_letters ss x
 
 -- for how many letters a column has room: for its name, its number and the words at its foot, but for 6 at least and 24 at most
-abbrev pub letters_of : List (List ℕ) → List Footing → End → ℕ
-letters_of names ss x = min (max (max (max (length (end_name names x)) (length (end_text x))) (foot_letters ss x)) 6) 24
+abbrev pub room_for : List (List ℕ) → List Footing → End → ℕ
+room_for names ss x = min (max (max (max (length (end_name names x)) (length (end_text x))) (foot_letters ss x)) 6) 24
 
 -- Where columns stand, in letters from the left, behind one at this place that has room for so many: two of them are as far apart as the
 -- wider one is wide.
 abbrev pub places_behind : (place letters : ℕ) → List (List ℕ) → List Footing → List End → List ℕ
 places_behind place letters names ss [] = []
 places_behind place letters names ss (x ∷ xs) =
-    (place + max letters (letters_of names ss x)) ∷ places_behind (place + max letters (letters_of names ss x)) (letters_of names ss x) names ss xs
+    (place + max letters (room_for names ss x)) ∷ places_behind (place + max letters (room_for names ss x)) (room_for names ss x) names ss xs
 
 -- a column for each that takes part, from the left
 abbrev pub places_of : List (List ℕ) → List Footing → List End → List ℕ
@@ -96,15 +96,21 @@ column places k = 7 * place_at places k
 abbrev pub row : ℕ → ℕ
 row i = 30 * i + 80
 
--- how many rows so many communications take, where heads stand again before a row after so many others, and then after each 30
-abbrev pub rows_of : (left count : ℕ) → ℕ
-rows_of left zero = 0
-rows_of zero (suc n) = suc (suc (rows_of 29 n))
-rows_of (suc left) (suc n) = suc (rows_of left n)
+-- the row of the next arrow, where so many rows are left before heads stand again; and how many are left behind it
+abbrev pub row_behind : (left i : ℕ) → ℕ
+row_behind left i = if nat_eq left 0 then i + 1 else i
+
+abbrev pub rows_left : (left : ℕ) → ℕ
+rows_left left = if nat_eq left 0 then 29 else left - 1
+
+-- the row behind so many communications
+abbrev pub rows_of : (left i count : ℕ) → ℕ
+rows_of left i zero = i
+rows_of left i (suc n) = rows_of (rows_left left) (row_behind left i + 1) n
 
 -- the row below all of them
-abbrev pub below : (count : ℕ) → ℕ
-below count = row (rows_of 30 count)
+abbrev pub row_below : (count : ℕ) → ℕ
+row_below count = row (rows_of 30 0 count)
 
 -- ---- its shapes
 
@@ -142,15 +148,15 @@ arrow_from places j k i e =
 abbrev pub arrow : (places : List ℕ) → List End → ℕ → Entry → List Element
 arrow places columns i e = arrow_from places (column_of e.sender columns) (column_of e.receiver columns) i e
 
--- the heads again, in a row of their own
-abbrev pub heads_in_row : List (List ℕ) → (places : List ℕ) → ℕ → List End → List Element
-heads_in_row names places i columns = heads names places (30 * i + 68) 0 columns
+-- the heads again, in a row of their own, where no row is left before them
+abbrev pub break : List (List ℕ) → (places : List ℕ) → List End → (left i : ℕ) → List Element
+break names places columns left i = if nat_eq left 0 then heads names places (30 * i + 68) 0 columns else []
 
 -- each communication in a row of its own; heads stand again before one after so many others, and then after each 30
 abbrev pub arrows : List (List ℕ) → (places : List ℕ) → List End → (left i : ℕ) → List Entry → List Element
 arrows names places columns left i [] = []
-arrows names places columns zero i (e ∷ es) = heads_in_row names places i columns ++ arrow places columns (i + 1) e ++ arrows names places columns 29 (i + 2) es
-arrows names places columns (suc left) i (e ∷ es) = arrow places columns i e ++ arrows names places columns left (i + 1) es
+arrows names places columns left i (e ∷ es) =
+    break names places columns left i ++ arrow places columns (row_behind left i) e ++ arrows names places columns (rows_left left) (row_behind left i + 1) es
 
 -- who stands at the foot of its column, and why
 abbrev pub foot_at : (x bottom : ℕ) → List ℕ → List Element
@@ -202,14 +208,14 @@ svg_opening width height =
 -- over the foot
 abbrev pub above : (places : List ℕ) → List (List ℕ) → List End → List Entry → (before : ℕ) → Bool → List ℕ
 above places names columns es before high =
-    svg_opening (7 * last_place places + 84) (below (length es) + 132) ++ elements_text (heads names places 18 0 columns)
-    ++ elements_text (lifelines places (below (length es)) 0 columns) ++ elements_text (note_before before high) ++ elements_text (arrows names places columns 30 0 es)
+    svg_opening (7 * last_place places + 84) (row_below (length es) + 132) ++ elements_text (heads names places 18 0 columns)
+    ++ elements_text (lifelines places (row_below (length es)) 0 columns) ++ elements_text (note_before before high) ++ elements_text (arrows names places columns 30 0 es)
 
 abbrev pub foot : (places : List ℕ) → List (List ℕ) → List End → (count after : ℕ) → Bool → List Footing → (circle : List ℕ) → Ending → List ℕ
 foot places names columns count after high ss circle ending =
-    elements_text (drawn_feet places columns (below count) ss) ++ elements_text (heads_again names places (below count) count columns)
-    ++ elements_text (note_ending (below count) ending ∷ []) ++ elements_text (note_after (below count) after high)
-    ++ elements_text (note_circle places (below count) circle) ++ codes "</svg>\n"
+    elements_text (drawn_feet places columns (row_below count) ss) ++ elements_text (heads_again names places (row_below count) count columns)
+    ++ elements_text (note_ending (row_below count) ending ∷ []) ++ elements_text (note_after (row_below count) after high)
+    ++ elements_text (note_circle places (row_below count) circle) ++ codes "</svg>\n"
 
 -- Of all communications of a run that part which is asked for, with a column for each that sends or receives one of them or stands at
 -- the foot, and each of them once, in order.
@@ -231,9 +237,13 @@ IsChartOf cs trace part ending names ss circle bytes = IsChart (entries_in cs tr
 abbrev pub AreNear : (places : List ℕ) → Type 0
 AreNear places = All (λ k. k ≤ 2 ^ 46) places
 
+-- the heads were put behind a text again in a row, where none is left before them
+abbrev pub PutsBreak : {X E A B : Type 0} → Result X E → Vec ℕ A → Vec ℕ A → List (Vec ℕ B) → (places : List ℕ) → (left i : ℕ) → List End → Type 0
+PutsBreak done old new names places left i columns = OnOk done (AddsElements old new (break (texts_of names) places columns left i))
+
 -- the head of one column
-abbrev pub head_of : {A : Type 0} → List (Vec ℕ A) → (x y : ℕ) → End → List Element
-head_of names x y end = head (texts_of names) x y end
+abbrev pub head_in : {A : Type 0} → List (Vec ℕ A) → (x y : ℕ) → End → List Element
+head_in names x y end = head (texts_of names) x y end
 
 -- the heads were put behind a text again
 abbrev pub PutsHeadsAgain : {X E A B : Type 0} → Result X E → Vec ℕ A → Vec ℕ A → List (Vec ℕ B) → (places : List ℕ) → (bottom count : ℕ) → List End → Type 0

@@ -1,7 +1,7 @@
 //! The arrows of communications.
 ghost use Rattle.std.specs.Prelude.{◌≡◌, ◌++◌, ◌≤◌, ◌^◌, IfOk, OnOk, length};
-ghost use Rattle.occ_chart.specs.Charts.{AreNear, PutsArrows, arrow, arrow_from, halfway, heads_in_row, room_between, row, rows_of};
-ghost use Rattle.occ_chart.specs.Labels.{arrow_words, numbered_words, texts_of};
+ghost use Rattle.occ_chart.specs.Charts.{AreNear, PutsArrows, arrow, arrow_from, PutsBreak, halfway, rows_left, room_between, row, row_behind, rows_of};
+ghost use Rattle.occ_chart.specs.Labels.{arrow_words, numbered_words};
 ghost use Rattle.occ_chart.specs.Shapes.{along, leftward, rightward};
 ghost use Rattle.occ_chart.specs.Xml.{AddsElements};
 
@@ -101,18 +101,13 @@ fn halfway(places: &[u64], from: usize, to: usize) -> u64
 /// How many rows so many communications take.
 pub(crate) fn rows_of(count: usize) -> usize
     requires { count ≤ 990 }
-    ensures is { result ≡ rows_of 30 count }
+    ensures is { result ≡ rows_of 30 0 count }
     ensures few { result ≤ 2000 }
 {
     let (mut rows, mut left) = (0, 30);
     for _ in 0..count {
-        if left == 0 {
-            rows += 2;
-            left = 29;
-        } else {
-            rows += 1;
-            left -= 1;
-        }
+        rows = row_behind(left, rows) + 1;
+        left = rows_left(left);
     }
     rows
 }
@@ -169,24 +164,43 @@ fn write_arrow(
     write_arrow_from(alloc, out, places, from, to, number, shown)
 }
 
-/// The heads again, in a row of their own.
-fn write_heads_in_row(
+/// The heads again, in a row of their own, where no other row is left before them.
+fn write_break(
     alloc: Global,
     out: &mut Vec<u8>,
     names: &[Vec<u8>],
     places: &[u64],
+    left: usize,
     number: usize,
     columns: &[End],
 ) -> Result<(), AllocError>
     requires places { AreNear places.now }
     requires near { number ≤ 2 ^ 40 }
-    ensures { OnOk result (AddsElements out.old out.new
-        (heads_in_row (texts_of names.now) places.now number columns.now)) }
+    ensures { PutsBreak result out.old out.new names.now places.now left number columns.now }
 {
-    write_heads(alloc, out, names, places, 30 * number as u64 + 68, columns)
+    if left == 0 {
+        return write_heads(alloc, out, names, places, 30 * number as u64 + 68, columns);
+    }
+    Ok(())
+}
+
+/// The row of the next arrow, where so many rows are left before heads stand again.
+fn row_behind(left: usize, number: usize) -> usize
+    requires { number ≤ 2 ^ 40 }
+    ensures { result ≡ row_behind left number }
+{
+    if left == 0 { number + 1 } else { number }
+}
+
+/// How many rows are left behind it.
+fn rows_left(left: usize) -> usize
+    ensures { result ≡ rows_left left }
+{
+    if left == 0 { 29 } else { left - 1 }
 }
 
 /// The arrow of each communication, in a row of its own, and the heads again before each 30 behind the first ones.
+#[tactic(auto, using(crate::proofs::Drawing::arrows_next))]
 pub(crate) fn write_arrows(
     alloc: Global,
     out: &mut Vec<u8>,
@@ -202,14 +216,11 @@ pub(crate) fn write_arrows(
     let (mut number, mut left) = (0, 30);
     let mut rest = shown;
     while let Some((first, others)) = rest.split_first() {
-        if left == 0 {
-            write_heads_in_row(alloc, out, names, places, number, columns)?;
-            number += 1;
-            left = 30;
-        }
-        write_arrow(alloc, out, places, columns, number, first)?;
-        number += 1;
-        left -= 1;
+        write_break(alloc, out, names, places, left, number, columns)?;
+        let row = row_behind(left, number);
+        write_arrow(alloc, out, places, columns, row, first)?;
+        number = row + 1;
+        left = rows_left(left);
         rest = others;
     }
     Ok(())

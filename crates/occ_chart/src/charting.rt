@@ -1,6 +1,6 @@
 //! The sequence chart of a run, in SVG.
 ghost use Rattle.std.specs.Prelude.{◌≤◌, ◌^◌, IfOk, OnOk, length};
-ghost use Rattle.occ_chart.specs.Charts.{AreNear, IsChartOf, above, below, foot, svg_opening, PutsFoot};
+ghost use Rattle.occ_chart.specs.Charts.{AreNear, IsChartOf, above, row_below, foot, svg_opening, PutsFoot};
 ghost use Rattle.occ_shown.specs.Answers.{AddsText, HasBytes};
 ghost use Rattle.occ_chart.specs.Labels.{texts_of};
 
@@ -38,9 +38,9 @@ fn write_opening(
 }
 
 /// The height of the row below so many communications.
-fn below(count: usize) -> u64
+fn row_below(count: usize) -> u64
     requires { count ≤ 990 }
-    ensures is { result ≡ below count }
+    ensures is { result ≡ row_below count }
     ensures high { result ≤ 2 ^ 40 }
 {
     row(rows_of(count))
@@ -61,7 +61,7 @@ fn above(
     ensures { IfOk result
         (HasBytes (above places.now (texts_of names.now) columns.now shown.now before is_cut)) }
 {
-    let bottom = below(shown.len());
+    let bottom = row_below(shown.len());
     let width = 7 * last_place(places) + 84;
     let mut out = Vec::new(alloc);
     write_opening(alloc, &mut out, width, bottom + 132)?;
@@ -147,7 +147,7 @@ fn write_below(
     ensures { PutsFoot result out.old out.new places.now names.now columns.now count after is_cut
         stubs.now circle.now ending }
 {
-    let bottom = below(count);
+    let bottom = row_below(count);
     write_feet(alloc, out, places, columns, bottom, stubs)?;
     write_heads_again(alloc, out, names, places, bottom, count, columns)?;
     write_ending(alloc, out, bottom, ending)?;

@@ -1,6 +1,6 @@
 //! The heads of columns, and the lines down from them.
 ghost use Rattle.std.specs.Prelude.{◌≡◌, ◌≤◌, ◌^◌, IfOk, OnOk, codes, length};
-ghost use Rattle.occ_chart.specs.Charts.{AreNear, head_of, heads, lifelines, name_label, PutsHeadsAgain};
+ghost use Rattle.occ_chart.specs.Charts.{AreNear, head_in, heads, lifelines, name_label, PutsHeadsAgain};
 ghost use Rattle.occ_chart.specs.Labels.{end_name, texts_of};
 ghost use Rattle.occ_chart.specs.Shapes.{down, path};
 ghost use Rattle.occ_chart.specs.Xml.{AddsElement, AddsElements};
@@ -71,6 +71,7 @@ fn write_name(
     write_label(alloc, out, Style::Plain, x, y, 24, name, b"")
 }
 
+#[tactic(auto, using(crate::proofs::Drawing::both_put))]
 fn write_head(
     alloc: Global,
     out: &mut Vec<u8>,
@@ -80,14 +81,16 @@ fn write_head(
     end: End,
 ) -> Result<(), AllocError>
     requires { y ≤ 2 ^ 41 }
-    ensures { OnOk result (AddsElements out.old out.new (head_of names.now x y end)) }
+    ensures { OnOk result (AddsElements out.old out.new (head_in names.now x y end)) }
 {
     write_name(alloc, out, x, y, name_of(names, end))?;
     let words = end_text(alloc, end)?;
-    write_text(alloc, out, Style::Plain, x, y + 14, b"", words.as_slice())
+    write_text(alloc, out, Style::Plain, x, y + 14, b"", words.as_slice())?;
+    Ok(())
 }
 
 /// The heads of the columns, in this height.
+#[tactic(auto, using(crate::proofs::Drawing::put_next))]
 pub(crate) fn write_heads(
     alloc: Global,
     out: &mut Vec<u8>,

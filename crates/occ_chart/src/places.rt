@@ -1,6 +1,6 @@
 //! Where columns stand.
 ghost use Rattle.std.specs.Prelude.{◌≡◌, ◌≤◌, ◌^◌, IfOk, OnOk, length};
-ghost use Rattle.occ_chart.specs.Charts.{AreNear, column, foot_letters, last_place, letters_of, place_at, places_of};
+ghost use Rattle.occ_chart.specs.Charts.{AreNear, column, foot_letters, last_place, room_for, place_at, places_of};
 ghost use Rattle.occ_chart.specs.Columns.{is_end};
 ghost use Rattle.occ_chart.specs.Labels.{end_name, texts_of};
 ghost use Rattle.occ_shown.specs.Answers.{end_text};
@@ -26,8 +26,8 @@ fn foot_letters(stubs: &[Stub], end: End) -> usize
 }
 
 /// For how many letters a column has room: for its name, its number and the words at its foot, but for 6 at least and 24 at most.
-fn letters_of(alloc: Global, names: &[Vec<u8>], stubs: &[Stub], end: End) -> Result<u64, AllocError>
-    ensures is { IfOk result (λ n. n ≡ letters_of (texts_of names.now) stubs.now end) }
+fn room_for(alloc: Global, names: &[Vec<u8>], stubs: &[Stub], end: End) -> Result<u64, AllocError>
+    ensures is { IfOk result (λ n. n ≡ room_for (texts_of names.now) stubs.now end) }
     ensures few { IfOk result (λ n. n ≤ 24) }
 {
     let name = name_of(names, end).len();
@@ -53,7 +53,7 @@ pub(crate) fn places_of(
     let mut letters = 12;
     let mut rest = columns;
     while let Some((first, others)) = rest.split_first() {
-        let next = letters_of(alloc, names, stubs, *first)?;
+        let next = room_for(alloc, names, stubs, *first)?;
         place += letters.max(next);
         places.push(place)?;
         letters = next;

@@ -5,7 +5,6 @@ use Rattle.occ_chart.proofs.arrows.write_arrows.Given as goal
 
 abbrev pub invariant-loop-first : goal.invariant-loop-first
 invariant-loop-first l = record {
-  few : l.left ≤ 30;
   near : l.number + 2 * length l.rest ≤ 2000;
   written :
       l.out.items ++ elements_text (arrows (map (λ v. v.items) l.names) l.places l.columns l.left l.number l.rest)
