@@ -1,5 +1,6 @@
 -- Which communications are drawn, and the parts of a chart.
-use Rattle.std.proofs.Common.{◌≡◌, ◌∙◌, ◌≤◌, ◌+◌, ◌-◌, ◌++◌, ◌&&◌, Bool, ℕ, zero, suc, List, [], ◌∷◌, drop, length, min, nat_lt, take, refl, sym, ap, subst, append_assoc, arith}
+use Rattle.std.proofs.Common.{◌≡◌, ◌∙◌, ◌≤◌, ◌<◌, ◌*◌, true, false, ◌+◌, ◌-◌, ◌++◌, ◌&&◌, Bool, ℕ, zero, suc, List, [], ◌∷◌, drop, length, min, nat_lt, take, refl, sym, ap, subst, append_assoc, arith}
+use Rattle.std.specs.Prelude.{nat_eq, if◌then◌else◌}
 use Rattle.std.proofs.lemmas.List.{length-drop, length-take}
 use Rattle.std.proofs.Math.Nat.{min-le_left, min-le_right}
 use Rattle.occ_term.specs.Runs.{Entry, Names, entries, entry_of}
@@ -8,7 +9,7 @@ use Rattle.occ_term.specs.declared.communication.End.{End}
 use Rattle.occ_term.specs.declared.ending.Ending.{Ending}
 use Rattle.occ_chart.specs.declared.part.Part.{Part}
 use Rattle.occ_chart.specs.declared.part.Part.TheVariants.{First, Last}
-use Rattle.occ_chart.specs.Charts.{IsChart, above, after_of, asked, before_of, drawn_of, foot, if_first, if_last, is_cut, not_drawn, most_arrows, places_of, shown_of, arrow, arrows, break, rows_left, row_behind}
+use Rattle.occ_chart.specs.Charts.{IsChart, above, after_of, asked, before_of, drawn_of, foot, if_first, if_last, is_cut, not_drawn, most_arrows, places_of, shown_of, arrow, arrows, break, rows_left, row_behind, rows_of}
 use Rattle.occ_chart.specs.Columns.{AreColumns, Footing}
 use Rattle.occ_chart.specs.Xml.{Element, element_text, elements_text}
 
@@ -111,3 +112,33 @@ pub arrows_next : (o p q w : List ℕ) (names : List (List ℕ)) (places : List 
 arrows_next o p q w names places columns left i e es a b c =
     let rest = arrow places columns (row_behind left i) e ++ arrows names places columns (rows_left left) (row_behind left i + 1) es in
     put_next p q w (arrow places columns (row_behind left i) e) (arrows names places columns (rows_left left) (row_behind left i + 1) es) b (put_next o p w (break names places columns left i) rest a c)
+
+-- the same, where the list, the row and how many rows are left are known by what they are
+pub arrows_step : (o p q w : List ℕ) (names : List (List ℕ)) (places : List ℕ) (columns : List End) (left i row more : ℕ) (e : Entry) (es rest : List Entry)
+    → rest ≡ e ∷ es → row ≡ row_behind left i → more ≡ rows_left left
+    → p ≡ o ++ elements_text (break names places columns left i) → q ≡ p ++ elements_text (arrow places columns row e)
+    → o ++ elements_text (arrows names places columns left i rest) ≡ w
+    → q ++ elements_text (arrows names places columns more (row + 1) es) ≡ w
+arrows_step o p q w names places columns left i row more e es rest split here behind a b c =
+    subst (λ n. q ++ elements_text (arrows names places columns n (row + 1) es) ≡ w) (sym behind)
+    (subst (λ r. q ++ elements_text (arrows names places columns (rows_left left) (r + 1) es) ≡ w) (sym here)
+    (arrows_next o p q w names places columns left i e es a (subst (λ r. q ≡ p ++ elements_text (arrow places columns r e)) here b)
+    (subst (λ l. o ++ elements_text (arrows names places columns left i l) ≡ w) split c)))
+
+-- ---- rows are few
+
+pub row_most : (left i : ℕ) → row_behind left i ≤ i + 1
+row_most left i = by (nat_eq left 0)
+  where
+    by : (b : Bool) → (if b then i + 1 else i) ≤ i + 1
+    by true = omega arith
+    by false = omega arith
+
+pub row_near : (left i row : ℕ) (e : Entry) (es rest : List Entry) → rest ≡ e ∷ es → row ≡ row_behind left i → i + 2 * length rest ≤ 2000 → row + 1 + 2 * length es ≤ 2000
+row_near left i row e es rest split here near =
+    let size : length rest ≡ suc (length es) = ap length split in
+    let most = row_most left i in
+    omega (arith, size, most, here, near)
+
+pub rows_step : (left i count k : ℕ) → k < count → rows_of left i (count - k) ≡ rows_of (rows_left left) (row_behind left i + 1) (count - (k + 1))
+rows_step left i count k within = let one : count - k ≡ suc (count - (k + 1)) = omega (arith, within) in ap (rows_of left i) one

@@ -156,7 +156,7 @@ break names places columns left i = if nat_eq left 0 then heads names places (30
 abbrev pub arrows : List (List ℕ) → (places : List ℕ) → List End → (left i : ℕ) → List Entry → List Element
 arrows names places columns left i [] = []
 arrows names places columns left i (e ∷ es) =
-    break names places columns left i ++ arrow places columns (row_behind left i) e ++ arrows names places columns (rows_left left) (row_behind left i + 1) es
+    break names places columns left i ++ (arrow places columns (row_behind left i) e ++ arrows names places columns (rows_left left) (row_behind left i + 1) es)
 
 -- who stands at the foot of its column, and why
 abbrev pub foot_at : (x bottom : ℕ) → List ℕ → List Element

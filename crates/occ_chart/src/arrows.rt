@@ -99,6 +99,7 @@ fn halfway(places: &[u64], from: usize, to: usize) -> u64
 }
 
 /// How many rows so many communications take.
+#[tactic(auto, using(crate::proofs::Drawing::row_most, crate::proofs::Drawing::rows_step))]
 pub(crate) fn rows_of(count: usize) -> usize
     requires { count ≤ 990 }
     ensures is { result ≡ rows_of 30 0 count }
@@ -200,7 +201,6 @@ fn rows_left(left: usize) -> usize
 }
 
 /// The arrow of each communication, in a row of its own, and the heads again before each 30 behind the first ones.
-#[tactic(auto, using(crate::proofs::Drawing::arrows_next))]
 pub(crate) fn write_arrows(
     alloc: Global,
     out: &mut Vec<u8>,

@@ -1,5 +1,5 @@
 //! The sequence chart of a run, in SVG.
-ghost use Rattle.std.specs.Prelude.{◌≤◌, ◌^◌, IfOk, OnOk, length};
+ghost use Rattle.std.specs.Prelude.{◌≡◌, ◌≤◌, ◌^◌, IfOk, OnOk, length};
 ghost use Rattle.occ_chart.specs.Charts.{AreNear, IsChartOf, above, row_below, foot, svg_opening, PutsFoot};
 ghost use Rattle.occ_shown.specs.Answers.{AddsText, HasBytes};
 ghost use Rattle.occ_chart.specs.Labels.{texts_of};

@@ -80,7 +80,7 @@ fn write_head(
     y: u64,
     end: End,
 ) -> Result<(), AllocError>
-    requires { y ≤ 2 ^ 41 }
+    requires { y ≤ 2 ^ 46 }
     ensures { OnOk result (AddsElements out.old out.new (head_in names.now x y end)) }
 {
     write_name(alloc, out, x, y, name_of(names, end))?;
@@ -100,7 +100,7 @@ pub(crate) fn write_heads(
     columns: &[End],
 ) -> Result<(), AllocError>
     requires near { AreNear places.now }
-    requires high { y ≤ 2 ^ 41 }
+    requires high { y ≤ 2 ^ 46 }
     ensures { OnOk result
         (AddsElements out.old out.new (heads (texts_of names.now) places.now y 0 columns.now)) }
 {

@@ -1,4 +1,4 @@
-use Rattle.std.proofs.Common.{◌∙◌, ◌-◌, List, length, map, refl, sym}
+use Rattle.std.proofs.Common.{◌∙◌, ◌-◌, List, length, refl, sym}
 use Rattle.occ_chart.proofs.Drawing.{charted_by, entries_length}
 use Rattle.occ_shown.specs.Answers.{names_of}
 use Rattle.occ_term.specs.Runs.{Entry, entries}

@@ -1,4 +1,4 @@
-use Rattle.std.proofs.Common.{◌≡◌, ◌++◌, length, map}
+use Rattle.std.proofs.Common.{◌≡◌, ◌++◌, length}
 use Rattle.occ_chart.specs.Charts.{drawn_feet}
 use Rattle.occ_chart.specs.Xml.{elements_text}
 use Rattle.occ_chart.proofs.feet.write_feet.Given as goal
