@@ -1,6 +1,6 @@
-// Shows a run, turn by turn, from the data of the page: the source, the PROC of each process, the trace as lines of JSON, the lines of the
-// turns, and the report on the end. Each is a text behind which stands a form feed; a byte below 32 other than a line feed, `<` and `\`
-// stand in it as `\u` and four digits.
+// Shows a run, turn by turn, from the data of the page: the source, the PROC of each process, and of each run a line that is told of it, the
+// trace as lines of JSON, the lines of the turns, and the report on the end. Each is a text behind which stands a form feed; a byte below 32
+// other than a line feed, `<` and `\` stand in it as `\u` and four digits. A page of a search has the run of each answer.
 "use strict";
 
 const $ = (id) => document.getElementById(id);
@@ -35,7 +35,12 @@ function linesOf(text) {
 /** A text as it was before it was written into the page. */
 const plain = (text) => text.replace(/\\u([0-9a-f]{4})/g, (_, digits) => String.fromCharCode(parseInt(digits, 16)));
 
-const [source, names, trace, turnLines, report] = $("data").textContent.split("\f").map(plain).map(linesOf);
+const [source, names, ...texts] = $("data").textContent.split("\f").map(plain).map(linesOf);
+const runs = [];
+for (let place = 0; place + 4 < texts.length; place += 4) runs.push(texts.slice(place, place + 4));
+/** The number of the run that is shown, from 0: `page.html#2.12` is turn 12 of the second one. */
+const chosen = Math.max(0, Math.min(runs.length - 1, (/^#(\d+)\./.exec(location.hash)?.[1] || 1) - 1));
+const [, trace, turnLines, report] = runs[chosen] || [[], ['{"ending":"no run ends"}'], [], []];
 const made = trace.map((line) => JSON.parse(line));
 const ending = made.pop().ending;
 
@@ -354,7 +359,7 @@ const KEYS = {
 };
 document.addEventListener("keydown", (event) => {
   const key = KEYS[event.key];
-  if (!key || event.ctrlKey || event.altKey || event.metaKey) return;
+  if (!key || event.target === $("answers") || event.ctrlKey || event.altKey || event.metaKey) return;
   event.preventDefault();
   go(key(event));
 });
@@ -370,7 +375,15 @@ $("body").addEventListener("click", (event) => {
   if (group) go(+group.dataset.turn);
 });
 addEventListener("resize", showChart);
-addEventListener("hashchange", () => go(+location.hash.slice(1)));
+/** The turn that the address names. */
+const turnAsked = () => +(/(\d+)$/.exec(location.hash)?.[1] || 0);
+addEventListener("hashchange", () => (location.hash.includes(".") ? location.reload() : go(turnAsked())));
+if (runs.length > 1) {
+  runs.forEach(([head], place) => (add($("answers"), "option", "", head[0]).value = place));
+  $("answers").value = chosen;
+  $("answers").hidden = false;
+  $("answers").addEventListener("change", () => (location.hash = `${+$("answers").value + 1}.0`));
+}
 // on paper the chart has what surrounds this turn
 addEventListener("beforeprint", () => {
   const from = Math.max(0, madeBy(now) - 40);
@@ -388,4 +401,4 @@ addEventListener("afterprint", () => {
 $("ending").textContent = `${ending}, ${made.length} communications`;
 $("body").style.height = `${heightTo(made.length)}px`;
 showHeads();
-go(+location.hash.slice(1));
+go(turnAsked());

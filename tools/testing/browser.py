@@ -71,10 +71,10 @@ class Browser:
         """How many seconds the page's thread has worked."""
         return next(metric["value"] for metric in self.do("Performance.getMetrics")["metrics"] if metric["name"] == "TaskDuration")
 
-    def open(self, path):
-        """Opens a file."""
+    def open(self, path, part=""):
+        """Opens a file, at a part of it."""
         self.is_open = False
-        self.do("Page.navigate", url=f"file://{path}")
+        self.do("Page.navigate", url=f"file://{path}{part}")
         while not self.is_open:
             self.next()
 

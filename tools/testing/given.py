@@ -37,7 +37,7 @@ WRONG = [
     "--limit=1 --limit=1", "--trace --trace",
     # words of one run beside a search, or beside a check
     "--explore --limit=1", "--workers=2 --explore", "--explore --choices=c", "--explore --trace", "--explore --watch",
-    "--explore --chart=s", "--explore --arrows=5", "--explore --steps=u", "--explore --page=p", "--explore --seed=1", "--explore --seed=1 --tries=2",
+    "--explore --chart=s", "--explore --arrows=5", "--explore --steps=u", "--within=b.occ --page=p", "--explore --seed=1", "--explore --seed=1 --tries=2",
     "--explore --trace-to=t", "--explore --json", "--explore --last=1", "--explore --live", "--explore --typed=t", "--check --explore", "--check --states=5", "--check --record=r",
     "--check --trace", "--check --trace-to=t", "--check --trace-to=t --json", "--check --chart=s", "--check --arrows=5", "--check --last=5",
     "--check --steps=u", "--check --page=p", "--check --seed=1", "--check --tries=2", "--check --choices=c", "--check --workers=2", "--check --watch",
@@ -55,7 +55,7 @@ WRONG = [
 # words that are allowed
 ALLOWED = [
     "--limit 10000000 --trace", "--trace --limit=2", "--errors halt", "--quantum=65536 --errors=stop --workers=64 --watch --explain",
-    "--chart=s.svg --arrows=0", "--explore", "--explore=full", "--explore=endings --states=10000000 --quantum=7 --errors=stop --record=r",
+    "--chart=s.svg --arrows=0", "--explore", "--explore --page=p", "--explore=full", "--explore=endings --states=10000000 --quantum=7 --errors=stop --record=r",
     "--check", "--check --json", "--seed=1000000000 --tries=2 --trace-to=t --json --steps=u --chart=s --last=3", "--record=g --chart=h --steps=s --page=p",
     "--live", "--live --seed=3 --errors=stop --trace --explain --record=r --typed=k --trace-to=t --json --steps=u --chart=s --page=p",
     "--typed=k --workers=2",

@@ -1,7 +1,7 @@
 """Tries the page of --page.
 
 Its bytes are the beginning and the end that tools/page has, and between them the source, the names of the processes, and what
---trace-to --json, --steps and --explain write of that run. No byte `<` stands there.
+--trace-to --json, --steps and --explain write of that run; with --explore the same of each answer. No byte `<` stands there.
 
 Where there is a browser, it opens such pages. It goes through a run by the keys, on and back, and each turn has to show what --steps and the
 trace have of it, and at the end what --explain reports. A source with markup in its strings and comments has to be shown letter by letter.
@@ -79,17 +79,17 @@ def made(program, folder, source, words=()):
     data = page[len(head) : len(page) - len(foot)]
     texts = data.split(b"\x0c")
     faults = ["a < in the data"] if b"<" in data else []
-    wanted = [source.encode(), None, (folder / "trace").read_bytes(), (folder / "turns").read_bytes()]
+    wanted = [source.encode(), None, b"", (folder / "trace").read_bytes(), (folder / "turns").read_bytes()]
     for place, text in enumerate(wanted):
         if text is not None and texts[place] + b"\x0c" != kept(text):
             faults.append(f"the text {place} is another one")
-    if len(texts) != 6 or texts[5]:
+    if len(texts) != 7 or texts[6]:
         faults.append(f"{len(texts)} texts")
-    plain = [re.sub(rb"\\u([0-9a-f]{4})", lambda code: bytes([int(code[1], 16)]), text) for text in texts[:5]]
+    plain = [re.sub(rb"\\u([0-9a-f]{4})", lambda code: bytes([int(code[1], 16)]), text) for text in texts[:6]]
     report = run(program, folder, ["--choices", "used", "--explain", "x.occ"], b"some keys\n")[2]
-    if report and plain[4] + b"  the schedule ends here: a longer one lets the run go on\n" != report and plain[4] != report:
+    if report and plain[5] + b"  the schedule ends here: a longer one lets the run go on\n" != report and plain[5] != report:
         faults.append(f"another report: {report[:200]}")
-    for number, name in re.findall(rb"(?m)^  p(\d+) ([\w.]+), line", plain[4]):
+    for number, name in re.findall(rb"(?m)^  p(\d+) ([\w.]+), line", plain[5]):
         if plain[1].split(b"\n")[int(number)] != name:
             faults.append(f"p{number.decode()} has another name")
     return [text.decode(errors="replace") for text in plain], faults
@@ -101,9 +101,32 @@ def composed(program, source, words=()):
         yield from made(program, folder, source, words)[1]
 
 
+def searched(program, source):
+    """What is wrong with the bytes of a page of a search: of each answer it has the line, and what is written of the run by its choices."""
+    with room() as folder:
+        (folder / "x.occ").write_text(source)
+        lines = run(program, folder, ["--explore", "--record", "found", "--page", "page.html", "x.occ"])[1].splitlines(keepends=True)
+        answers = [line for line in lines if re.match(rb"\d+ (ended|stopped|fault)", line)]
+        page = (folder / "page.html").read_bytes()
+        head, foot = parts()
+        texts = page[len(head) : len(page) - len(foot)].split(b"\x0c")
+        if len(texts) != 3 + 4 * len(answers) or texts[-1] or texts[0] + b"\x0c" != kept(source.encode()):
+            yield f"{len(texts)} texts of {len(answers)} answers"
+            return
+        for number, line in enumerate(answers):
+            run(program, folder, ["--choices", f"found.{number + 1}.choices", "--trace-to", "trace", "--json", "--steps", "turns", "x.occ"])
+            wanted = [line, (folder / "trace").read_bytes(), (folder / "turns").read_bytes()]
+            for place, text in enumerate(wanted):
+                if texts[2 + 4 * number + place] + b"\x0c" != kept(text):
+                    yield f"answer {number + 1}: the text {place} is another one"
+        print_of_search = run(program, folder, ["--explore", "x.occ"])[1]
+        if print_of_search.splitlines(keepends=True) != lines:
+            yield "a search with a page prints something else"
+
+
 def walked(shown, texts):
     """What is wrong with what the page shows of each turn, on and back."""
-    _, _, trace, turns, report = texts
+    _, _, _, trace, turns, report = texts
     lines, entries = turns.splitlines(), [json.loads(line) for line in trace.splitlines()][:-1]
     seen, count = [], 0
     shown.press("Home")
@@ -164,6 +187,13 @@ def looked_at(program, path):
         lines = shown.of('[...document.querySelectorAll("#lines .code")].map((code) => code.textContent)')
         if lines != MARKUP.splitlines() or shown.of('document.querySelectorAll("b, i").length') or shown.of("document.scripts.length") != 2:
             yield f"markup: {lines}"
+        (folder / "x.occ").write_text((TOP / "examples/faults/dining.occ").read_text())
+        lines = run(program, folder, ["--explore", "--page", "page.html", "x.occ"])[1].decode().splitlines()
+        shown.open(folder / "page.html", "#2.16")
+        told = shown.of('[...$("answers").options].map((one) => one.textContent)')
+        if told != [line for line in lines if " by " in line] or shown.of('$("answers").value') != "1" or shown.of("now") != 16:
+            yield f"a search: {told}"
+        yield from laid_out(shown, "a search")
         made(program, folder, LONG)
         before = shown.busy()
         shown.open(folder / "page.html")
@@ -182,6 +212,9 @@ def jobs():
         source = (TOP / f"examples/{name}.occ").read_text()
         for words in ([], ["--seed", "3"], ["--limit", "5"]):
             yield Job(f"page: {name} {words}", lambda program, source=source, words=words: composed(program, source, words))
+    for name in ("faults/dining", "faults/door", "first_steps/relay", "selection/merge"):
+        source = (TOP / f"examples/{name}.occ").read_text()
+        yield Job(f"page of a search: {name}", lambda program, source=source: searched(program, source))
     yield Job("page: markup", lambda program: composed(program, MARKUP))
     path = found()
     if path:

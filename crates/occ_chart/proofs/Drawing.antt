@@ -8,8 +8,9 @@ use Rattle.occ_term.specs.declared.communication.End.{End}
 use Rattle.occ_term.specs.declared.ending.Ending.{Ending}
 use Rattle.occ_chart.specs.declared.part.Part.{Part}
 use Rattle.occ_chart.specs.declared.part.Part.TheVariants.{First, Last}
-use Rattle.occ_chart.specs.Charts.{IsChart, above, after_of, asked, before_of, drawn_of, foot, if_first, if_last, is_cut, width_of, not_drawn, most_arrows, shown_of}
+use Rattle.occ_chart.specs.Charts.{IsChart, above, after_of, asked, before_of, drawn_of, foot, if_first, if_last, is_cut, not_drawn, most_arrows, places_of, shown_of, arrow, arrows, break, rows_left, row_behind}
 use Rattle.occ_chart.specs.Columns.{AreColumns, Footing}
+use Rattle.occ_chart.specs.Xml.{Element, element_text, elements_text}
 
 pub entries_length : (names : Names) (n : ℕ) (xs : List Communication) → length (entries names n xs) ≡ length xs
 entries_length names n [] = refl
@@ -51,41 +52,62 @@ four_more o a b c d x y z w e f g h =
     ∙ append_assoc o ((a ++ b) ++ c) d
 
 -- the parts of the code are known by what they are
-pub charted : (es shown : List Entry) (part : Part) (ending : Ending) (names : List (List ℕ)) (ss : List Footing) (circle : List ℕ) (columns : List End) (letters all count left : ℕ) (top bytes : List ℕ)
+charted : (es shown : List Entry) (part : Part) (ending : Ending) (names : List (List ℕ)) (ss : List Footing) (circle : List ℕ) (columns : List End) (places : List ℕ) (all count left : ℕ) (top bytes : List ℕ)
     → shown ≡ shown_of part es → all ≡ length es → count ≡ min (min (asked part) most_arrows) all → left ≡ all - count
-    → AreColumns shown ss columns → letters ≡ width_of names columns ss
-    → top ≡ above letters names columns shown (if_last part left) (is_cut part es)
-    → bytes ≡ top ++ foot letters names columns (length shown) (if_first part left) (is_cut part es) ss circle ending
+    → AreColumns shown ss columns → places ≡ places_of names ss columns
+    → top ≡ above places names columns shown (if_last part left) (is_cut part es)
+    → bytes ≡ top ++ foot places names columns (length shown) (if_first part left) (is_cut part es) ss circle ending
     → IsChart es part ending names ss circle bytes
-charted es shown part ending names ss circle columns letters all count left top bytes is many counted rest are wide first second =
+charted es shown part ending names ss circle columns places all count left top bytes is many counted rest are wide first second =
     let out : left ≡ not_drawn part es = rest ∙ ap (λ k. all - k) counted ∙ ap (λ k. k - min (min (asked part) most_arrows) k) many in
     record {
       columns = columns;
       are = subst (λ xs. AreColumns xs ss columns) is are;
       is =
           second
-          ∙ ap (λ t. t ++ foot letters names columns (length shown) (if_first part left) (is_cut part es) ss circle ending)
-          (first ∙ ap (λ k. above letters names columns shown (if_last part k) (is_cut part es)) out ∙ ap (λ xs. above letters names columns xs (before_of part es) (is_cut part es)) is)
-          ∙ ap (λ k. above letters names columns (shown_of part es) (before_of part es) (is_cut part es) ++ foot letters names columns (length shown) (if_first part k) (is_cut part es) ss circle ending) out
-          ∙ ap (λ xs. above letters names columns (shown_of part es) (before_of part es) (is_cut part es) ++ foot letters names columns (length xs) (after_of part es) (is_cut part es) ss circle ending) is
-          ∙ ap (λ n. above n names columns (shown_of part es) (before_of part es) (is_cut part es) ++ foot n names columns (length (shown_of part es)) (after_of part es) (is_cut part es) ss circle ending) wide;
+          ∙ ap (λ t. t ++ foot places names columns (length shown) (if_first part left) (is_cut part es) ss circle ending)
+          (first ∙ ap (λ k. above places names columns shown (if_last part k) (is_cut part es)) out ∙ ap (λ xs. above places names columns xs (before_of part es) (is_cut part es)) is)
+          ∙ ap (λ k. above places names columns (shown_of part es) (before_of part es) (is_cut part es) ++ foot places names columns (length shown) (if_first part k) (is_cut part es) ss circle ending) out
+          ∙ ap (λ xs. above places names columns (shown_of part es) (before_of part es) (is_cut part es) ++ foot places names columns (length xs) (after_of part es) (is_cut part es) ss circle ending) is
+          ∙ ap (λ ps. above ps names columns (shown_of part es) (before_of part es) (is_cut part es) ++ foot ps names columns (length (shown_of part es)) (after_of part es) (is_cut part es) ss circle ending) wide;
     }
 
 -- the same, where the lists are known by what they are
-pub charted_by : (es shown shown' shown'' : List Entry) (part : Part) (ending : Ending) (names : List (List ℕ)) (ss : List Footing) (circle : List ℕ) (columns columns' columns'' columns''' : List End) (letters all count left before after size : ℕ) (high : Bool) (top bytes : List ℕ)
-    → shown ≡ shown_of part es → shown' ≡ shown → shown'' ≡ shown → all ≡ length es → count ≡ min (min (asked part) most_arrows) all → left ≡ all - count
-    → AreColumns shown' ss columns → columns' ≡ columns → columns'' ≡ columns → columns''' ≡ columns → letters ≡ width_of names columns''' ss
-    → before ≡ if_last part left → after ≡ if_first part left → high ≡ nat_lt most_arrows (asked part) && nat_lt most_arrows all → size ≡ length shown''
-    → top ≡ above letters names columns' shown'' before high
-    → bytes ≡ top ++ foot letters names columns'' size after high ss circle ending
+pub charted_by : (es shown shown' : List Entry) (part : Part) (ending : Ending) (names : List (List ℕ)) (ss : List Footing) (circle : List ℕ) (columns columns' : List End) (places places' : List ℕ) (all count left before after size : ℕ) (high : Bool) (top bytes : List ℕ)
+    → shown ≡ shown_of part es → shown' ≡ shown → all ≡ length es → count ≡ min (min (asked part) most_arrows) all → left ≡ all - count
+    → AreColumns shown' ss columns → columns' ≡ columns → places ≡ places_of names ss columns' → places' ≡ places
+    → before ≡ if_last part left → after ≡ if_first part left → high ≡ nat_lt most_arrows (asked part) && nat_lt most_arrows all → size ≡ length shown'
+    → top ≡ above places' names columns' shown' before high
+    → bytes ≡ top ++ foot places' names columns' size after high ss circle ending
     → IsChart es part ending names ss circle bytes
-charted_by es shown shown' shown'' part ending names ss circle columns columns' columns'' columns''' letters all count left before after size high top bytes is one two many counted rest are three four own wide five six seven eight first second =
+charted_by es shown shown' part ending names ss circle columns columns' places places' all count left before after size high top bytes is one many counted rest are own wide there five six seven eight first second =
     let cut : high ≡ is_cut part es = seven ∙ ap (λ k. nat_lt most_arrows (asked part) && nat_lt most_arrows k) many in
-    charted es shown part ending names ss circle columns letters all count left top bytes is many counted rest (subst (λ xs. AreColumns xs ss columns) one are)
-    (wide ∙ ap (λ cs. width_of names cs ss) own)
-    (first ∙ ap (λ cs. above letters names cs shown'' before high) three ∙ ap (λ xs. above letters names columns xs before high) two ∙ ap (λ k. above letters names columns shown k high) five ∙ ap (λ b. above letters names columns shown (if_last part left) b) cut)
+    charted es shown' part ending names ss circle columns' places' all count left top bytes (one ∙ is) many counted rest (subst (λ cs. AreColumns shown' ss cs) (sym own) are)
+    (there ∙ wide)
+    (first ∙ ap (λ k. above places' names columns' shown' k high) five ∙ ap (λ b. above places' names columns' shown' (if_last part left) b) cut)
     (second
-    ∙ ap (λ cs. top ++ foot letters names cs size after high ss circle ending) four
-    ∙ ap (λ k. top ++ foot letters names columns k after high ss circle ending) (eight ∙ ap length two)
-    ∙ ap (λ k. top ++ foot letters names columns (length shown) k high ss circle ending) six
-    ∙ ap (λ b. top ++ foot letters names columns (length shown) (if_first part left) b ss circle ending) cut)
+    ∙ ap (λ k. top ++ foot places' names columns' k after high ss circle ending) eight
+    ∙ ap (λ k. top ++ foot places' names columns' (length shown') k high ss circle ending) six
+    ∙ ap (λ b. top ++ foot places' names columns' (length shown') (if_first part left) b ss circle ending) cut)
+
+-- ---- texts of shapes behind one another
+
+elements_append : (xs ys : List Element) → elements_text (xs ++ ys) ≡ elements_text xs ++ elements_text ys
+elements_append [] ys = refl
+elements_append (x ∷ xs) ys = ap (λ t. element_text x ++ t) (elements_append xs ys) ∙ sym (append_assoc (element_text x) (elements_text xs) (elements_text ys))
+
+-- two that are put behind a text one after the other are put behind it
+pub both_put : (o p q : List ℕ) (xs ys : List Element) → p ≡ o ++ elements_text xs → q ≡ p ++ elements_text ys → q ≡ o ++ elements_text (xs ++ ys)
+both_put o p q xs ys e f = f ∙ ap (λ t. t ++ elements_text ys) e ∙ append_assoc o (elements_text xs) (elements_text ys) ∙ ap (λ t. o ++ t) (sym (elements_append xs ys))
+
+-- a loop's step: what is put now, and what is left
+pub put_next : (o p w : List ℕ) (xs ys : List Element) → p ≡ o ++ elements_text xs → o ++ elements_text (xs ++ ys) ≡ w → p ++ elements_text ys ≡ w
+put_next o p w xs ys e f = ap (λ t. t ++ elements_text ys) e ∙ append_assoc o (elements_text xs) (elements_text ys) ∙ ap (λ t. o ++ t) (sym (elements_append xs ys)) ∙ f
+
+pub arrows_next : (o p q w : List ℕ) (names : List (List ℕ)) (places : List ℕ) (columns : List End) (left i : ℕ) (e : Entry) (es : List Entry)
+    → p ≡ o ++ elements_text (break names places columns left i) → q ≡ p ++ elements_text (arrow places columns (row_behind left i) e)
+    → o ++ elements_text (arrows names places columns left i (e ∷ es)) ≡ w
+    → q ++ elements_text (arrows names places columns (rows_left left) (row_behind left i + 1) es) ≡ w
+arrows_next o p q w names places columns left i e es a b c =
+    let rest = arrow places columns (row_behind left i) e ++ arrows names places columns (rows_left left) (row_behind left i + 1) es in
+    put_next p q w (arrow places columns (row_behind left i) e) (arrows names places columns (rows_left left) (row_behind left i + 1) es) b (put_next o p w (break names places columns left i) rest a c)

@@ -1,3 +1,2 @@
 pub mod Ordering
 mod Drawing
-mod Letters

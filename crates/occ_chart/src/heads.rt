@@ -1,36 +1,16 @@
 //! The heads of columns, and the lines down from them.
 ghost use Rattle.std.specs.Prelude.{◌≡◌, ◌≤◌, ◌^◌, IfOk, OnOk, codes, length};
-ghost use Rattle.occ_chart.specs.Charts.{across, column, heads, lifelines, head_of_end, PutsHeadsAgain};
-ghost use Rattle.occ_chart.specs.Labels.{end_words, end_name, texts_of};
+ghost use Rattle.occ_chart.specs.Charts.{AreNear, head_in, heads, lifelines, name_label, PutsHeadsAgain};
+ghost use Rattle.occ_chart.specs.Labels.{end_name, texts_of};
 ghost use Rattle.occ_chart.specs.Shapes.{down, path};
 ghost use Rattle.occ_chart.specs.Xml.{AddsElement, AddsElements};
-ghost use Rattle.occ_chart.specs.declared.xml.Style.TheVariants.{Plain};
 ghost use Rattle.occ_shown.specs.Answers.{end_text, AddsText};
 
 use crate::labels::write_label;
-use crate::xml::{Style, write_path};
+use crate::places::column;
+use crate::xml::{Style, write_path, write_text};
 use occ_term::End;
 use std::alloc::{AllocError, Global};
-
-/// How many letters so many columns have.
-#[tactic(auto, unfolding(crate::specs::Charts::across), using(crate::proofs::Letters::few_letters))]
-pub(crate) fn across(letters: u64, columns: u64) -> u64
-    requires letters { letters ≤ 24 }
-    requires columns { columns ≤ 2 ^ 41 }
-    ensures is { result ≡ across letters columns }
-    ensures few { result ≤ 2 ^ 46 }
-{
-    letters * columns
-}
-
-/// The place of a column in the picture.
-pub(crate) fn column(letters: u64, place: usize) -> u64
-    requires letters { letters ≤ 24 }
-    requires place { place ≤ 2 ^ 40 }
-    ensures { result ≡ column letters place }
-{
-    8 * across(letters, place as u64) + 96
-}
 
 /// The name of an end: `p` and a process's number, or what else it is.
 ///
@@ -51,16 +31,13 @@ pub fn write_end(alloc: Global, out: &mut Vec<u8>, end: End) -> Result<(), Alloc
     }
 }
 
-/// What stands behind the name of an end.
-pub(crate) fn end_words(alloc: Global, name: &[u8], end: End) -> Result<Vec<u8>, AllocError>
-    ensures { IfOk result (λ words. words.items ≡ end_words name.now end) }
+/// The same as a text of its own.
+pub(crate) fn end_text(alloc: Global, end: End) -> Result<Vec<u8>, AllocError>
+    ensures { IfOk result (λ text. text.items ≡ end_text end) }
 {
-    let mut words = Vec::new(alloc);
-    if !name.is_empty() {
-        words.push(b' ')?;
-    }
-    write_end(alloc, &mut words, end)?;
-    Ok(words)
+    let mut text = Vec::new(alloc);
+    write_end(alloc, &mut text, end)?;
+    Ok(text)
 }
 
 /// The name that an end has.
@@ -78,6 +55,23 @@ pub(crate) fn name_of(names: &[Vec<u8>], end: End) -> &[u8]
     }
 }
 
+/// The name of the PROC that a process runs, where it has one.
+fn write_name(
+    alloc: Global,
+    out: &mut Vec<u8>,
+    x: u64,
+    y: u64,
+    name: &[u8],
+) -> Result<(), AllocError>
+    ensures { OnOk result (AddsElements out.old out.new (name_label x y name.now)) }
+{
+    if name.is_empty() {
+        return Ok(());
+    }
+    write_label(alloc, out, Style::Plain, x, y, 24, name, b"")
+}
+
+#[tactic(auto, using(crate::proofs::Drawing::both_put))]
 fn write_head(
     alloc: Global,
     out: &mut Vec<u8>,
@@ -86,29 +80,32 @@ fn write_head(
     y: u64,
     end: End,
 ) -> Result<(), AllocError>
-    ensures { OnOk result (AddsElement out.old out.new (head_of_end names.now x y end)) }
+    requires { y ≤ 2 ^ 41 }
+    ensures { OnOk result (AddsElements out.old out.new (head_in names.now x y end)) }
 {
-    let name = name_of(names, end);
-    let words = end_words(alloc, name, end)?;
-    write_label(alloc, out, Style::Plain, x, y, 24, name, words.as_slice())
+    write_name(alloc, out, x, y, name_of(names, end))?;
+    let words = end_text(alloc, end)?;
+    write_text(alloc, out, Style::Plain, x, y + 14, b"", words.as_slice())?;
+    Ok(())
 }
 
 /// The heads of the columns, in this height.
+#[tactic(auto, using(crate::proofs::Drawing::put_next))]
 pub(crate) fn write_heads(
     alloc: Global,
     out: &mut Vec<u8>,
     names: &[Vec<u8>],
-    letters: u64,
+    places: &[u64],
     y: u64,
     columns: &[End],
 ) -> Result<(), AllocError>
-    requires letters { letters ≤ 24 }
-    requires columns { length columns.now ≤ 2 ^ 40 }
+    requires near { AreNear places.now }
+    requires high { y ≤ 2 ^ 41 }
     ensures { OnOk result
-        (AddsElements out.old out.new (heads (texts_of names.now) letters y 0 columns.now)) }
+        (AddsElements out.old out.new (heads (texts_of names.now) places.now y 0 columns.now)) }
 {
     for i in 0..columns.len() {
-        write_head(alloc, out, names, column(letters, i), y, columns[i])?;
+        write_head(alloc, out, names, column(places, i), y, columns[i])?;
     }
     Ok(())
 }
@@ -118,18 +115,17 @@ pub(crate) fn write_heads_again(
     alloc: Global,
     out: &mut Vec<u8>,
     names: &[Vec<u8>],
-    letters: u64,
+    places: &[u64],
     y: u64,
     count: usize,
     columns: &[End],
 ) -> Result<(), AllocError>
-    requires letters { letters ≤ 24 }
-    requires columns { length columns.now ≤ 2 ^ 40 }
+    requires near { AreNear places.now }
     requires bottom { y ≤ 2 ^ 40 }
-    ensures { PutsHeadsAgain result out.old out.new names.now letters y count columns.now }
+    ensures { PutsHeadsAgain result out.old out.new names.now places.now y count columns.now }
 {
-    if count > 40 {
-        return write_heads(alloc, out, names, letters, y + 46, columns);
+    if count > 15 {
+        return write_heads(alloc, out, names, places, y + 46, columns);
     }
     Ok(())
 }
@@ -139,7 +135,7 @@ pub(crate) fn write_heads_again(
 fn down(alloc: Global, x: u64, bottom: u64) -> Result<String, AllocError>
     ensures { IfOk result (λ text. text.bytes.items ≡ down x bottom) }
 {
-    let text = format!(in alloc; "M {x} 30 V {bottom}")?;
+    let text = format!(in alloc; "M {x} 38 V {bottom}")?;
     Ok(text)
 }
 
@@ -154,19 +150,18 @@ fn write_lifeline(alloc: Global, out: &mut Vec<u8>, x: u64, bottom: u64) -> Resu
 pub(crate) fn write_lifelines(
     alloc: Global,
     out: &mut Vec<u8>,
-    letters: u64,
+    places: &[u64],
     bottom: u64,
     columns: &[End],
 ) -> Result<(), AllocError>
-    requires letters { letters ≤ 24 }
-    requires columns { length columns.now ≤ 2 ^ 40 }
+    requires { AreNear places.now }
     ensures { OnOk result
-        (AddsElements out.old out.new (lifelines letters bottom 0 columns.now)) }
+        (AddsElements out.old out.new (lifelines places.now bottom 0 columns.now)) }
 {
     let mut place = 0;
     let mut rest = columns;
     while let Some((_, others)) = rest.split_first() {
-        write_lifeline(alloc, out, column(letters, place), bottom)?;
+        write_lifeline(alloc, out, column(places, place), bottom)?;
         place += 1;
         rest = others;
     }

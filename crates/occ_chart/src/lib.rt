@@ -12,8 +12,8 @@ mod labels;
 mod messages;
 mod notes;
 mod part;
+mod places;
 mod stub;
-mod widths;
 mod xml;
 
 pub use arrows::words_of;

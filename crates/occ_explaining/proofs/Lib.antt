@@ -1,3 +1,4 @@
+mod Charted
 mod Members
 mod Named
 mod NotedInputs

@@ -5,3 +5,5 @@ pub mod Typing
 pub mod Objects
 pub mod Unreached
 pub mod Traced
+pub mod Charting
+pub mod Studied

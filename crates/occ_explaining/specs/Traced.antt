@@ -1,8 +1,6 @@
 -- The trace of a run as a text of its own.
 -- Manual: nothing; this is (own).
 use Rattle.std.specs.Prelude.{List, Vec, [], ℕ, ◌++◌, ◌≡◌, ◌∷◌}
-use Rattle.occ_choices.specs.Plans.{choices_of}
-use Rattle.occ_choices.specs.declared.plan.Plan.{Plan}
 use Rattle.occ_machine.specs.Compiled.{Program}
 use Rattle.occ_json.specs.Json.{json_text}
 use Rattle.occ_net_replay.specs.declared.choice.Choice.{Choice}
@@ -31,7 +29,3 @@ pub record IsTraced (options : Options) (source keyboard : List ℕ) (list : Lis
   pub outcome : Outcome
   pub ran : Ran options source keyboard list code outcome
   pub is : bytes ≡ form_text form (entries (names_of code.channels) 1 outcome.trace) outcome.ending
-
--- by the choices of a plan
-abbrev pub IsTracedBy : {A : Type 0} → Options → (source keyboard : List ℕ) → Plan → Form → Vec ℕ A → Type 0
-IsTracedBy options source keyboard plan form bytes = IsTraced options source keyboard (choices_of plan) form bytes.items

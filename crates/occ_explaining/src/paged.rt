@@ -1,65 +1,69 @@
-//! Pages that show a run.
-ghost use Rattle.std.specs.Prelude.{◌≡◌, IfErr, IfOk};
-ghost use Rattle.occ_explaining.specs.Shown.{HasNames, NamesOf, PageOf};
-ghost use Rattle.occ_play.specs.Playing.{Refuses};
+//! Pages that show runs.
+ghost use Rattle.std.specs.Prelude.{◌≡◌, IfOk};
+ghost use Rattle.occ_explaining.specs.Shown.{HasNames};
+ghost use Rattle.occ_explaining.specs.Studied.{NamesBy, PagesBy, RunsBy};
 
 use crate::charted::MOST_NAMED;
-use crate::reported::{lines_of, plan_of, report_of, tree_of};
+use crate::reported::report_of;
 use crate::stepped::steps_of;
-use crate::tracing::{Form, traced};
-use occ_json::page;
+use crate::studied::Studied;
+use crate::tracing::{Form, trace_of};
+use occ_json::{RunTexts, page};
 use occ_net_replay::Choice;
-use occ_places::{Places, places_of};
-use occ_play::{Options, PlayFault, code_of};
+use occ_places::Places;
 use std::alloc::{AllocError, Global};
 
-/// A page that shows the run of a source by these choices, for a browser: the source, the PROC of each process, the trace, the turns, and
-/// the report on the end, between the beginning and the end of the page.
+/// What a page has of the run of a source by these choices: this line, the trace, the turns, and the report on the end.
 ///
 /// # Errors
 ///
-/// As of `play_in`, but for `Write`.
-#[tactic(auto, using(crate::proofs::Refusing::refuses_text))]
+/// A refused growth.
+pub fn run_texts(
+    studied: &Studied,
+    alloc: Global,
+    keyboard: &[u8],
+    head: &[u8],
+    choices: &[Choice],
+) -> Result<RunTexts, AllocError>
+    ensures { IfOk result (RunsBy studied.now keyboard.now head.now choices.now) }
+{
+    let trace = trace_of(studied, alloc, keyboard, choices, Form::Json)?;
+    let turns = steps_of(studied, alloc, keyboard, choices)?;
+    let report = report_of(studied, alloc, keyboard, choices)?;
+    let head = Vec::from_slice(alloc, head)?;
+    Ok(RunTexts {
+        head,
+        trace,
+        turns,
+        report,
+    })
+}
+
+/// A page that shows such runs of this source, for a browser: the source, the PROC of each process, and the runs, between the beginning
+/// and the end of the page.
+///
+/// # Errors
+///
+/// A refused growth.
 pub fn page_of(
-    options: &Options,
+    studied: &Studied,
     alloc: Global,
     source: &[u8],
-    keyboard: &[u8],
-    choices: &[Choice],
-) -> Result<Vec<u8>, PlayFault>
-    ensures shown { IfOk result (λ bytes.
-        PageOf options.now source.now keyboard.now choices.now bytes.items) }
-    ensures refused { IfErr result (Refuses options.now source.now) }
+    runs: &[RunTexts],
+) -> Result<Vec<u8>, AllocError>
+    ensures { IfOk result (PagesBy studied.now source.now runs.now) }
 {
-    let plan = plan_of(alloc, choices)?;
-    let names = names_of(options, alloc, source)?;
-    let trace = traced(options, alloc, source, keyboard, &plan, Form::Json)?;
-    let turns = steps_of(options, alloc, source, keyboard, choices)?;
-    let report = report_of(options, alloc, source, keyboard, choices)?;
-    let bytes = page(
-        alloc,
-        source,
-        names.as_slice(),
-        trace.as_slice(),
-        turns.as_slice(),
-        report.as_slice(),
-    )?;
+    let names = names_of(studied, alloc)?;
+    let bytes = page(alloc, source, names.as_slice(), runs)?;
     Ok(bytes)
 }
 
 /// The names of the PROCs that the processes of a source run, each on a line.
-#[tactic(auto, using(crate::proofs::Refusing::refuses_text))]
-fn names_of(options: &Options, alloc: Global, source: &[u8]) -> Result<Vec<u8>, PlayFault>
-    ensures named { IfOk result (λ bytes. NamesOf options.now source.now bytes.items) }
-    ensures refused { IfErr result (Refuses options.now source.now) }
+fn names_of(studied: &Studied, alloc: Global) -> Result<Vec<u8>, AllocError>
+    ensures { IfOk result (NamesBy studied.now) }
 {
-    let code = code_of(options, alloc, source)?;
-    let lines = lines_of(alloc, source)?;
-    let tree = tree_of(alloc, source)?;
-    let read = lines.lines.as_slice();
-    let places = places_of(alloc, &tree, &code, read)?;
-    let count = code.len().min(MOST_NAMED) as u32;
-    let bytes = name_lines(alloc, &places, count)?;
+    let count = studied.code.len().min(MOST_NAMED) as u32;
+    let bytes = name_lines(alloc, &studied.places, count)?;
     Ok(bytes)
 }
 

@@ -1,16 +1,17 @@
 //! The trace of a run as a text of its own.
-ghost use Rattle.std.specs.Prelude.{◌≡◌, IfErr, IfOk};
-ghost use Rattle.occ_play.specs.Playing.{Refuses};
+ghost use Rattle.std.specs.Prelude.{◌≡◌, IfOk};
+ghost use Rattle.occ_explaining.specs.Studied.{TracesBy};
 ghost use Rattle.occ_shown.specs.Answers.{entries_in};
 ghost use Rattle.occ_term.specs.Runs.{entries};
-ghost use Rattle.occ_explaining.specs.Traced.{IsFormText, IsTracedBy};
+ghost use Rattle.occ_explaining.specs.Traced.{IsFormText};
 
+use crate::reported::plan_of;
+use crate::studied::Studied;
 use occ_board::Shown;
-use occ_choices::Plan;
 use occ_json::json_lines;
+use occ_net_replay::Choice;
 use occ_net_tables::run;
 use occ_net_trace::Trace;
-use occ_play::{Options, PlayFault, code_of};
 use occ_shown::{shown_as, watch_lines};
 use occ_term::{Channel, Ending};
 use std::alloc::{AllocError, Global};
@@ -57,25 +58,23 @@ fn text_of(alloc: Global, list: &[Shown], ending: Ending, form: Form) -> Result<
     }
 }
 
-/// The trace of the run that `occ_play::play_in` plays for this plan, with its ending, in this form.
+/// The trace of the run of a source by these choices, with its ending, in this form.
 ///
 /// # Errors
 ///
-/// As of `play_in`, but for `Write`.
-pub fn traced(
-    options: &Options,
+/// A refused growth.
+pub fn trace_of(
+    studied: &Studied,
     alloc: Global,
-    source: &[u8],
     keyboard: &[u8],
-    plan: &Plan,
+    choices: &[Choice],
     form: Form,
-) -> Result<Vec<u8>, PlayFault>
-    ensures traced { IfOk result (IsTracedBy options.now source.now keyboard.now plan.now form) }
-    ensures refused { IfErr result (Refuses options.now source.now) }
+) -> Result<Vec<u8>, AllocError>
+    ensures { IfOk result (TracesBy studied.now keyboard.now choices.now form) }
 {
-    let code = code_of(options, alloc, source)?;
-    let outcome = run(alloc, &code, keyboard, plan)?;
-    let list = shown_list(alloc, &outcome.trace, code.channels())?;
+    let plan = plan_of(alloc, choices)?;
+    let outcome = run(alloc, &studied.code, keyboard, &plan)?;
+    let list = shown_list(alloc, &outcome.trace, studied.code.channels())?;
     let bytes = text_of(alloc, list.as_slice(), outcome.ending, form)?;
     Ok(bytes)
 }

@@ -72,6 +72,24 @@ fn kind_text(kind: Option<Kind>) -> &'static [u8]
     }
 }
 
+/// The line of an answer: its number, its ending, what is then held, how many choices come to it, and the kind of its stop.
+///
+/// # Errors
+///
+/// A refused growth.
+pub fn answer_line(
+    alloc: Global,
+    asked: Asked,
+    number: usize,
+    answer: &Answer,
+) -> Result<Vec<u8>, AllocError>
+    ensures { IfOk result (λ line. line.items ≡ answer_line asked number answer.now) }
+{
+    let mut line = Vec::new(alloc);
+    write_answer(alloc, &mut line, asked, number, answer)?;
+    Ok(line)
+}
+
 pub(crate) fn write_answer(
     alloc: Global,
     out: &mut Vec<u8>,

@@ -4,7 +4,8 @@ use Rattle.std.proofs.Common.{◌≡◌, ◌≢◌, ◌∙◌, ◌<◌, ℕ, ◌
 use Rattle.std.proofs.lemmas.Bool.Decides.{nat_tests}
 use Rattle.std.proofs.lemmas.List.Elements.{All-append, All-cons, All-nil}
 use Rattle.occ_json.specs.Objects.{hex_digit}
-use Rattle.occ_json.specs.Pages.{BeginsNoMarkup, shielded, shielded_byte, shielded_text, page_data}
+use Rattle.occ_json.specs.Pages.{BeginsNoMarkup, run_data, runs_data, shielded, shielded_byte, shielded_text, page_data}
+use Rattle.occ_json.specs.declared.pages.RunTexts.{RunTexts}
 
 abbrev AllOthers : List ℕ → Type 0
 AllOthers bs = All (λ b. b ≢ 60) bs
@@ -52,13 +53,20 @@ all (b ∷ bs) = join (shielded_byte b) (shielded bs) (each b) (all bs)
 text : (bs : List ℕ) → AllOthers (shielded_text bs)
 text bs = join (shielded bs) (12 ∷ []) (all bs) (one 12 (λ h. absurd (omega (arith, h))))
 
+run : (r : RunTexts) → AllOthers (run_data r)
+run r =
+    let two = join (shielded_text r.head.items) (shielded_text r.trace.items) (text r.head.items) (text r.trace.items) in
+    let three = join (shielded_text r.head.items ++ shielded_text r.trace.items) (shielded_text r.turns.items) two (text r.turns.items) in
+    join (shielded_text r.head.items ++ shielded_text r.trace.items ++ shielded_text r.turns.items) (shielded_text r.report.items) three (text r.report.items)
+
+runs : (rs : List RunTexts) → AllOthers (runs_data rs)
+runs [] = All-nil (λ b. b ≢ 60)
+runs (r ∷ rs) = join (run_data r) (runs_data rs) (run r) (runs rs)
+
 -- of all texts of a page
-pub begins_no_markup : (source names trace turns report : List ℕ) → BeginsNoMarkup (page_data source names trace turns report)
-begins_no_markup source names trace turns report =
-    let two = join (shielded_text source) (shielded_text names) (text source) (text names) in
-    let three = join (shielded_text source ++ shielded_text names) (shielded_text trace) two (text trace) in
-    let four = join (shielded_text source ++ shielded_text names ++ shielded_text trace) (shielded_text turns) three (text turns) in
-    join (shielded_text source ++ shielded_text names ++ shielded_text trace ++ shielded_text turns) (shielded_text report) four (text report)
+pub begins_no_markup : (source names : List ℕ) (rs : List RunTexts) → BeginsNoMarkup (page_data source names rs)
+begins_no_markup source names rs =
+    join (shielded_text source ++ shielded_text names) (runs_data rs) (join (shielded_text source) (shielded_text names) (text source) (text names)) (runs rs)
 
 -- three texts behind one another
 pub joined : (h d f h' d' f' first second whole : List ℕ) → first ≡ h' → h' ≡ h → second ≡ first ++ d' → d' ≡ d → whole ≡ second ++ f' → f' ≡ f → whole ≡ h ++ d ++ f

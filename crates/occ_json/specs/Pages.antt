@@ -1,9 +1,10 @@
--- A page that shows a run: texts between the beginning and the end that each page has.
+-- A page that shows runs: texts between the beginning and the end that each page has.
 -- Manual: nothing; this is (own).
 use Rattle.std.specs.Prelude.{All, List, Vec, [], codes, if◌then◌else◌, nat_lt, ℕ, ◌%◌, ◌++◌, ◌/◌, ◌==◌, ◌||◌, ◌∷◌, ◌≡◌, ◌≢◌}
 use Rattle.occ_json.specs.Objects.{hex_digit}
 use Rattle.occ_json.specs.declared.page_foot.TheConstants.{FOOT}
 use Rattle.occ_json.specs.declared.page_head.TheConstants.{HEAD}
+use Rattle.occ_json.specs.declared.pages.RunTexts.{RunTexts}
 
 -- `<` and a backslash are `\u` and four digits, and so is a byte below 32 that ends no line
 abbrev pub shielded_byte : ℕ → List ℕ
@@ -20,23 +21,30 @@ shielded (b ∷ bs) = shielded_byte b ++ shielded bs
 abbrev pub shielded_text : List ℕ → List ℕ
 shielded_text bs = shielded bs ++ 12 ∷ []
 
--- the source, the names of its processes, the trace, the turns, and the report on the end
-abbrev pub page_data : (source names trace turns report : List ℕ) → List ℕ
-page_data source names trace turns report = shielded_text source ++ shielded_text names ++ shielded_text trace ++ shielded_text turns ++ shielded_text report
+-- of a run the line that is told of it, its trace, its turns, and the report on its end
+abbrev pub run_data : RunTexts → List ℕ
+run_data r = shielded_text r.head.items ++ shielded_text r.trace.items ++ shielded_text r.turns.items ++ shielded_text r.report.items
 
-abbrev pub page_text : (source names trace turns report : List ℕ) → List ℕ
-page_text source names trace turns report = HEAD.now ++ page_data source names trace turns report ++ FOOT.now
+abbrev pub runs_data : List RunTexts → List ℕ
+runs_data [] = []
+runs_data (r ∷ rs) = run_data r ++ runs_data rs
+
+-- the source, the names of its processes, and the runs
+abbrev pub page_data : (source names : List ℕ) → List RunTexts → List ℕ
+page_data source names rs = shielded_text source ++ shielded_text names ++ runs_data rs
+
+abbrev pub page_text : (source names : List ℕ) → List RunTexts → List ℕ
+page_text source names rs = HEAD.now ++ page_data source names rs ++ FOOT.now
 
 -- no byte of a text is a `<`, with which all markup begins
 abbrev pub BeginsNoMarkup : List ℕ → Type 0
 BeginsNoMarkup bytes = All (λ b. b ≢ 60) bytes
 
 -- these texts between the beginning and the end of a page, and none of their bytes begins markup
-abbrev pub IsPage : {A : Type 0} → (source names trace turns report : List ℕ) → Vec ℕ A → Type 0
-IsPage source names trace turns report bytes =
-    (bytes.items ≡ page_text source names trace turns report) × BeginsNoMarkup (page_data source names trace turns report)
+abbrev pub IsPage : {A : Type 0} → (source names : List ℕ) → List RunTexts → Vec ℕ A → Type 0
+IsPage source names rs bytes = (bytes.items ≡ page_text source names rs) × BeginsNoMarkup (page_data source names rs)
 
 -- ---- private contracts alone cite what follows
 
-abbrev pub IsPageData : {A : Type 0} → (source names trace turns report : List ℕ) → Vec ℕ A → Type 0
-IsPageData source names trace turns report bytes = bytes.items ≡ page_data source names trace turns report
+abbrev pub IsPageData : {A : Type 0} → (source names : List ℕ) → List RunTexts → Vec ℕ A → Type 0
+IsPageData source names rs bytes = bytes.items ≡ page_data source names rs

@@ -1,5 +1,5 @@
 //! Lines of JSON: [`json_lines`] has the communications of a run, and [`object_line`] an object with named members. [`page`] is a page
-//! that shows such lines in a browser.
+//! that shows runs in a browser.
 #![tactic(auto)]
 
 mod lines;
@@ -11,4 +11,4 @@ mod values;
 
 pub use lines::json_lines;
 pub use object::{Member, Value, object_line};
-pub use pages::page;
+pub use pages::{RunTexts, page};

@@ -27,6 +27,7 @@ h2 { font-size: .95rem; margin: 8px 0 4px; }
 #ending { display: inline-block; font-weight: bold; }
 #controls { display: flex; align-items: center; gap: 6px; margin: 6px 0; }
 #slider { flex: 1 1 80px; min-width: 60px; height: 28px; accent-color: var(--ready); }
+#answers { max-width: 100%; min-height: 34px; font: inherit; color: var(--ink); background: var(--band); }
 button { font: inherit; min-width: 40px; min-height: 34px; color: var(--ink); background: var(--band); border: 1px solid var(--soft);
   border-radius: 4px; }
 :focus-visible { outline: 3px solid var(--ready); outline-offset: 1px; }
@@ -91,7 +92,7 @@ tr.now td { background: var(--now); }
 </head>
 <body>
 <header>
-<h1>A run, turn by turn</h1><span id="ending"></span>
+<h1>A run, turn by turn</h1><span id="ending"></span> <select id="answers" aria-label="Answer" hidden></select>
 <div id="controls" role="group" aria-label="Turns">
 <button id="first" aria-label="Before the first turn" title="Before the first turn (Home)">|&#9664;</button>
 <button id="back" aria-label="One turn back" title="One turn back (left arrow)">&#9664;</button>

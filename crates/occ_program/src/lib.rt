@@ -5,7 +5,6 @@
 
 mod choosing;
 mod counting;
-mod drawing;
 pub mod exit;
 mod explaining;
 mod exploring;
@@ -20,9 +19,8 @@ mod reading;
 mod recording;
 mod reporting;
 mod seeding;
-mod stepping;
+mod telling;
 mod terminal;
-mod tracing;
 mod troubles;
 mod typing;
 mod watching;

@@ -8,19 +8,16 @@ ghost use Rattle.occ_play_inputs.specs.Failures.{failure_status};
 ghost use Rattle.occ_program.specs.Lines.{run_line};
 
 use crate::choosing::explain_choices;
-use crate::drawing::draw;
 use crate::explaining::explain;
 use crate::exploring::explore_words;
 use crate::keeping::keep_words;
 use crate::live::{run_live_words, runs_live};
 use crate::looking::look_at_words;
-use crate::paging::show;
 use crate::reading::read_inputs;
 use crate::recording::record;
 use crate::seeding::{seed_told, take_seed};
-use crate::stepping::step;
+use crate::telling::tell_files;
 use crate::terminal::{allows_bold, explains};
-use crate::tracing::trace;
 use crate::troubles::explain_failure;
 use crate::typing::leave_typed;
 use crate::watching::play_watching;
@@ -246,16 +243,7 @@ fn leave<F: Folder>(
 {
     record(folder, alloc, words, played)?;
     leave_typed(folder, alloc, words, inputs, played)?;
-    if let Err(fault) = draw(folder, alloc, words, inputs, played)? {
-        return Ok(Err(fault));
-    }
-    if let Err(fault) = trace(folder, alloc, words, inputs, played)? {
-        return Ok(Err(fault));
-    }
-    if let Err(fault) = step(folder, alloc, words, inputs, played)? {
-        return Ok(Err(fault));
-    }
-    show(folder, alloc, words, inputs, played)
+    tell_files(folder, alloc, words, inputs, played)
 }
 
 /// Prints the line of a fault, and more where the words ask for it, and answers the exit status.

@@ -1,9 +1,13 @@
 //! Tells what each process stands at where an answer of a search has not ended.
 ghost use Rattle.std.specs.Prelude.{◌≡◌, ◌<◌, IfOk, IsFalse, IsTrue, ◌⊎◌, ◌≢◌, length};
 ghost use Rattle.occ_term.specs.declared.ending.Ending.TheVariants.{Ended};
+ghost use Rattle.occ_explaining.specs.Studied.{IsStudied};
+ghost use Rattle.occ_program.specs.Coming.{options_in};
 ghost use Rattle.occ_program.specs.Explained.{EndsLike, IsReported, NoneEnds, SomeEnds, TellsAnswers, TellsAt, answer_head, below_ending};
 
 use crate::explaining::{print_text, run_report};
+use crate::program::options_of;
+use occ_explaining::{Studied, study};
 use occ_exploring::Answer;
 use occ_play::{Ending, PlayFault};
 use occ_play_inputs::{Inputs, Words};
@@ -34,9 +38,10 @@ fn answers_told(
 ) -> Result<Vec<u8>, PlayFault>
     ensures { IfOk result (λ text. TellsAnswers words.now inputs.now answers.now text.items) }
 {
+    let studied = study(&options_of(words), alloc, inputs.source.as_slice())?;
     let mut text = Vec::new(alloc);
     for place in 0..answers.len() {
-        let part = told_at(alloc, words, inputs, answers, place)?;
+        let part = told_at(alloc, words, inputs, &studied, answers, place)?;
         text.extend_from_slice(part.as_slice())?;
     }
     Ok(text)
@@ -47,15 +52,17 @@ fn told_at(
     alloc: Global,
     words: &Words<'_>,
     inputs: &Inputs,
+    studied: &Studied,
     answers: &[Answer],
     place: usize,
-) -> Result<Vec<u8>, PlayFault>
-    requires { place < length answers.now }
+) -> Result<Vec<u8>, AllocError>
+    requires studied { IsStudied (options_in words.now) inputs.now.source.items studied.now }
+    requires place { place < length answers.now }
     ensures { IfOk result (λ text. TellsAt words.now inputs.now answers.now place text.items) }
 {
     let answer = &answers[place];
     if is_new(&answers[..place], answer) {
-        reported(alloc, words, inputs, place + 1, answer)
+        reported(alloc, words, inputs, studied, place + 1, answer)
     } else {
         Ok(Vec::new(alloc))
     }
@@ -95,13 +102,15 @@ fn reported(
     alloc: Global,
     words: &Words<'_>,
     inputs: &Inputs,
+    studied: &Studied,
     number: usize,
     answer: &Answer,
-) -> Result<Vec<u8>, PlayFault>
+) -> Result<Vec<u8>, AllocError>
+    requires { IsStudied (options_in words.now) inputs.now.source.items studied.now }
     ensures { IfOk result (λ text. IsReported words.now inputs.now number answer.now text.items) }
 {
     let mut text = answer_head(alloc, number, answer.ending)?;
-    let report = run_report(alloc, words, inputs, answer.choices.as_slice())?;
+    let report = run_report(alloc, words, inputs, studied, answer.choices.as_slice())?;
     text.extend_from_slice(report.as_slice())?;
     Ok(text)
 }
