@@ -5,3 +5,4 @@ pub mod Paths
 pub mod Searches
 pub mod Notices
 pub mod Seeds
+pub mod Numbers

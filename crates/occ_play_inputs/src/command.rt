@@ -181,8 +181,12 @@ fn formed<'a>(arg: Arg<'a>, word: &Word) -> Arg<'a> {
 
 /// The word with its value.
 fn valued<'a>(arg: Arg<'a>, word: &Word) -> Arg<'a> {
-    let named = arg.long(word.name).value_name(word.value);
-    named.value_parser(word.takes)
+    taking(arg.long(word.name).value_name(word.value), word.takes)
+}
+
+/// The word whose value has to be this.
+fn taking<'a>(arg: Arg<'a>, takes: ValueParser<'a>) -> Arg<'a> {
+    arg.value_parser(takes)
 }
 
 /// The word with its value behind `=`, or none.

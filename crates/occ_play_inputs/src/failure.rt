@@ -3,7 +3,7 @@ ghost use Rattle.std.specs.Prelude.{◌≡◌, ◌≢◌};
 ghost use Rattle.std.specs.IoError.{error_kind};
 ghost use Rattle.clap.specs.Values.{kind_of};
 ghost use Rattle.occ_files.specs.Reasons.{reason_of};
-ghost use Rattle.occ_play_inputs.specs.Failures.{TellsWrongWords, failure_status, read_failure, trouble};
+ghost use Rattle.occ_play_inputs.specs.Failures.{FailsToRead, FailsToWrite, TellsWrongWords, failure_status, read_failure, trouble};
 
 use clap::error::ErrorKind as WordsErrorKind;
 use occ_choices::ChoiceFault;
@@ -149,6 +149,7 @@ pub fn of_read(stream: Stream, error: io::Error) -> Failure
     ensures memory { error_kind error ≡ ErrorKind.OutOfMemory → result ≡ Failure.Memory }
     ensures other { error_kind error ≢ ErrorKind.OutOfMemory
         → result ≡ Failure.Read (trouble stream (reason_of error)) }
+    ensures failed { FailsToRead stream result }
 {
     match error.kind() {
         ErrorKind::OutOfMemory => Failure::Memory,
@@ -164,6 +165,7 @@ pub fn of_write(stream: Stream, error: io::Error) -> Failure
     ensures memory { error_kind error ≡ ErrorKind.OutOfMemory → result ≡ Failure.Memory }
     ensures other { error_kind error ≢ ErrorKind.OutOfMemory
         → result ≡ Failure.Write (trouble stream (reason_of error)) }
+    ensures failed { FailsToWrite stream result }
 {
     match error.kind() {
         ErrorKind::OutOfMemory => Failure::Memory,

@@ -7,6 +7,8 @@ mod apart;
 mod command;
 pub mod failure;
 pub mod inputs;
+mod numbers;
+mod paths;
 mod seeds;
 pub mod words;
 

@@ -1,7 +1,7 @@
 use Rattle.std.proofs.Common.{◌∙◌, ◌∷◌, [], List, ap, ℕ}
 use Rattle.occ_play_inputs.proofs.Joining.{one_text}
 use Rattle.occ_sources.specs.Sources.{joined}
-use Rattle.occ_play_inputs.proofs.inputs.read_specification.Goals as goal
+use Rattle.occ_play_inputs.proofs.inputs.read_first.Goals as goal
 
 pub returns-clause-joined : goal.returns-clause-joined
 returns-clause-joined g c =
