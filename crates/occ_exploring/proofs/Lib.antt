@@ -5,4 +5,5 @@ mod OfStepRuns
 mod AnyQuantum
 mod Among
 mod KeptRuns
-pub mod Refusing
+mod Refusing
+mod Using

@@ -18,7 +18,6 @@ use std::alloc::{AllocError, Global};
 /// # Errors
 ///
 /// As of `explore_in`.
-#[tactic(auto, using(crate::proofs::Refusing::refuses_text))]
 pub fn only_answer_in(
     options: &Options,
     alloc: Global,
