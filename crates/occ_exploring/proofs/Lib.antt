@@ -5,5 +5,4 @@ mod OfStepRuns
 mod AnyQuantum
 mod Among
 mod KeptRuns
-mod Refusing
-mod Using
+mod OfUses
