@@ -267,10 +267,10 @@ pub(crate) fn made_of(part: &str, class: Class) -> Option<&'static str> {
 }
 
 /// What is said of a part; nothing of one that is never told.
-pub(crate) fn said_of(part: &str) -> &'static str {
+pub(crate) fn said_of(part: &[u8]) -> &'static str {
     for row in PARTS.lines() {
         let (first, says) = cut(row);
-        if first == part {
+        if first.as_bytes() == part {
             return says;
         }
     }

@@ -161,7 +161,7 @@ impl Met<'_> {
         let met = class_at(words, at);
         at > 2
             && !over.is_empty()
-            && !(over == "whole" && matches!(met, Class::And | Class::Or))
+            && !(over == b"whole".as_slice() && matches!(met, Class::And | Class::Or))
             && is_operator(met)
             && is_single(class_at(words, at - 3))
             && is_operator(class_at(words, at - 2))
@@ -190,7 +190,7 @@ impl Met<'_> {
     fn wrong(&self) -> (&'static str, &'static str) {
         let leaving = self.leaving;
         let is_over = leaving.wanted.is_empty();
-        let said = said_of(leaving.wanted);
+        let said = said_of(leaving.wanted.as_bytes());
         let wanted = if is_over {
             "more"
         } else if said.is_empty() {

@@ -11,7 +11,7 @@ use std::alloc::{AllocError, Global};
 pub(crate) struct Leaving {
     pub(crate) at: usize,
     pub(crate) wanted: &'static str,
-    pub(crate) over: &'static str,
+    pub(crate) over: &'static [u8],
 }
 
 /// The class of a word; behind the last one the end's.
@@ -48,7 +48,7 @@ pub(crate) fn first_leaving(
 ) -> Result<Option<Leaving>, AllocError> {
     let mut rows = Vec::new(alloc);
     rows.push(start)?;
-    let (mut at, mut over) = (0, "");
+    let (mut at, mut over) = (0, b"".as_slice());
     for _ in 0..words.len().saturating_mul(32).saturating_add(128) {
         let class = class_at(words, at);
         let (wanted, behind) = cut(rows.pop().unwrap_or(""));
@@ -64,12 +64,12 @@ pub(crate) fn first_leaving(
         {
             if !then.is_empty() {
                 rows.push(then)?;
-            } else if over.is_empty() && !said_of(wanted).is_empty() {
-                over = wanted;
+            } else if over.is_empty() && !said_of(wanted.as_bytes()).is_empty() {
+                over = wanted.as_bytes();
             }
         } else if word == Some(class) {
             at = at.saturating_add(1);
-            over = "";
+            over = b"";
         } else {
             return Ok(Some(Leaving { at, wanted, over }));
         }
