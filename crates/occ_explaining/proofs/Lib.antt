@@ -1,4 +1,4 @@
-mod Charted
+mod ChartsOfRuns
 mod Members
 mod Named
 mod NotedInputs

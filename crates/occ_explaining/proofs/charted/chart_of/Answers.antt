@@ -6,7 +6,7 @@ use Rattle.occ_net_replay.specs.declared.choice.Choice.{Choice}
 use Rattle.occ_report.specs.Reports.{IsCircleOf}
 use Rattle.occ_term.specs.UnfoldedProgram.{meaning}
 use Rattle.occ_explaining.specs.Explaining.{IsNamedChart, first_names}
-use Rattle.occ_explaining.proofs.Charted.{are_bytes, run_chart}
+use Rattle.occ_explaining.proofs.ChartsOfRuns.{are_bytes, run_chart}
 use Rattle.occ_explaining.proofs.charted.chart_of.Goals as goal
 
 pub returns : goal.returns

@@ -1,6 +1,6 @@
 use Rattle.std.proofs.Common.{◌∙◌, ◌<◌, ◌^◌, length, map, rules}
 use Rattle.occ_choices.specs.Plans.{choices_of}
-use Rattle.occ_explaining.proofs.Charted.{replay_chart}
+use Rattle.occ_explaining.proofs.ChartsOfRuns.{replay_chart}
 use Rattle.occ_explaining.proofs.charted.drawn.Goals as goal
 
 pub returns : goal.returns

@@ -1,5 +1,5 @@
 use Rattle.occ_shown.specs.Answers.{names_of}
-use Rattle.occ_explaining.proofs.Charted.{feet_step}
+use Rattle.occ_explaining.proofs.ChartsOfRuns.{feet_step}
 use Rattle.occ_explaining.proofs.feet.feet.Goals as goal
 
 pub loop-number-preserved : goal.loop-number-preserved
