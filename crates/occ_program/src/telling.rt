@@ -99,6 +99,7 @@ fn stream_of(told: Told) -> Stream
 }
 
 /// What is to be written, and where.
+#[tactic(auto, using(crate::proofs::Paths::at_path, crate::proofs::Paths::no_path))]
 fn told_page<'a>(
     alloc: Global,
     words: &Words<'a>,
@@ -121,7 +122,7 @@ fn told_page<'a>(
 
 /// The path of the file.
 fn path_of<'a>(words: &Words<'a>, told: Told) -> Option<&'a str>
-    ensures { option_copied result.entry ≡ option_copied (path_told told words.now) }
+    ensures { option_copied result ≡ option_copied (path_told told words.now) }
 {
     match told {
         Told::Chart => words.chart,
