@@ -1,7 +1,7 @@
 #!/usr/bin/env python3
 """Keeps files equal to what they are made from: the names and the causes of refusals, which docs/language.md has; the words of the
-command line, in crates/occ_play_inputs/src/command.rt, from which the manual page and the shells' completions are made; and the index of
-rules, docs/rules.md, from docs/rules.txt (tools/rules.py).
+command line, in crates/occ_play_inputs/src/command.rt, from which the manual page and the shells' completions are made; the page that
+shows a run, in tools/page; and the index of rules, docs/rules.md, from docs/rules.txt (tools/rules.py).
 
     python3 tools/tables.py           says which file differs; the status is 1 where one does
     python3 tools/tables.py --write   writes the files
@@ -154,8 +154,23 @@ def in_fish():
     return "\n".join(lines) + "\n"
 
 
+def shown_page():
+    """The beginning and the end of the page that shows a run, from tools/page."""
+    page, script = ((TOP / "tools/page" / name).read_text() for name in ("page.html", "page.js"))
+    if "</script" in script or "<!--" in script or script.count("\n") > 500:
+        raise ValueError("tools/page/page.js: at most 500 lines, without `</script` and `<!--`")
+    return page.replace("@script@", script).split("@data@")
+
+
+def page_part(name, said, place):
+    """What makes the file of a constant with a part of that page."""
+    return lambda: f'//! {said}. `tools/tables.py` writes this file.\n\npub const {name}: &str = r##"{shown_page()[place]}"##;\n'
+
+
 differ = False
 TABLES = {
+    "crates/occ_json/src/page_foot.rt": page_part("FOOT", "The end of the page that shows a run, with its script", 1),
+    "crates/occ_json/src/page_head.rt": page_part("HEAD", "The beginning of the page that shows a run", 0),
     "crates/occ_explain/src/cause_table.rt": causes,
     "crates/occ_explaining/src/refusal_names.rt": names,
     "docs/occam.1": manual,

@@ -15,6 +15,7 @@ complete -c occam -l trace -d 'Prints each communication below what the screen g
 complete -c occam -l trace-to -r -d 'Writes the trace into FILE: each communication, and how the run ended'
 complete -c occam -l json -d 'Writes each of them, or what --check finds, as a line of JSON'
 complete -c occam -l steps -r -d 'Writes a line for each turn into FILE: who was ready, who took the turn, and where it stopped'
+complete -c occam -l page -r -d 'Writes a page for a browser into FILE, which goes turn by turn through the run, or through that of each answer of a search'
 complete -c occam -l watch -d 'Prints each communication to standard error, as a second thread saw it'
 complete -c occam -l live -d 'Reads the keyboard and writes the screen while the run goes on; on a terminal it does so unasked'
 complete -c occam -l explain -d 'Explains a refusal, a run that did not end, or a file that failed; on a terminal it is explained unasked'

@@ -2,7 +2,7 @@
 import re
 
 ENDING = r"ended|limit|stopped(?: [A-Z]+ line \d+)?|fault [A-Z]+ line \d+"
-ANSWER = re.compile(rf'(?P<ending>{ENDING})(?: "(?P<screen>(?:[^"*]|\*.)*)")?(?: after (?P<turns>\d+) turns?)?')
+ANSWER = re.compile(rf'(?P<ending>{ENDING})(?:, (?P<kind>circle|halted|unfinished|idle))?(?: "(?P<screen>(?:[^"*]|\*.)*)")?(?: after (?P<turns>\d+) turns?)?')
 # what stands for a byte behind `*` in a string of occam
 ESCAPES = {"n": b"\n", "c": b"\r", "t": b"\t", "s": b" ", "'": b"'", '"': b'"', "*": b"*"}
 STATUSES = {"ended": 0, "stopped": 2, "fault": 3, "limit": 4}
@@ -30,6 +30,7 @@ class Wanted:
         self.status_alone = re.fullmatch(r"status (\d)", line)
         if not (self.match or self.is_refused or self.status_alone or line == "accepted"):
             raise ValueError(f"no answer: {line}")
+        self.kind = self.match["kind"] if self.match else None
         self.turns = int(self.match["turns"]) if self.match and self.match["turns"] else None
 
     def text(self):
@@ -38,7 +39,7 @@ class Wanted:
 
     def words(self):
         """Words that the run needs for this answer."""
-        return ["--check"] if self.line == "accepted" else []
+        return ["--check"] if self.line == "accepted" else ["--explain"] if self.kind else []
 
     def streams(self, words):
         """The status, standard output, standard error, and what the file that the words name has, if they name one."""

@@ -52,7 +52,11 @@ class Case:
     def differences(self, folder, came, wanted, words):
         """What is wrong with what came of a run, where this has to come of it."""
         status, out, err, file = wanted.streams(words)
-        found = [("status", came[0], status), ("standard output", came[1], out), ("standard error", came[2], err)]
+        if wanted.kind:
+            said, err = ("kind of stop", came[2].partition(b":")[0]), wanted.kind.encode()
+        else:
+            said = ("standard error", came[2])
+        found = [("status", came[0], status), ("standard output", came[1], out), (*said, err)]
         if file:
             path = folder / file[0]
             found.append((file[0], path.read_bytes() if path.exists() else b"", file[1]))

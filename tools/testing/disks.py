@@ -9,16 +9,16 @@ import tempfile
 
 from .running import SECONDS, Job, put, room
 
-# its record, its picture, its trace, its turns and what is typed are all longer than FULL
+# its record, its picture, its trace, its turns, its page and what is typed are all longer than FULL
 LONG = "PROC main (CHAN OF BYTE keyboard, screen)\n  SEQ i = 0 FOR 1000\n    screen ! 'A'\n:\n"
 SCREEN = b"A" * 1000
 TYPED = b"t" * 5000
 OLD = "what stood here before\n"
 # how many bytes a file may have where the disk is full
 FULL = 4096
-WRITTEN = ["--record", "--typed", "--chart", "--trace-to", "--steps"]
+WRITTEN = ["--record", "--typed", "--chart", "--trace-to", "--steps", "--page"]
 FAILED = b"write failed\n"
-OWN_FILE = b"--record, --typed, --chart, --trace-to and --steps each write into a file of their own\n"
+OWN_FILE = b"--record, --typed, --chart, --trace-to, --steps and --page each write into a file of their own\n"
 NOBODY = 65534
 
 

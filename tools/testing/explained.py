@@ -17,10 +17,14 @@ from .running import TOP, Job, room, run
 TURNS = [1, 2, 3, 5, 8, 13, 21, 34, 55, 89, 144, 10000]
 FEW_TURNS = [2, 5, 13, 10000]
 STANDS = re.compile(r"  p\d+ (?P<name>[\w.]+)(?:, line (?P<line>\d+))?: (?P<text>.*)")
-# whom it waits for
-WAITS = re.compile(r"  (?P<one>p\d+) [^:]*: (?:offers|awaits) .*, which (?P<other>p\d+) (?:reads|writes)")
+# which process stands there, and whether it chooses
+WHO = re.compile(r"  (?P<one>p\d+) [^:]*: (?P<chooses>chooses)?")
 LIMIT = "  the limit is reached: --limit N allows more turns, --quantum N makes each longer"
-CIRCLE = "  in a circle, each waits for the next: "
+# each of whom a process waits for, and the line that tells of a circle
+OTHER = re.compile(r"(?:offers|awaits) [^;]*, which (p\d+) (?:reads|writes)")
+CIRCLE = re.compile(r"  in a circle, each waits for the next(?:, (?P<arms>(?:p\d+ )+)by one of (?:its|their) arms)?: (?P<numbers>.*)")
+# how the report of a stop begins
+KIND = re.compile(r"(?:circle|halted|unfinished|idle): .*")
 # how what a process stands at begins, or ends, and what the line then has
 HAS = {
     "offers ": "!",
@@ -67,22 +71,31 @@ def mistaken(program, source, line, column, wrong, hint):
 def misplaced(program, folder, source, turns):
     """The lines of the report of a run of so many turns that tell no place, or another one."""
     status, _, err = run(program, folder, ["x.occ", "--explain", "--limit", str(turns)])
-    told = err.decode("utf-8").split("\n")[1:-1] if status in (2, 3, 4) else []
+    told = err.decode("utf-8").split("\n")[:-1] if status in (2, 3, 4) else []
+    if status == 2:
+        if not KIND.fullmatch(told[0]):
+            yield f"no kind: {told[0]}"
+        told = told[1:]
+    told = told[1:]
     if status == 4:
         if told[-1:] != [LIMIT]:
             yield f"another last line: {told[-1:]}"
         told = told[:-1]
-    others = {}
+    others, choosing = {}, set()
     for line in told:
-        if line.startswith(CIRCLE):
-            numbers = line.removeprefix(CIRCLE).split()
-            if any(others.get(one) != other for one, other in zip(numbers, numbers[1:] + numbers[:1])):
+        circle = CIRCLE.fullmatch(line)
+        if circle:
+            numbers = circle["numbers"].split()
+            if any(other not in others.get(one, ()) for one, other in zip(numbers, numbers[1:] + numbers[:1])):
                 yield f"no circle: {line}"
+            if sorted((circle["arms"] or "").split()) != sorted(choosing & {*numbers}):
+                yield f"other arms: {line}"
             continue
         stands = STANDS.fullmatch(line)
-        waits = WAITS.fullmatch(line)
-        if waits:
-            others[waits["one"]] = waits["other"]
+        who = WHO.match(line)
+        if who:
+            others[who["one"]] = OTHER.findall(line)
+            choosing |= {who["one"]} if who["chooses"] else set()
         if not stands or f"PROC {stands['name']} (" not in source:
             yield f"no PROC: {line}"
         elif stands["line"]:

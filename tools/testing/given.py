@@ -37,10 +37,10 @@ WRONG = [
     "--limit=1 --limit=1", "--trace --trace",
     # words of one run beside a search, or beside a check
     "--explore --limit=1", "--workers=2 --explore", "--explore --choices=c", "--explore --trace", "--explore --watch",
-    "--explore --chart=s", "--explore --arrows=5", "--explore --steps=u", "--explore --seed=1", "--explore --seed=1 --tries=2",
+    "--explore --chart=s", "--explore --arrows=5", "--explore --steps=u", "--within=b.occ --page=p", "--explore --seed=1", "--explore --seed=1 --tries=2",
     "--explore --trace-to=t", "--explore --json", "--explore --last=1", "--explore --live", "--explore --typed=t", "--check --explore", "--check --states=5", "--check --record=r",
     "--check --trace", "--check --trace-to=t", "--check --trace-to=t --json", "--check --chart=s", "--check --arrows=5", "--check --last=5",
-    "--check --steps=u", "--check --seed=1", "--check --tries=2", "--check --choices=c", "--check --workers=2", "--check --watch",
+    "--check --steps=u", "--check --page=p", "--check --seed=1", "--check --tries=2", "--check --choices=c", "--check --workers=2", "--check --watch",
     "--check --limit=1", "--check --live", "--check --typed=t",
     # words that exclude one another, and words that need another one
     "--chart=s --last=5 --arrows=5", "--seed=1 --workers=2", "--states=5", "--arrows=5", "--last=5", "--tries=2", "--json",
@@ -49,14 +49,15 @@ WRONG = [
     "--record=x.occ", "--chart=x.occ", "--record=f --choices=f", "--chart=f --choices=f", "--record=f --chart=f", "--trace-to=x.occ",
     "--chart=f --trace-to=f", "--steps=x.occ", "--steps=f --trace-to=f", "--trace-to=c --choices=c", "--steps=c --choices=c",
     "--record=f --trace-to=f", "--record=f --steps=f", "--chart=f --steps=f", "--typed=x.occ", "--typed=c --choices=c",
-    "--typed=f --record=f", "--typed=f --chart=f", "--typed=f --trace-to=f", "--typed=f --steps=f",
+    "--typed=f --record=f", "--typed=f --chart=f", "--typed=f --trace-to=f", "--typed=f --steps=f", "--page=x.occ", "--page=c --choices=c",
+    "--page=f --record=f", "--page=f --chart=f", "--page=f --trace-to=f", "--page=f --steps=f", "--page=f --typed=f",
 ]
 # words that are allowed
 ALLOWED = [
     "--limit 10000000 --trace", "--trace --limit=2", "--errors halt", "--quantum=65536 --errors=stop --workers=64 --watch --explain",
-    "--chart=s.svg --arrows=0", "--explore", "--explore=full", "--explore=endings --states=10000000 --quantum=7 --errors=stop --record=r",
-    "--check", "--check --json", "--seed=1000000000 --tries=2 --trace-to=t --json --steps=u --chart=s --last=3", "--record=g --chart=h --steps=s",
-    "--live", "--live --seed=3 --errors=stop --trace --explain --record=r --typed=k --trace-to=t --json --steps=u --chart=s",
+    "--chart=s.svg --arrows=0", "--explore", "--explore --page=p", "--explore=full", "--explore=endings --states=10000000 --quantum=7 --errors=stop --record=r",
+    "--check", "--check --json", "--seed=1000000000 --tries=2 --trace-to=t --json --steps=u --chart=s --last=3", "--record=g --chart=h --steps=s --page=p",
+    "--live", "--live --seed=3 --errors=stop --trace --explain --record=r --typed=k --trace-to=t --json --steps=u --chart=s --page=p",
     "--typed=k --workers=2",
 ]
 

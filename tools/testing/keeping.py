@@ -69,7 +69,7 @@ RUNS = [
     # what differs stands behind what is printed
     ("--within longer.occ long.occ", "", (2, f'1 ended "{"a" * 60}" and 2 more by 63 choices\nnot one of the specification\'s: 1 answer\n', "")),
     ("--within stop.occ a.occ", "", (2, '1 ended "a" by 2 choices\nnot one of the specification\'s: 1 answer\n', "")),
-    ("--within a.occ stop.occ --explain", "", (2, '1 stopped "" by 1 choice\nnot one of the specification\'s: 1 answer\n', "1 stopped:\nafter 0 communications no process can go on:\n  p0 main, line 2: halted by STOP\n")),
+    ("--within a.occ stop.occ --explain", "", (2, '1 stopped "" by 1 choice\nnot one of the specification\'s: 1 answer\n', "1 stopped, halted: p0 was halted\nafter 0 communications no process can go on:\n  p0 main, line 2: halted by STOP\n")),
     ("--within fault.occ fault.occ", "", (0, SAME.format("1 answer") + "each run ends within 1 turn\n", "")),
     ("--within stop.occ fault.occ --errors stop", "", (2, '1 stopped ARITH line 3 "" by 1 choice\nnot one of the specification\'s: 1 answer\n', "")),
     ("--within a.occ round.occ", "", (0, "each answer is one of the specification's: 0 of 1 answer\nsome run goes on for ever\n", "")),
@@ -131,7 +131,7 @@ def recorded(program):
 def answers_of(program, folder, name):
     """What a search finds, without the numbers of choices."""
     out = run_text(program, folder, ["--explore", name])[1]
-    return {ending + shown for ending, shown in ANSWER.findall(out)}
+    return {ending + shown for ending, shown, _ in ANSWER.findall(out)}
 
 
 def compared(program, first, second):

@@ -348,12 +348,12 @@ def on_terminals(program):
 
 def files_left(program):
     """What is wrong with the files that a live run leaves: they are those of the run that reads first, and no file is half written."""
-    words = ["--record", "used", "--chart", "chart.svg", "--trace-to", "trace", "--json", "--steps", "steps"]
+    words = ["--record", "used", "--chart", "chart.svg", "--trace-to", "trace", "--json", "--steps", "steps", "--page", "page"]
     with room({"x.occ": ASKS, "f.occ": FAULTS}) as folder:
         left = []
         for more in ([], ["--live"]):
             run(program, folder, [*more, *words, "x.occ"], b"ab.cd")
-            left.append({name: (folder / name).read_bytes() for name in ("used", "chart.svg", "trace", "steps")})
+            left.append({name: (folder / name).read_bytes() for name in ("used", "chart.svg", "trace", "steps", "page")})
         if left[0] != left[1]:
             yield "the files of a live run are others"
         run(program, folder, ["--workers=2", "--typed=typed", "x.occ"], b"ab.cd")

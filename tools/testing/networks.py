@@ -12,7 +12,7 @@ from .running import Job, room, run
 # how many networks tools/test tries, and how many states it gives to a search of all of them
 TRIED = 50
 STATES = 20_000
-ANSWER = re.compile(r'(?m)^(\d+) ((?:ended|stopped|fault)[^"\n]*?)(?: "(.*)")? by (\d+) choices?$')
+ANSWER = re.compile(r'(?m)^(\d+) ((?:ended|stopped|fault)[^"\n]*?)(?: "(.*)")? by (\d+) choices?(?:: (\w+))?$')
 LASTS = re.compile(r"(?m)^(each run ends (?:within|after) \d+|some run goes on for ever)")
 ENDS = {"ended": 0, "stopped": 2, "fault": 3}
 
@@ -104,7 +104,7 @@ def searched(program, folder, keyboard, words):
     status, out, err = run(program, folder, [*words, "--states", str(STATES), "x.occ"], keyboard)
     text = out.decode()
     lasts = LASTS.search(text)
-    return status, {number: (ending, shown or "") for number, ending, shown, _many in ANSWER.findall(text)}, lasts and lasts[1], text + err.decode()
+    return status, {number: (ending, shown or "", kind) for number, ending, shown, _many, kind in ANSWER.findall(text)}, lasts and lasts[1], text + err.decode()
 
 
 def played(program, folder, keyboard, words, number, ending, shown):
@@ -131,9 +131,9 @@ def faults_of(program, seed, known=None):
         if sorted(few[1].values()) != sorted(full[1].values()) or few[0] != full[0] or few[2] != full[2]:
             yield f"seed {seed}: {few[3]} and of all states {full[3]}"
         ends = searched(program, folder, keyboard, ["--explore=endings", *words])
-        if sorted({ending for ending, _ in full[1].values()}) != sorted(ending for ending, _ in ends[1].values()) or ends[2] != full[2]:
+        if sorted({(ending, kind) for ending, _, kind in full[1].values()}) != sorted((ending, kind) for ending, _, kind in ends[1].values()) or ends[2] != full[2]:
             yield f"seed {seed}: endings {ends[3]} and of all states {full[3]}"
-        for number, (ending, shown) in few[1].items():
+        for number, (ending, shown, _kind) in few[1].items():
             for fault in played(program, folder, keyboard, words, number, ending, shown):
                 yield f"seed {seed}: {fault}"
 

@@ -111,6 +111,7 @@ def table():
         yield name, source, "", ["--watch"]
         yield name, source, "", ["--watch", "--workers", "2"]
         yield name, source, "", ["--steps", "kept.steps"]
+        yield name, source, "", ["--page", "kept.html"]
         for words in [["--explore"], ["--explore=full"], ["--explore=endings", "--states", "3"]]:
             yield name, source, "", words
     for name, source in REFUSED:

@@ -8,7 +8,7 @@ from .running import TOP, Job, put, room, run
 
 # programs whose searches are compared with searches of all states
 SEARCHED = ["faults/waiter", "selection/merge", "sharing/pool", "faults/livelock"]
-ANSWER = re.compile(r'(?m)^\d+ ((?:ended|stopped|fault)[^"\n]*?)((?: ".*)?) by \d+ choices?$')
+ANSWER = re.compile(r'(?m)^\d+ ((?:ended|stopped|fault)[^"\n]*?)((?: ".*)?) by \d+ choices?(: [a-z]+)?$')
 LASTS = re.compile(r"(?m)^(each run ends (?:within|after) \d+|some run goes on for ever)")
 STATES = re.compile(r"(?m)^all, (\d+) states?$")
 CREWS = [["--quantum", "1"], ["--quantum", "3"], ["--errors", "stop"]]
@@ -35,10 +35,10 @@ def replayed(program, source, keyboard):
 
 
 def found(program, folder, path, keyboard, words):
-    """What a search finds: its answers in order of their texts, how long runs go on, and how many states it visited, if it counts them."""
+    """What a search finds: its answers, with the kinds of stops, in order of their texts, how long runs go on, and how many states it visited, if it counts them."""
     out = run(program, folder, [*words, "--states", "100000", path], keyboard)[1].decode()
     lasts, states = LASTS.search(out), STATES.search(out)
-    answers = sorted(ending.strip() + shown for ending, shown in ANSWER.findall(out))
+    answers = sorted(ending.strip() + kind + shown for ending, shown, kind in ANSWER.findall(out))
     return answers, lasts and lasts[1], int(states[1]) if states else None
 
 

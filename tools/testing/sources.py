@@ -8,7 +8,7 @@ MAIN = "PROC main (CHAN OF BYTE keyboard, screen)\n  a (screen)\n:\n"
 ECHO = "PROC main (CHAN OF BYTE keyboard, screen)\n  BYTE b:\n  SEQ\n    keyboard ? b\n    screen ! b\n    a (screen)\n:\n"
 WRONG = "PROC main (CHAN OF BYTE keyboard, screen)\n  x := 1\n:\n"
 FAULTS = "PROC main (CHAN OF BYTE keyboard, screen)\n  INT x:\n  SEQ\n    a (screen)\n    x := 1 / 0\n:\n"
-OWN = "--record, --typed, --chart, --trace-to and --steps each write into a file of their own\n"
+OWN = "--record, --typed, --chart, --trace-to, --steps and --page each write into a file of their own\n"
 MISSING = "no such file or folder\n"
 ADVICE = "  `occam FILE` runs the program in FILE, `occam --help` lists the options\n"
 UNKNOWN = "`x` is not declared here\n2 |   x := 1\n  |   ^\n"
@@ -37,6 +37,7 @@ RUNS = [
     (["--explain", "none.occ", "m.occ"], "", (6, "", f"read failed\nnone.occ: {MISSING}{ADVICE}")),
     (["--record", "m.occ", "a.occ", "m.occ"], "", (7, "", None)),
     (["--steps", "z.occ", "a.occ", "m.occ", "z.occ"], "", (7, "", None)),
+    (["--page", "z.occ", "a.occ", "m.occ", "z.occ"], "", (7, "", None)),
     (["--chart", "./m.occ", "a.occ", "m.occ"], "", (7, "", OWN)),
     (["--explore", "--record", "r", "a.occ", "r.7.choices"], "", (7, "", OWN)),
     (["-", "m.occ"], "", (7, "", None)),

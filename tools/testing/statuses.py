@@ -64,8 +64,9 @@ RACE = HEAD + """  [3]CHAN OF BYTE c:
 DEFAULTS = {"--limit": "1000000", "--quantum": "1", "--errors": "halt", "--tries": "1", "--arrows": "200", "--explore": "answers", "--states": "1000000"}
 MOST = "a picture has 990 arrows at most"
 SVG = "{http://www.w3.org/2000/svg}"
-STUCK = "after 2 communications no process can go on:\n"
-STUCK_TOO = "after 1 communication no process can go on:\n"
+STUCK = "unfinished: p0 was not at its end\nafter 2 communications no process can go on:\n"
+STUCK_TOO = "circle: p1 p2 wait for one another\nafter 1 communication no process can go on:\n"
+HALTED = "halted: p0 was halted\nafter 0 communications no process can go on:\n  p0 main, line 2: halted by STOP\n"
 WAITING = """  p0 main, line 3: waits for p1 p2
   p1 main, line 6: offers 2 on c, which p2 reads
   p2 main, line 11: awaits d, which p1 writes
@@ -75,7 +76,7 @@ NOTICE = "the program reads the keyboard: type its input, then Ctrl-D on a line 
 USAGE = "Compiles and runs an occam 2 program.\n\nUsage: occam [FILE] [OPTIONS]\n\n`occam FILE` runs the program in FILE, `occam --help` lists the options\n"
 MISSING = "no such file or folder\n"
 NO_SOURCE = MISSING + "  `occam FILE` runs the program in FILE, `occam --help` lists the options\n"
-STOPPED = '1 stopped "" by 1 choice\neach run ends after 1 turn\none answer: the program has no ALT\n'
+STOPPED = '1 stopped "" by 1 choice: halted\neach run ends after 1 turn\none answer: the program has no ALT\n'
 SHARED_TOLD = """refused 50 SharedVariable line 5 x
 x.occ:5:5: `x` is written in one branch of a PAR and used in another
 5 |     x := 2
@@ -122,7 +123,7 @@ CASES = [
     of(FAULTS, ["--errors", "stop"], 2, "stopped ARITH line 3\n"),
     of(ENDLESS, ["--limit", "10"], 4, "limit\n"),
     of(LETTER, ["--explain"], 0, "A"),
-    of(STOPS, ["--explain"], 2, "stopped\n", "after 0 communications no process can go on:\n  p0 main, line 2: halted by STOP\n"),
+    of(STOPS, ["--explain"], 2, "stopped\n", HALTED),
     of(FAULTS, ["--explain"], 3, "fault ARITH line 3\n", "after 0 communications:\n  p0 main: fault ARITH line 3\n"),
     of(ENDLESS, ["--explain", "--limit", "10"], 4, "limit\n", "after 0 communications:\n  p0 main: can go on\n  the limit is reached: --limit N allows more turns, --quantum N makes each longer\n"),
     of(ECHO, ["--explain"], 2, "a\nstopped\n", f"{STUCK}  p0 main, line 5: awaits keyboard, whose bytes are used up\n", given="a"),
@@ -158,7 +159,7 @@ CASES = [
     of(LETTER, ["--record", "x.occ"], 7, "", None),
     of(LETTER, ["--record", "a", "--chart", "a"], 7, "", None),
     of(LETTER, ["--choices", "a", "--chart", "a"], 7, "", None, files={"a": "0 0\n"}),
-    of(LETTER, ["--record", "./x.occ"], 7, "", "--record, --typed, --chart, --trace-to and --steps each write into a file of their own\n"),
+    of(LETTER, ["--record", "./x.occ"], 7, "", "--record, --typed, --chart, --trace-to, --steps and --page each write into a file of their own\n"),
     of(LETTER, ["--choices", "a"], 7, "", "refused 90 BadChoice line 2\n", files={"a": "0 0\n0\n"}),
     Case([b"\xff.occ"], 7, "", "an argument is no UTF-8\n"),
     of(LETTER, ["--trace"], 0, "A\n1 c1 screen p0>screen 65\nended\n"),
@@ -174,7 +175,7 @@ CASES = [
     of(STOPS, ["--explore"], 2, STOPPED),
     of(FAULTS, ["--explore"], 3, '1 fault ARITH line 3 "" by 1 choice\neach run ends within 1 turn\nall, 2 states\n'),
     of(FAULTS, ["--explore=full"], 3, '1 fault ARITH line 3 "" by 1 choice\neach run ends within 1 turn\nall, 2 states\n'),
-    of(FAULTS, ["--explore", "--errors", "stop"], 2, '1 stopped ARITH line 3 "" by 1 choice\neach run ends within 1 turn\nall, 2 states\n'),
+    of(FAULTS, ["--explore", "--errors", "stop"], 2, '1 stopped ARITH line 3 "" by 1 choice: halted\neach run ends within 1 turn\nall, 2 states\n'),
     of(ENDLESS, ["--explore"], 0, "some run goes on for ever\nall, 1 state\n"),
     of(EITHER, ["--explore"], 0, '1 ended "a" by 10 choices\n2 ended "b" by 10 choices\neach run ends within 10 turns\nall, 4 states\n'),
     of(EITHER, ["--explore=endings"], 0, "1 ended by 10 choices\neach run ends within 10 turns\nall, 4 states\n"),
@@ -185,7 +186,7 @@ CASES = [
     of(STOPS, ["--explore", "--explain", "--record", "none/x"], 6, STOPPED, f"write failed\nnone/x.1.choices: {MISSING}"),
     of(SHARED, ["--explore", "--explain"], 1, "", SHARED_TOLD),
     of(LETTER, ["--explore", "--explain"], 0, '1 ended "A" by 2 choices\neach run ends after 2 turns\none answer: the program has no ALT\n'),
-    of(STOPS, ["--explore", "--explain"], 2, STOPPED, "1 stopped:\nafter 0 communications no process can go on:\n  p0 main, line 2: halted by STOP\n"),
+    of(STOPS, ["--explore", "--explain"], 2, STOPPED, f"1 stopped, {HALTED}"),
     of(LETTER, ["--explore", "--limit", "1"], 7, "", None),
     of(LETTER, ["--states", "1"], 7, "", None),
     of(LETTER, ["--check"], 0),
@@ -208,10 +209,14 @@ CASES = [
     of(LETTER, ["--steps", "a", "--chart", "a"], 7, "", None),
     of(LETTER, ["--steps", "a", "--explore"], 7, "", None),
     of(LETTER, ["--steps", "a", "--check"], 7, "", None),
+    of(LETTER, ["--page", "/dev/null"], 0, "A"),
+    of(LETTER, ["--page", "none/x"], 6, "A", "write failed\n"),
+    of(LETTER, ["--explain", "--steps", "none/u", "--page", "none/z"], 6, "A", f"write failed\nnone/u: {MISSING}"),
+    of(LETTER, ["--explain", "--page", "none/u"], 6, "A", f"write failed\nnone/u: {MISSING}"),
     of(LETTER, ["--seed", "1"], 0, "A"),
     of(LETTER, ["--seed", "1", "--tries", "3"], 0, "A"),
     of(STOPS, ["--seed", "7", "--tries", "3"], 2, "stopped\n", "seed 7: the first one by which the run does not end\n"),
-    of(STOPS, ["--seed", "7", "--explain"], 2, "stopped\n", "after 0 communications no process can go on:\n  p0 main, line 2: halted by STOP\n"),
+    of(STOPS, ["--seed", "7", "--explain"], 2, "stopped\n", HALTED),
     of(LETTER, ["--seed", "1", "--limit", "1"], 4, "A\nlimit\n"),
     of(LETTER, ["--tries", "3"], 7, "", None),
     of(LETTER, ["--json"], 7, "", None),
@@ -256,7 +261,7 @@ def recorded(program):
             wrong.append(f"what was played again: {again}")
         if short[0] != 4 or not short[1].endswith("limit\n") or (room / "used").read_text() != (room / "short").read_text():
             wrong.append(f"what a short list came to: {short}")
-        if not drawn.startswith("<svg") or not drawn.endswith("</svg>\n") or ">c 7<" not in drawn or ">screen 55 '7'<" not in drawn:
+        if not drawn.startswith("<svg") or not drawn.endswith("</svg>\n") or ">1: c 7<" not in drawn or ">2: screen 55 '7'<" not in drawn:
             wrong.append(f"what was drawn: {drawn!r}")
         if sorted(path.name for path in room.iterdir()) != ["again", "drawn", "drawn.too", "few", "kept", "short", "used", "used.too", "x.occ"]:
             wrong.append(f"what was left: {sorted(path.name for path in room.iterdir())}")
@@ -269,7 +274,7 @@ def explored(program):
         wrong = []
         source = TOP / "examples/faults/dining.occ"
         status, out, err = run(program, room, ["--explore", "--quantum", "1000", "--record", "x", source])
-        lines = re.findall(r'(?m)^([0-9]+) (ended|stopped) "([^"]*)" by [0-9]+ choices$', out)
+        lines = re.findall(r'(?m)^([0-9]+) (ended|stopped) "([^"]*)" by [0-9]+ choices(?:: circle)?$', out)
         if (status, err, len(lines)) != (2, "", 7) or [ending for _, ending, _ in lines].count("stopped") != 1:
             wrong.append(f"{source.name}: {status} {out!r} {err!r}")
         for number, ending, screen in lines:
@@ -291,13 +296,13 @@ def reported(program):
         for source, endings in [(TOP / "examples/faults/dining.occ", ["stopped"]), ("two.occ", ["stopped", "fault ARITH line 11"])]:
             plain = run(program, room, ["--explore", "--quantum", "1000", source])
             status, out, err = run(program, room, ["--explore", "--quantum", "1000", "--explain", "--record", "x", source])
-            numbers = re.findall(r"(?m)^(\d+) (?!ended)(.*):$", err)
+            numbers = re.findall(r"(?m)^(\d+) (stopped|fault .*?)(?:, [a-z]+: .*|:)$", err)
             if (status, out, "") != plain or sorted(ending for _, ending in numbers) != sorted(endings):
                 wrong.append(f"{source}: {status} {out!r} {err!r}")
             told = ""
             for number, ending in numbers:
                 again = run(program, room, ["--choices", f"x.{number}.choices", "--quantum", "1000", "--explain", source])
-                told += f"{number} {ending}:\n{again[2]}"
+                told += f"{number} stopped, {again[2]}" if ending == "stopped" else f"{number} {ending}:\n{again[2]}"
                 if not again[1].endswith(f"{ending}\n"):
                     wrong.append(f"{source}: {number} is another answer: {again}")
             if told != err:
@@ -392,13 +397,13 @@ def by_workers(program):
         wrong = []
         for number in range(20):
             limit = 5 + number
-            words = ["--workers", "3", "--limit", str(limit), "--trace", "--record", "kept", "--trace-to", "lines", "--steps", "turns", "--chart", "drawn", "x.occ"]
+            words = ["--workers", "3", "--limit", str(limit), "--trace", "--record", "kept", "--trace-to", "lines", "--steps", "turns", "--chart", "drawn", "--page", "shown", "x.occ"]
             came = run(program, room, words)
-            kept, lines, turns, drawn = ((room / name).read_text() for name in ("kept", "lines", "turns", "drawn"))
+            kept, lines, turns, drawn, shown = ((room / name).read_text() for name in ("kept", "lines", "turns", "drawn", "shown"))
             told = [found[1] for turn in turns.splitlines() for found in [re.search(r", (\d+) p\d+>", turn)] if found]
             made = [line for line in lines.splitlines() if line[0].isdigit()]
             count = len([line for line in tree.fromstring(drawn).iter(f"{SVG}path") if line.get("stroke") == "black"])
-            if not came[1].endswith(lines) or len(turns.splitlines()) != kept.count("\n") or kept.count("\n") > limit or len(told) != len(made) or count != len(made):
+            if not came[1].endswith(lines) or len(turns.splitlines()) != kept.count("\n") or kept.count("\n") > limit or len(told) != len(made) or count != len(made) or f"\f{turns}\f" not in shown:
                 wrong.append(f"{words}: {came} {kept.count(chr(10))} {len(told)} {count}")
             if (came[0] == 4) != (kept.count("\n") == limit and lines.endswith("limit\n")):
                 wrong.append(f"{words}: {came[0]} after {kept.count(chr(10))}")
@@ -444,7 +449,8 @@ def drawn(program):
             picture = tree.parse(room / "many.svg").getroot()
             words_in = [text.text for text in picture.iter(f"{SVG}text")]
             count = len([line for line in picture.iter(f"{SVG}path") if line.get("stroke") == "black"])
-            if count != min(int(words[1]), 990) or shown not in words_in or words_in.count("main p1") != 2 or int(picture.get("height")) > 30_000:
+            heads = 2 + (count - 1) // 30
+            if count != min(int(words[1]), 990) or shown not in words_in or words_in.count("p1") != heads or int(picture.get("height")) > 32_000:
                 wrong.append(f"{words}: {count} arrows, {words_in[:8]}")
         return "; ".join(wrong) or None
 
@@ -458,10 +464,10 @@ def starving(program, room, source):
     shapes = list(tree.parse(room / "a.svg").getroot())
     over = [after.text for line, after in zip(shapes, shapes[1:]) if line.get("stroke") == "black"]
     under = [after.text for line, after in zip(shapes, shapes[1:]) if line.get("stroke") == "red"]
-    if status != 2 or over != [f"{line[2]} {line[4]}" for line in made]:
+    if status != 2 or over != [f"{line[1]}: {line[2]} {line[4]}" for line in made]:
         yield f"arrows: {over}"
     heads = [text.text for text in tree.parse(room / "a.svg").getroot().iter(f"{SVG}text")]
-    if "philosopher p2" not in heads or not any(words.startswith("a circle waits: p2 p7 p3") for words in heads):
+    if heads[:2] != ["philosopher", "p2"] or not any(words.startswith("a circle waits: p2 p7 p3") for words in heads):
         yield f"heads: {heads}"
     if len(under) != len(re.findall(r"p\d+ [^:]*: (?:offers|awaits|chooses)", err)):
         yield f"stubs: {under}, and not {err!r}"

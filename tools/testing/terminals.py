@@ -10,7 +10,7 @@ from .running import SECONDS, TOP, Job, room, run_text, shown_on
 from .statuses import ECHO, ENDLESS, FAULTS, HEAD, LETTER, NOTICE, NO_SOURCE, SHARED, SHARED_TOLD, STOPS, USAGE
 
 MISSING = f"none.occ: {NO_SOURCE}"
-STUCK = "after 0 communications no process can go on:\n  p0 main, line 2: halted by STOP\n"
+STUCK = "halted: p0 was halted\nafter 0 communications no process can go on:\n  p0 main, line 2: halted by STOP\n"
 GUARDED = HEAD + "  ALT\n    BYTE b:\n    keyboard ? b\n      screen ! b\n    TRUE & SKIP\n      screen ! '.'\n:\n"
 CALLED = "PROC get (CHAN OF BYTE from, VAL INT n)\n  BYTE b:\n  from ? b\n:\n" + HEAD + "  get (keyboard, 1)\n:\n"
 READS = HEAD + "  INT x:\n  PAR\n    x := 1\n    BYTE b:\n    SEQ\n      keyboard ? b\n      x := 2\n:\n"
@@ -45,7 +45,7 @@ CASES = [
     ("--explain without a terminal", STOPS, ["--explain", "x.occ"], "", (0,), {}, (2, "", "stopped\n" + STUCK)),
     ("a fault", FAULTS, ["x.occ"], "", ALL, {"NO_COLOR": "1"}, (3, "fault ARITH line 3\nafter 0 communications:\n  p0 main: fault ARITH line 3\n", "")),
     ("a limit", ENDLESS, ["--limit", "10", "x.occ"], "", ALL, {"NO_COLOR": "1"}, (4, "limit\nafter 0 communications:\n  p0 main: can go on\n  the limit is reached: --limit N allows more turns, --quantum N makes each longer\n", "")),
-    ("an answer of a search", STOPS, ["--explore", "--plain", "x.occ"], "", ALL, {}, (2, '1 stopped "" by 1 choice\neach run ends after 1 turn\none answer: the program has no ALT\n', "")),
+    ("an answer of a search", STOPS, ["--explore", "--plain", "x.occ"], "", ALL, {}, (2, '1 stopped "" by 1 choice: halted\neach run ends after 1 turn\none answer: the program has no ALT\n', "")),
     ("a missing file", LETTER, ["none.occ"], "", ALL, {"NO_COLOR": "1"}, (6, "read failed\n" + MISSING, "")),
     ("a missing file, in bold", LETTER, ["none.occ"], "", ALL, {}, (6, "read failed\n" + bold(MISSING), "")),
     ("a missing file, plainly", LETTER, ["none.occ", "--plain"], "", ALL, {}, (6, "read failed\n", "")),

@@ -12,7 +12,7 @@ use Rattle.occ_machine.specs.declared.task.Wait.{Wait}
 use Rattle.occ_machine.specs.declared.task.Wait.TheVariants.{Ready, Took, Offers, Awaits, Chooses, Joins, Halted, Done, Faulted}
 use Rattle.occ_term.specs.declared.ending.Ending.TheVariants.{Fault}
 use Rattle.occ_term.specs.Endings.{ending_text}
-use Rattle.occ_shown.specs.Answers.{array_text, end_text, name_or_none, value_text, names_of}
+use Rattle.occ_shown.specs.Answers.{array_text, name_or_none, value_text, names_of}
 use Rattle.occ_term.specs.declared.names.Channel.{Channel}
 use Rattle.occ_term.specs.declared.message.Message.{Message}
 
@@ -47,6 +47,10 @@ message_text (Some name) ps = name ++ others_text ps
 abbrev pub arrow_words : Entry → List ℕ
 arrow_words e = e.name ++ 32 ∷ message_text e.tag e.message.items
 
+-- and before them its number in the trace
+abbrev pub numbered_words : Entry → List ℕ
+numbered_words e = decimal e.number ++ codes ": " ++ arrow_words e
+
 -- ---- heads
 
 -- the name that a process has
@@ -55,11 +59,6 @@ end_name names (OfProcess n) = name_or_none (slice_get names n)
 end_name names Keyboard = []
 end_name names Screen = []
 end_name names Error = []
-
--- what stands behind a name
-abbrev pub end_words : List ℕ → End → List ℕ
-end_words [] x = end_text x
-end_words (b ∷ bs) x = 32 ∷ end_text x
 
 -- ---- who stands at the foot
 

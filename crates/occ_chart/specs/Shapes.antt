@@ -34,7 +34,7 @@ path course colour = element (codes "path") (attribute (codes "d") course ∷ at
 
 -- down a column, from under its head
 unfoldable pub down : (x bottom : ℕ) → List ℕ
-down x bottom = codes "M " ++ decimal x ++ codes " 30 V " ++ decimal bottom
+down x bottom = codes "M " ++ decimal x ++ codes " 38 V " ++ decimal bottom
 
 -- the stub at the foot of a column
 unfoldable pub stub : (x bottom : ℕ) → List ℕ

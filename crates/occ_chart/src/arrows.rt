@@ -1,14 +1,15 @@
 //! The arrows of communications.
 ghost use Rattle.std.specs.Prelude.{◌≡◌, ◌++◌, ◌≤◌, ◌^◌, IfOk, OnOk, length};
-ghost use Rattle.occ_chart.specs.Charts.{arrow, arrow_from, arrows, room_between, row};
-ghost use Rattle.occ_chart.specs.Labels.{arrow_words};
+ghost use Rattle.occ_chart.specs.Charts.{AreNear, PutsArrows, arrow, arrow_from, PutsBreak, halfway, rows_left, room_between, row, row_behind, rows_of};
+ghost use Rattle.occ_chart.specs.Labels.{arrow_words, numbered_words};
 ghost use Rattle.occ_chart.specs.Shapes.{along, leftward, rightward};
 ghost use Rattle.occ_chart.specs.Xml.{AddsElements};
 
 use crate::columns::place_of;
-use crate::heads::column;
+use crate::heads::write_heads;
 use crate::labels::write_label;
 use crate::messages::write_items;
+use crate::places::{column, place_at};
 use crate::xml::{Style, write_path};
 use occ_board::Shown;
 use occ_term::End;
@@ -69,35 +70,70 @@ pub fn words_of(alloc: Global, shown: &Shown) -> Result<Vec<u8>, AllocError>
     Ok(words)
 }
 
-/// How many letters have room between two columns.
-fn room_between(from: usize, to: usize) -> usize
-    requires from { from ≤ 2 ^ 40 }
-    requires to { to ≤ 2 ^ 40 }
-    ensures { result ≡ room_between from to }
+/// The number of a communication in the trace, and those words.
+fn numbered_words(alloc: Global, shown: &Shown) -> Result<Vec<u8>, AllocError>
+    ensures { IfOk result (λ words. words.items ≡ numbered_words shown.now) }
 {
-    24 * (from.max(to) - from.min(to))
+    let number = format!(in alloc; "{}: ", shown.number())?;
+    let mut text = Vec::from_slice(alloc, number.as_bytes())?;
+    let words = words_of(alloc, shown)?;
+    text.extend_from_slice(words.as_slice())?;
+    Ok(text)
+}
+
+/// How many letters have room between two columns.
+fn room_between(places: &[u64], from: usize, to: usize) -> usize
+    requires { AreNear places.now }
+    ensures { result ≡ room_between places.now from to }
+{
+    let (from, to) = (place_at(places, from), place_at(places, to));
+    ((from.max(to) - from.min(to)) as usize).max(24)
+}
+
+/// The place halfway between two columns.
+fn halfway(places: &[u64], from: usize, to: usize) -> u64
+    requires { AreNear places.now }
+    ensures { result ≡ halfway places.now from to }
+{
+    7 * (place_at(places, from) + place_at(places, to)) / 2
+}
+
+/// How many rows so many communications take.
+#[tactic(auto, using(crate::proofs::Drawing::row_most, crate::proofs::Drawing::rows_step))]
+pub(crate) fn rows_of(count: usize) -> usize
+    requires { count ≤ 990 }
+    ensures is { result ≡ rows_of 30 0 count }
+    ensures few { result ≤ 2000 }
+{
+    let (mut rows, mut left) = (0, 30);
+    for _ in 0..count {
+        rows = row_behind(left, rows) + 1;
+        left = rows_left(left);
+    }
+    rows
 }
 
 /// The arrow of a communication from one column to another, in this row.
 fn write_arrow_from(
     alloc: Global,
     out: &mut Vec<u8>,
+    places: &[u64],
     from: usize,
     to: usize,
     number: usize,
     shown: &Shown,
 ) -> Result<(), AllocError>
-    requires from { from ≤ 2 ^ 40 }
-    requires to { to ≤ 2 ^ 40 }
+    requires places { AreNear places.now }
     requires near { number ≤ 2 ^ 40 }
-    ensures { OnOk result (AddsElements out.old out.new (arrow_from from to number shown.now)) }
+    ensures { OnOk result
+        (AddsElements out.old out.new (arrow_from places.now from to number shown.now)) }
 {
-    let course = along(alloc, column(from), column(to), row(number))?;
+    let course = along(alloc, column(places, from), column(places, to), row(number))?;
     write_path(out, course.as_bytes(), b"black")?;
-    let words = words_of(alloc, shown)?;
-    let middle = 90 * (from as u64 + to as u64) + 90;
+    let words = numbered_words(alloc, shown)?;
+    let middle = halfway(places, from, to);
     let height = 30 * number as u64 + 74;
-    let room = room_between(from, to);
+    let room = room_between(places, from, to);
     write_label(
         alloc,
         out,
@@ -114,37 +150,77 @@ fn write_arrow_from(
 fn write_arrow(
     alloc: Global,
     out: &mut Vec<u8>,
+    places: &[u64],
     columns: &[End],
     number: usize,
     shown: &Shown,
 ) -> Result<(), AllocError>
-    requires few { length columns.now ≤ 2 ^ 40 }
+    requires places { AreNear places.now }
     requires near { number ≤ 2 ^ 40 }
     ensures { OnOk result
-        (AddsElements out.old out.new (arrow columns.now number shown.now)) }
+        (AddsElements out.old out.new (arrow places.now columns.now number shown.now)) }
 {
     let from = place_of(columns, shown.sender());
     let to = place_of(columns, shown.receiver());
-    write_arrow_from(alloc, out, from, to, number, shown)
+    write_arrow_from(alloc, out, places, from, to, number, shown)
 }
 
-/// The arrow of each communication, in a row of its own.
+/// The heads again, in a row of their own, where no other row is left before them.
+fn write_break(
+    alloc: Global,
+    out: &mut Vec<u8>,
+    names: &[Vec<u8>],
+    places: &[u64],
+    left: usize,
+    number: usize,
+    columns: &[End],
+) -> Result<(), AllocError>
+    requires places { AreNear places.now }
+    requires near { number ≤ 2 ^ 40 }
+    ensures { PutsBreak result out.old out.new names.now places.now left number columns.now }
+{
+    if left == 0 {
+        return write_heads(alloc, out, names, places, 30 * number as u64 + 68, columns);
+    }
+    Ok(())
+}
+
+/// The row of the next arrow, where so many rows are left before heads stand again.
+fn row_behind(left: usize, number: usize) -> usize
+    requires { number ≤ 2 ^ 40 }
+    ensures { result ≡ row_behind left number }
+{
+    if left == 0 { number + 1 } else { number }
+}
+
+/// How many rows are left behind it.
+fn rows_left(left: usize) -> usize
+    ensures { result ≡ rows_left left }
+{
+    if left == 0 { 29 } else { left - 1 }
+}
+
+/// The arrow of each communication, in a row of its own, and the heads again before each 30 behind the first ones.
 pub(crate) fn write_arrows(
     alloc: Global,
     out: &mut Vec<u8>,
+    names: &[Vec<u8>],
+    places: &[u64],
     columns: &[End],
     shown: &[Shown],
 ) -> Result<(), AllocError>
-    requires few { length columns.now ≤ 2 ^ 40 }
-    requires near { length shown.now ≤ 2 ^ 40 }
-    ensures { OnOk result
-        (AddsElements out.old out.new (arrows columns.now 0 shown.now)) }
+    requires places { AreNear places.now }
+    requires near { length shown.now ≤ 990 }
+    ensures { PutsArrows result out.old out.new names.now places.now columns.now shown.now }
 {
-    let mut number = 0;
+    let (mut number, mut left) = (0, 30);
     let mut rest = shown;
     while let Some((first, others)) = rest.split_first() {
-        write_arrow(alloc, out, columns, number, first)?;
-        number += 1;
+        write_break(alloc, out, names, places, left, number, columns)?;
+        let row = row_behind(left, number);
+        write_arrow(alloc, out, places, columns, row, first)?;
+        number = row + 1;
+        left = rows_left(left);
         rest = others;
     }
     Ok(())

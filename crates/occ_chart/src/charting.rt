@@ -1,15 +1,16 @@
 //! The sequence chart of a run, in SVG.
-ghost use Rattle.std.specs.Prelude.{◌≤◌, ◌^◌, IfOk, OnOk, length};
-ghost use Rattle.occ_chart.specs.Charts.{IsChartOf, above, foot, svg_opening, PutsFoot};
+ghost use Rattle.std.specs.Prelude.{◌≡◌, ◌≤◌, ◌^◌, IfOk, OnOk, length};
+ghost use Rattle.occ_chart.specs.Charts.{AreNear, IsChartOf, above, row_below, foot, svg_opening, PutsFoot};
 ghost use Rattle.occ_shown.specs.Answers.{AddsText, HasBytes};
 ghost use Rattle.occ_chart.specs.Labels.{texts_of};
 
-use crate::arrows::{row, write_arrows};
+use crate::arrows::{row, rows_of, write_arrows};
 use crate::columns::columns;
 use crate::feet::write_feet;
 use crate::heads::{write_heads, write_heads_again, write_lifelines};
 use crate::notes::{write_after, write_before, write_circle, write_ending};
 use crate::part::{Part, shown_of};
+use crate::places::{last_place, places_of};
 use crate::stub::Stub;
 use crate::xml::write_number;
 use occ_board::Shown;
@@ -36,28 +37,38 @@ fn write_opening(
     Ok(())
 }
 
+/// The height of the row below so many communications.
+fn row_below(count: usize) -> u64
+    requires { count ≤ 990 }
+    ensures is { result ≡ row_below count }
+    ensures high { result ≤ 2 ^ 40 }
+{
+    row(rows_of(count))
+}
+
 /// What stands over the foot.
 fn above(
     alloc: Global,
+    places: &[u64],
     names: &[Vec<u8>],
     columns: &[End],
     shown: &[Shown],
     before: usize,
     is_cut: bool,
 ) -> Result<Vec<u8>, AllocError>
-    requires few { length columns.now ≤ 2 ^ 40 }
+    requires places { AreNear places.now }
     requires near { length shown.now ≤ 990 }
     ensures { IfOk result
-        (HasBytes (above (texts_of names.now) columns.now shown.now before is_cut)) }
+        (HasBytes (above places.now (texts_of names.now) columns.now shown.now before is_cut)) }
 {
-    let bottom = row(shown.len());
-    let width = 180 * columns.len().max(1) as u64;
+    let bottom = row_below(shown.len());
+    let width = 7 * last_place(places) + 84;
     let mut out = Vec::new(alloc);
-    write_opening(alloc, &mut out, width, bottom + 120)?;
-    write_heads(alloc, &mut out, names, 20, columns)?;
-    write_lifelines(alloc, &mut out, bottom, columns)?;
+    write_opening(alloc, &mut out, width, bottom + 132)?;
+    write_heads(alloc, &mut out, names, places, 18, columns)?;
+    write_lifelines(alloc, &mut out, places, bottom, columns)?;
     write_before(alloc, &mut out, before, is_cut)?;
-    write_arrows(alloc, &mut out, columns, shown)?;
+    write_arrows(alloc, &mut out, names, places, columns, shown)?;
     Ok(out)
 }
 
@@ -86,13 +97,17 @@ pub fn chart(
     let all = trace.len();
     let list = shown_of(alloc, trace, channels, part)?;
     let shown = list.as_slice();
-    let columns = columns(alloc, shown, stubs)?;
+    let found = columns(alloc, shown, stubs)?;
+    let columns = found.as_slice();
+    let standing = places_of(alloc, names, stubs, columns)?;
+    let places = standing.as_slice();
     let left = all - part.count(all);
     let is_cut = part.is_cut(all);
     let mut out = above(
         alloc,
+        places,
         names,
-        columns.as_slice(),
+        columns,
         shown,
         part.if_last(left),
         is_cut,
@@ -100,8 +115,9 @@ pub fn chart(
     write_below(
         alloc,
         &mut out,
+        places,
         names,
-        columns.as_slice(),
+        columns,
         shown.len(),
         part.if_first(left),
         is_cut,
@@ -116,6 +132,7 @@ pub fn chart(
 fn write_below(
     alloc: Global,
     out: &mut Vec<u8>,
+    places: &[u64],
     names: &[Vec<u8>],
     columns: &[End],
     count: usize,
@@ -125,16 +142,16 @@ fn write_below(
     circle: &[u32],
     ending: Ending,
 ) -> Result<(), AllocError>
-    requires few { length columns.now ≤ 2 ^ 40 }
+    requires places { AreNear places.now }
     requires near { count ≤ 990 }
-    ensures { PutsFoot result out.old out.new names.now columns.now count after is_cut stubs.now
-        circle.now ending }
+    ensures { PutsFoot result out.old out.new places.now names.now columns.now count after is_cut
+        stubs.now circle.now ending }
 {
-    let bottom = row(count);
-    write_feet(alloc, out, columns, bottom, stubs)?;
-    write_heads_again(alloc, out, names, bottom, count, columns)?;
+    let bottom = row_below(count);
+    write_feet(alloc, out, places, columns, bottom, stubs)?;
+    write_heads_again(alloc, out, names, places, bottom, count, columns)?;
     write_ending(alloc, out, bottom, ending)?;
     write_after(alloc, out, bottom, after, is_cut)?;
-    write_circle(alloc, out, bottom, columns.len(), circle)?;
+    write_circle(alloc, out, places, bottom, circle)?;
     out.extend_from_slice(b"</svg>\n")
 }

@@ -34,7 +34,7 @@ fn number(end: End) -> u32
     }
 }
 
-fn is_end(one: End, other: End) -> bool
+pub(crate) fn is_end(one: End, other: End) -> bool
     ensures { result ≡ is_end one other }
 {
     group(one) == group(other) && number(one) == number(other)

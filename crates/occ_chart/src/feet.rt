@@ -1,6 +1,6 @@
 //! Who stands at the foot of its column.
 ghost use Rattle.std.specs.Prelude.{◌≡◌, ◌++◌, ◌≤◌, ◌^◌, IfOk, OnOk, length};
-ghost use Rattle.occ_chart.specs.Charts.{drawn_feet, foot_at};
+ghost use Rattle.occ_chart.specs.Charts.{AreNear, drawn_feet, foot_at};
 ghost use Rattle.occ_chart.specs.Labels.{foot_words, await_words, offer_words};
 ghost use Rattle.occ_chart.specs.Shapes.{stub};
 ghost use Rattle.occ_chart.specs.Xml.{AddsElements};
@@ -8,9 +8,9 @@ ghost use Rattle.occ_term.specs.Endings.{ending_text};
 ghost use Rattle.occ_shown.specs.Answers.{names_of, HasWords};
 
 use crate::columns::place_of;
-use crate::heads::column;
 use crate::labels::write_label;
 use crate::messages::write_message;
+use crate::places::column;
 use crate::stub::Stub;
 use crate::xml::{Style, write_path};
 use occ_machine::Wait;
@@ -115,19 +115,20 @@ fn write_foot(
 pub(crate) fn write_feet(
     alloc: Global,
     out: &mut Vec<u8>,
+    places: &[u64],
     columns: &[End],
     bottom: u64,
     stubs: &[Stub],
 ) -> Result<(), AllocError>
-    requires few { length columns.now ≤ 2 ^ 40 }
+    requires places { AreNear places.now }
     requires bottom { bottom ≤ 2 ^ 40 }
     ensures { OnOk result
-        (AddsElements out.old out.new (drawn_feet columns.now bottom stubs.now)) }
+        (AddsElements out.old out.new (drawn_feet places.now columns.now bottom stubs.now)) }
 {
     let mut rest = stubs;
     while let Some((first, others)) = rest.split_first() {
         let place = place_of(columns, End::Process(first.process()));
-        write_foot(alloc, out, column(place), bottom, first.words())?;
+        write_foot(alloc, out, column(places, place), bottom, first.words())?;
         rest = others;
     }
     Ok(())

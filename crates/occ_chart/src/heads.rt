@@ -1,24 +1,16 @@
 //! The heads of columns, and the lines down from them.
 ghost use Rattle.std.specs.Prelude.{◌≡◌, ◌≤◌, ◌^◌, IfOk, OnOk, codes, length};
-ghost use Rattle.occ_chart.specs.Charts.{column, heads, heads_again, lifelines, head_of_end};
-ghost use Rattle.occ_chart.specs.Labels.{end_words, end_name, texts_of};
+ghost use Rattle.occ_chart.specs.Charts.{AreNear, head_in, heads, lifelines, name_label, PutsHeadsAgain};
+ghost use Rattle.occ_chart.specs.Labels.{end_name, texts_of};
 ghost use Rattle.occ_chart.specs.Shapes.{down, path};
 ghost use Rattle.occ_chart.specs.Xml.{AddsElement, AddsElements};
-ghost use Rattle.occ_chart.specs.declared.xml.Style.TheVariants.{Plain};
 ghost use Rattle.occ_shown.specs.Answers.{end_text, AddsText};
 
 use crate::labels::write_label;
-use crate::xml::{Style, write_path};
+use crate::places::column;
+use crate::xml::{Style, write_path, write_text};
 use occ_term::End;
 use std::alloc::{AllocError, Global};
-
-/// The place of a column in the picture.
-pub(crate) fn column(place: usize) -> u64
-    requires { place ≤ 2 ^ 40 }
-    ensures { result ≡ column place }
-{
-    180 * place as u64 + 90
-}
 
 /// The name of an end: `p` and a process's number, or what else it is.
 ///
@@ -39,20 +31,17 @@ pub fn write_end(alloc: Global, out: &mut Vec<u8>, end: End) -> Result<(), Alloc
     }
 }
 
-/// What stands behind the name of an end.
-fn end_words(alloc: Global, name: &[u8], end: End) -> Result<Vec<u8>, AllocError>
-    ensures { IfOk result (λ words. words.items ≡ end_words name.now end) }
+/// The same as a text of its own.
+pub(crate) fn end_text(alloc: Global, end: End) -> Result<Vec<u8>, AllocError>
+    ensures { IfOk result (λ text. text.items ≡ end_text end) }
 {
-    let mut words = Vec::new(alloc);
-    if !name.is_empty() {
-        words.push(b' ')?;
-    }
-    write_end(alloc, &mut words, end)?;
-    Ok(words)
+    let mut text = Vec::new(alloc);
+    write_end(alloc, &mut text, end)?;
+    Ok(text)
 }
 
 /// The name that an end has.
-fn name_of(names: &[Vec<u8>], end: End) -> &[u8]
+pub(crate) fn name_of(names: &[Vec<u8>], end: End) -> &[u8]
     ensures { result.now ≡ end_name (texts_of names.now) end }
 {
     match end {
@@ -66,6 +55,23 @@ fn name_of(names: &[Vec<u8>], end: End) -> &[u8]
     }
 }
 
+/// The name of the PROC that a process runs, where it has one.
+fn write_name(
+    alloc: Global,
+    out: &mut Vec<u8>,
+    x: u64,
+    y: u64,
+    name: &[u8],
+) -> Result<(), AllocError>
+    ensures { OnOk result (AddsElements out.old out.new (name_label x y name.now)) }
+{
+    if name.is_empty() {
+        return Ok(());
+    }
+    write_label(alloc, out, Style::Plain, x, y, 24, name, b"")
+}
+
+#[tactic(auto, using(crate::proofs::Drawing::both_put))]
 fn write_head(
     alloc: Global,
     out: &mut Vec<u8>,
@@ -74,27 +80,32 @@ fn write_head(
     y: u64,
     end: End,
 ) -> Result<(), AllocError>
-    ensures { OnOk result (AddsElement out.old out.new (head_of_end names.now x y end)) }
+    requires { y ≤ 2 ^ 46 }
+    ensures { OnOk result (AddsElements out.old out.new (head_in names.now x y end)) }
 {
-    let name = name_of(names, end);
-    let words = end_words(alloc, name, end)?;
-    write_label(alloc, out, Style::Plain, x, y, 24, name, words.as_slice())
+    write_name(alloc, out, x, y, name_of(names, end))?;
+    let words = end_text(alloc, end)?;
+    write_text(alloc, out, Style::Plain, x, y + 14, b"", words.as_slice())?;
+    Ok(())
 }
 
 /// The heads of the columns, in this height.
+#[tactic(auto, using(crate::proofs::Drawing::put_next))]
 pub(crate) fn write_heads(
     alloc: Global,
     out: &mut Vec<u8>,
     names: &[Vec<u8>],
+    places: &[u64],
     y: u64,
     columns: &[End],
 ) -> Result<(), AllocError>
-    requires { length columns.now ≤ 2 ^ 40 }
+    requires near { AreNear places.now }
+    requires high { y ≤ 2 ^ 46 }
     ensures { OnOk result
-        (AddsElements out.old out.new (heads (texts_of names.now) y 0 columns.now)) }
+        (AddsElements out.old out.new (heads (texts_of names.now) places.now y 0 columns.now)) }
 {
     for i in 0..columns.len() {
-        write_head(alloc, out, names, column(i), y, columns[i])?;
+        write_head(alloc, out, names, column(places, i), y, columns[i])?;
     }
     Ok(())
 }
@@ -104,17 +115,17 @@ pub(crate) fn write_heads_again(
     alloc: Global,
     out: &mut Vec<u8>,
     names: &[Vec<u8>],
+    places: &[u64],
     y: u64,
     count: usize,
     columns: &[End],
 ) -> Result<(), AllocError>
-    requires columns { length columns.now ≤ 2 ^ 40 }
+    requires near { AreNear places.now }
     requires bottom { y ≤ 2 ^ 40 }
-    ensures { OnOk result
-        (AddsElements out.old out.new (heads_again (texts_of names.now) y count columns.now)) }
+    ensures { PutsHeadsAgain result out.old out.new names.now places.now y count columns.now }
 {
-    if count > 40 {
-        return write_heads(alloc, out, names, y + 46, columns);
+    if count > 15 {
+        return write_heads(alloc, out, names, places, y + 46, columns);
     }
     Ok(())
 }
@@ -124,7 +135,7 @@ pub(crate) fn write_heads_again(
 fn down(alloc: Global, x: u64, bottom: u64) -> Result<String, AllocError>
     ensures { IfOk result (λ text. text.bytes.items ≡ down x bottom) }
 {
-    let text = format!(in alloc; "M {x} 30 V {bottom}")?;
+    let text = format!(in alloc; "M {x} 38 V {bottom}")?;
     Ok(text)
 }
 
@@ -139,17 +150,18 @@ fn write_lifeline(alloc: Global, out: &mut Vec<u8>, x: u64, bottom: u64) -> Resu
 pub(crate) fn write_lifelines(
     alloc: Global,
     out: &mut Vec<u8>,
+    places: &[u64],
     bottom: u64,
     columns: &[End],
 ) -> Result<(), AllocError>
-    requires { length columns.now ≤ 2 ^ 40 }
+    requires { AreNear places.now }
     ensures { OnOk result
-        (AddsElements out.old out.new (lifelines bottom 0 columns.now)) }
+        (AddsElements out.old out.new (lifelines places.now bottom 0 columns.now)) }
 {
     let mut place = 0;
     let mut rest = columns;
     while let Some((_, others)) = rest.split_first() {
-        write_lifeline(alloc, out, column(place), bottom)?;
+        write_lifeline(alloc, out, column(places, place), bottom)?;
         place += 1;
         rest = others;
     }

@@ -12,6 +12,7 @@ mod labels;
 mod messages;
 mod notes;
 mod part;
+mod places;
 mod stub;
 mod xml;
 

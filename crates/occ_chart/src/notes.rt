@@ -1,10 +1,11 @@
 //! What is noted beside the arrows of a chart.
-ghost use Rattle.std.specs.Prelude.{◌≡◌, ◌++◌, ◌+◌, ◌*◌, ◌≤◌, ◌^◌, ◌∷◌, [], IfOk, OnOk, codes, length, max};
-ghost use Rattle.occ_chart.specs.Charts.{circle_label, circle_words, cut_words, note_after, note_before, note_circle, note_ending};
+ghost use Rattle.std.specs.Prelude.{◌≡◌, ◌++◌, ◌+◌, ◌-◌, ◌≤◌, ◌^◌, ◌∷◌, [], IfOk, OnOk, codes, length};
+ghost use Rattle.occ_chart.specs.Charts.{AreNear, circle_label, circle_words, cut_words, note_after, note_before, note_circle, note_ending};
 ghost use Rattle.occ_chart.specs.Xml.{AddsElement, AddsElements};
 ghost use Rattle.occ_term.specs.Endings.{ending_text};
 
 use crate::labels::write_label;
+use crate::places::last_place;
 use crate::xml::{Style, write_text};
 use occ_shown::write_numbers;
 use occ_term::Ending;
@@ -61,18 +62,10 @@ pub(crate) fn write_after(
         out,
         Style::Note,
         10,
-        bottom + 86,
+        bottom + 98,
         b"",
         words.as_slice(),
     )
-}
-
-/// How many letters have room under so many columns.
-fn room_under(columns: usize) -> usize
-    requires { columns ≤ 2 ^ 40 }
-    ensures { result ≡ 24 * max 1 columns }
-{
-    24 * columns.max(1)
 }
 
 /// What is said of processes that wait for one another in a circle.
@@ -87,17 +80,18 @@ fn circle_words(alloc: Global, circle: &[u32]) -> Result<Vec<u8>, AllocError>
 fn write_circle_words(
     alloc: Global,
     out: &mut Vec<u8>,
+    places: &[u64],
     bottom: u64,
-    columns: usize,
     circle: &[u32],
 ) -> Result<(), AllocError>
-    requires columns { columns ≤ 2 ^ 40 }
+    requires places { AreNear places.now }
     requires bottom { bottom ≤ 2 ^ 40 }
-    ensures { OnOk result (AddsElement out.old out.new (circle_label bottom columns circle.now)) }
+    ensures { OnOk result
+        (AddsElement out.old out.new (circle_label places.now bottom circle.now)) }
 {
     let words = circle_words(alloc, circle)?;
-    let room = room_under(columns);
-    let height = bottom + 104;
+    let room = last_place(places) as usize + 12;
+    let height = bottom + 116;
     write_label(
         alloc,
         out,
@@ -114,16 +108,17 @@ fn write_circle_words(
 pub(crate) fn write_circle(
     alloc: Global,
     out: &mut Vec<u8>,
+    places: &[u64],
     bottom: u64,
-    columns: usize,
     circle: &[u32],
 ) -> Result<(), AllocError>
-    requires columns { columns ≤ 2 ^ 40 }
+    requires places { AreNear places.now }
     requires bottom { bottom ≤ 2 ^ 40 }
-    ensures { OnOk result (AddsElements out.old out.new (note_circle bottom columns circle.now)) }
+    ensures { OnOk result
+        (AddsElements out.old out.new (note_circle places.now bottom circle.now)) }
 {
     match circle.split_first() {
-        Some(_) => write_circle_words(alloc, out, bottom, columns, circle),
+        Some(_) => write_circle_words(alloc, out, places, bottom, circle),
         None => Ok(()),
     }
 }
@@ -144,7 +139,7 @@ pub(crate) fn write_ending(
         out,
         Style::Note,
         10,
-        bottom + 68,
+        bottom + 80,
         b"",
         words.as_bytes(),
     )

@@ -1,3 +1,5 @@
+pub mod Flagging
+pub mod LeftOnes
 pub mod Listing
 pub mod Marking
 pub mod Rings

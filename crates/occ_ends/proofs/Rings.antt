@@ -1,60 +1,14 @@
--- A circle, once round.
-use Rattle.std.proofs.Common.{List, Option, Some, [], ◌∷◌, ◌+◌, ◌-◌, ◌<◌, ◌≡◌, ◌≤◌, ◌∙◌, ◌⊎◌, ap, arith, inl, inr, length, refl, suc, sym, take, zero, ℕ}
+-- A circle, once round: a part of a way round in which none stands twice.
+use Rattle.std.proofs.Common.{List, Option, Some, [], ◌∷◌, ◌+◌, ◌-◌, ◌<◌, ◌≡◌, ◌≤◌, ◌∙◌, ◌⊎◌, IsTrue, ap, arith, drop, inl, inr, length, refl, suc, sym, take, zero, ℕ}
 use Rattle.std.specs.Prelude.{slice_get, ◌%◌}
 use Rattle.std.proofs.Math.Nat.{mod-eq_of_lt, mod_self}
-use Rattle.std.proofs.lemmas.List.{length-take-le}
-use Rattle.occ_explore_walks.proofs.Lists.{get_inside, get_some}
+use Rattle.std.proofs.lemmas.List.{length-drop, length-take-le}
+use Rattle.occ_term.specs.Frames.{is_held}
+use Rattle.occ_explore_walks.proofs.Lists.{get_inside}
 use Rattle.occ_ends.specs.Ends.{Circles, IsAgain, IsOnce, IsRing}
 use Rattle.occ_ends.proofs.Rounds.{lt_or_le}
 
--- ---- in a circle whose first one stands there once, each stands once
-
-module _ (next : ℕ → Option ℕ) (ns : List ℕ) (circles : Circles next ns) (only : (k : ℕ) → k < length ns → slice_get ns k ≡ slice_get ns 0 → k ≡ 0) where
-  -- behind the same one stands the same one
-  step : (i j : ℕ) → i < length ns → slice_get ns i ≡ slice_get ns j → slice_get ns ((i + 1) % length ns) ≡ slice_get ns ((j + 1) % length ns)
-  step i j near same =
-      let got = get_some ns i near in
-      sym (circles i got.0 got.1) ∙ circles j got.0 (sym same ∙ got.1)
-
-  behind : (i j d : ℕ) → i < j → j + d < length ns → slice_get ns i ≡ slice_get ns j → slice_get ns (i + d) ≡ slice_get ns (j + d)
-  behind i j zero h near same =
-      let first : i + 0 ≡ i = omega arith in
-      let second : j + 0 ≡ j = omega arith in
-      ap (slice_get ns) first ∙ same ∙ ap (slice_get ns) (sym second)
-  behind i j (suc d) h near same =
-      let closer : j + d < length ns = omega (arith, near) in
-      let before = behind i j d h closer same in
-      let inside : i + d < length ns = omega (arith, closer, h) in
-      let first : (i + d + 1) % length ns ≡ i + suc d = let lower : i + d + 1 < length ns = omega (arith, closer, h) in let same : i + d + 1 ≡ i + suc d = omega arith in mod-eq_of_lt lower ∙ same in
-      let second : (j + d + 1) % length ns ≡ j + suc d = let lower : j + d + 1 < length ns = omega (arith, near) in let same : j + d + 1 ≡ j + suc d = omega arith in mod-eq_of_lt lower ∙ same in
-      ap (slice_get ns) (sym first) ∙ step (i + d) (j + d) inside before ∙ ap (slice_get ns) second
-
-  apart : (i j : ℕ) → i < j → j < length ns → slice_get ns i ≡ slice_get ns j → ⊥
-  apart i j h near same =
-      let d = length ns - 1 - j in
-      let last : j + d + 1 ≡ length ns = omega (arith, near) in
-      let within : j + d < length ns = omega (arith, last) in
-      let alike = behind i j d h within same in
-      let low : i + d < length ns = omega (arith, within, h) in
-      let lower : i + d + 1 < length ns = omega (arith, last, h) in
-      let round : (j + d + 1) % length ns ≡ 0 = ap (λ k. k % length ns) last ∙ mod_self (length ns) in
-      let met : slice_get ns (i + d + 1) ≡ slice_get ns 0 =
-      ap (slice_get ns) (sym (mod-eq_of_lt lower)) ∙ step (i + d) (j + d) low alike ∙ ap (slice_get ns) round in
-      let none : i + d + 1 ≡ 0 = only (i + d + 1) lower met in
-      absurd (omega (arith, none))
-
-  pub each_once : IsOnce ns
-  each_once i j m there again = by (lt_or_le i j) (lt_or_le j i)
-    where
-      same : slice_get ns i ≡ slice_get ns j
-      same = there ∙ sym again
-
-      by : (i < j) ⊎ (j ≤ i) → (j < i) ⊎ (i ≤ j) → i ≡ j
-      by (inl h) other = absurd (apart i j h (get_inside ns j m again) same)
-      by (inr h) (inl k) = absurd (apart j i k (get_inside ns i m there) (sym same))
-      by (inr h) (inr k) = omega (arith, h, k)
-
--- ---- up to where the first one comes again
+-- ---- a part of a list
 
 taken : (ns : List ℕ) (r k : ℕ) → k < r → slice_get (take r ns) k ≡ slice_get ns k
 taken ns zero k h = absurd (omega (arith, h))
@@ -62,39 +16,73 @@ taken [] (suc r) k h = refl
 taken (n ∷ ns) (suc r) zero h = refl
 taken (n ∷ ns) (suc r) (suc k) h = taken ns r k (omega (arith, h))
 
-pub ring_of : (next : ℕ → Option ℕ) (ns : List ℕ) (r : ℕ) → Circles next ns → IsAgain ns r → IsRing next (take r ns)
-ring_of next ns r circles at =
-    record {
-      some = let s = at.some in omega (arith, long, s);
-      waits = waits;
-      once = each_once next (take r ns) waits (λ k h e. at.first k (omega (arith, h, long)) (sym (taken ns r k (omega (arith, h, long))) ∙ e ∙ taken ns r 0 at.some));
-    }
-  where
-    long : length (take r ns) ≡ r
-    long = length-take-le r ns at.within
+dropped : (ns : List ℕ) (a k : ℕ) → slice_get (drop a ns) k ≡ slice_get ns (a + k)
+dropped ns zero k = let e : k ≡ 0 + k = omega arith in ap (slice_get ns) e
+dropped [] (suc a) k = refl
+dropped (n ∷ ns) (suc a) k = let e : suc (a + k) ≡ suc a + k = omega arith in dropped ns a k ∙ ap (slice_get (n ∷ ns)) e
 
-    waits : Circles next (take r ns)
-    waits i m there = by (lt_or_le (i + 1) r)
-      where
-        inside : i < r
-        inside = let h = get_inside (take r ns) i m there in omega (arith, h, long)
+module _ (others : ℕ → List ℕ) (ns : List ℕ) (a b : ℕ) (circles : Circles others ns) (at : IsAgain ns a b) where
+  abbrev part : List ℕ
+  part = take (b - a) (drop a ns)
 
-        here : slice_get ns i ≡ Some m
-        here = sym (taken ns r i inside) ∙ there
+  long : length part ≡ b - a
+  long = let few : b - a ≤ length (drop a ns) = let w = at.within in omega (arith, w, length-drop a ns) in length-take-le (b - a) (drop a ns) few
 
-        by : (i + 1 < r) ⊎ (r ≤ i + 1) → next m ≡ slice_get (take r ns) ((i + 1) % length (take r ns))
-        by (inl near) =
-            let lower : i + 1 < length ns = let w = at.within in omega (arith, near, w) in
-            let short : (i + 1) % length (take r ns) ≡ i + 1 = ap (λ k. (i + 1) % k) long ∙ mod-eq_of_lt near in
-            circles i m here ∙ ap (slice_get ns) (mod-eq_of_lt lower) ∙ sym (taken ns r (i + 1) near) ∙ ap (slice_get (take r ns)) (sym short)
-        by (inr past) =
-            let last : i + 1 ≡ r = omega (arith, inside, past) in
-            let zero_is : (i + 1) % length (take r ns) ≡ 0 = ap (λ k. (i + 1) % k) (long ∙ sym last) ∙ mod_self (i + 1) in
-            circles i m here ∙ met last at.again ∙ sym (taken ns r 0 at.some) ∙ ap (slice_get (take r ns)) (sym zero_is)
-          where
-            met : i + 1 ≡ r → (r ≡ length ns) ⊎ (slice_get ns r ≡ slice_get ns 0) → slice_get ns ((i + 1) % length ns) ≡ slice_get ns 0
-            met last (inl all) = ap (slice_get ns) (ap (λ k. k % length ns) (last ∙ all) ∙ mod_self (length ns))
-            met last (inr again) = elim (lt_or_le r (length ns)) [
-              | inl near ↦ ap (slice_get ns) (ap (λ k. k % length ns) last ∙ mod-eq_of_lt near) ∙ again
-              | inr far ↦ let all : r ≡ length ns = let w = at.within in omega (arith, w, far) in ap (slice_get ns) (ap (λ k. k % length ns) (last ∙ all) ∙ mod_self (length ns))
-            ]
+  there_at : (k : ℕ) → k < b - a → slice_get part k ≡ slice_get ns (a + k)
+  there_at k h = taken (drop a ns) (b - a) k h ∙ dropped ns a k
+
+  within : (i m : ℕ) → slice_get part i ≡ Some m → i < b - a
+  within i m there = let h = get_inside part i m there in omega (arith, h, long)
+
+  waits : Circles others part
+  waits i m k there next = by (lt_or_le (i + 1) (b - a))
+    where
+      inside : i < b - a
+      inside = within i m there
+
+      here : slice_get ns (a + i) ≡ Some m
+      here = sym (there_at i inside) ∙ there
+
+      by : (i + 1 < b - a) ⊎ (b - a ≤ i + 1) → IsTrue (is_held (others m) k)
+      by (inl near) =
+          let short : (i + 1) % length part ≡ i + 1 = ap (λ n. (i + 1) % n) long ∙ mod-eq_of_lt near in
+          let lower : a + i + 1 < length ns = let w = at.within in omega (arith, near, w) in
+          let same : a + (i + 1) ≡ a + i + 1 = omega arith in
+          circles (a + i) m k here
+          (ap (slice_get ns) (mod-eq_of_lt lower) ∙ ap (slice_get ns) (sym same) ∙ sym (there_at (i + 1) near) ∙ ap (slice_get part) (sym short) ∙ next)
+      by (inr past) =
+          let last : i + 1 ≡ b - a = omega (arith, inside, past) in
+          let some : 0 < b - a = let s = at.some in omega (arith, s) in
+          let round : (i + 1) % length part ≡ 0 = ap (λ n. (i + 1) % n) (long ∙ sym last) ∙ mod_self (i + 1) in
+          let plain : a + 0 ≡ a = omega arith in
+          let first : slice_get ns a ≡ Some k = ap (slice_get ns) (sym plain) ∙ sym (there_at 0 some) ∙ ap (slice_get part) (sym round) ∙ next in
+          let end : a + i + 1 ≡ b = let s = at.some in omega (arith, last, s) in
+          circles (a + i) m k here (met first end at.again)
+        where
+          met : slice_get ns a ≡ Some k → a + i + 1 ≡ b → ((a ≡ 0) × (b ≡ length ns)) ⊎ (slice_get ns b ≡ slice_get ns a) → slice_get ns ((a + i + 1) % length ns) ≡ Some k
+          met first end (inl all) =
+              ap (slice_get ns) (ap (λ n. n % length ns) (end ∙ all.1) ∙ mod_self (length ns) ∙ sym all.0) ∙ first
+          met first end (inr again) =
+              let there : slice_get ns b ≡ Some k = again ∙ first in
+              let lower : b < length ns = get_inside ns b k there in
+              ap (slice_get ns) (ap (λ n. n % length ns) end ∙ mod-eq_of_lt lower) ∙ there
+
+  once : IsOnce part
+  once i j m there again = by (lt_or_le i j) (lt_or_le j i)
+    where
+      first : i < b - a
+      first = within i m there
+
+      second : j < b - a
+      second = within j m again
+
+      same : slice_get ns (a + i) ≡ slice_get ns (a + j)
+      same = sym (there_at i first) ∙ there ∙ sym again ∙ there_at j second
+
+      by : (i < j) ⊎ (j ≤ i) → (j < i) ⊎ (i ≤ j) → i ≡ j
+      by (inl h) other = absurd (at.apart (a + i) (a + j) (omega (arith, h)) (omega (arith, second)) same)
+      by (inr h) (inl k) = absurd (at.apart (a + j) (a + i) (omega (arith, k)) (omega (arith, first)) (sym same))
+      by (inr h) (inr k) = omega (arith, h, k)
+
+  pub ring_of : IsRing others part
+  ring_of = record { some = let s = at.some in omega (arith, long, s); waits = waits; once = once }

@@ -1,14 +1,18 @@
 -- Circles in the graph of who waits for whom.
-use Rattle.std.proofs.Common.{List, Option, None, Some, [], ◌∷◌, ◌++◌, ◌+◌, ◌<◌, ◌≡◌, ◌≤◌, ◌∙◌, ◌⊎◌, ap, arith, false, inl, inr, length, map, refl, subst, suc, sym, true, zero, ℕ}
-use Rattle.std.specs.Prelude.{All, if◌then◌else◌, nat_lt, slice_get, ◌%◌}
+use Rattle.std.proofs.Common.{IsTrue, List, Option, None, Some, [], ◌∷◌, ◌++◌, ◌+◌, ◌<◌, ◌≡◌, ◌≤◌, ◌∙◌, ◌⊎◌, ap, arith, false, inl, inr, length, map, refl, subst, suc, sym, true, zero, ℕ}
+use Rattle.std.specs.Prelude.{All, if◌then◌else◌, nat_eq, nat_lt, slice_get, ◌%◌}
 use Rattle.std.proofs.lemmas.Bool.Decides.{nat_tests}
 use Rattle.std.proofs.lemmas.List.{length-append, length-map}
 use Rattle.std.proofs.Math.Nat.{mod-eq_of_lt, mod_self}
 use Rattle.std.proofs.lemmas.Nat.{mod_below}
+use Rattle.occ_term.specs.Frames.{is_held}
+use Rattle.std.proofs.lemmas.Bool.{eqb-true}
+use Rattle.occ_net_replay.proofs.Tables.{or_else}
+use Rattle.occ_net_tables.proofs.Keys.{first_held, later_held}
 use Rattle.occ_explore_walks.specs.declared.graph.Edge.{Edge}
 use Rattle.occ_explore_walks.specs.declared.graph.Fan.{Fan}
 use Rattle.occ_explore_walks.specs.Walks.{HasWalk, IsEdge, IsGraph, IsLongest, IsRound, IsWalk, led_to}
-use Rattle.occ_explore_walks.proofs.Lists.{get_inside, get_some, get_there, one_some, push_cases, push_keeps, push_last}
+use Rattle.occ_explore_walks.proofs.Lists.{get_inside, get_some, get_there, one_some, push_cases, push_keeps, push_last, same_or_other}
 use Rattle.occ_ends.specs.Ends.{AreWaits, LeadWithin, Circles, IsCircle, IsFanOf, IsRing, IsRoot, edge_to, edges_to}
 
 pub lt_or_le : (n e : ℕ) → (n < e) ⊎ (e ≤ n)
@@ -23,44 +27,64 @@ plus_one k = omega arith
 -- ---- the edges of a node
 
 -- an edge of a process that waits: who it is, and for whom
-record Tells (next : ℕ → Option ℕ) (below n : ℕ) (e : Edge) : Type 0 where
+record Tells (others : ℕ → List ℕ) (below n : ℕ) (e : Edge) : Type 0 where
   other : ℕ
   who : e.choice.which ≡ n
   to : e.to ≡ suc other
-  waits : next n ≡ Some other
+  waits : IsTrue (is_held (others n) other)
   single : e.behind ≡ 0
   within : other < below
 
-tells_one : (next : ℕ → Option ℕ) {below n : ℕ} (x : Option ℕ) → next n ≡ x → (place : ℕ) (e : Edge) → slice_get (edges_to n x below) place ≡ Some e → Tells next below n e
-tells_one next None is place e there = absurd cc
-tells_one next {below} {n} (Some m) is place e there = by (lt_or_le m below) place there
-  where
-    by : (m < below) ⊎ (below ≤ m) → (place : ℕ) → slice_get (edges_to n (Some m) below) place ≡ Some e → Tells next below n e
-    by (inl near) place there = one place (subst (λ b. slice_get (if b then edge_to n m ∷ [] else []) place ≡ Some e) (near_is near) there)
-      where
-        near_is : m < below → nat_lt m below ≡ true
-        near_is h = grind (arith, nat_tests)
+near_is : (m below : ℕ) → m < below → nat_lt m below ≡ true
+near_is m below h = grind (arith, nat_tests)
 
-        one : (place : ℕ) → slice_get (edge_to n m ∷ []) place ≡ Some e → Tells next below n e
+far_is : (m below : ℕ) → below ≤ m → nat_lt m below ≡ false
+far_is m below h = grind (arith, nat_tests)
+
+tells_among : (others : ℕ → List ℕ) {below n : ℕ} (xs : List ℕ) → ((k : ℕ) → IsTrue (is_held xs k) → IsTrue (is_held (others n) k)) → (place : ℕ) (e : Edge) → slice_get (edges_to n xs below) place ≡ Some e → Tells others below n e
+tells_among others [] held place e there = absurd cc
+tells_among others {below} {n} (m ∷ ms) held place e there =
+    by (lt_or_le m below) (λ place e there. tells_among others ms (λ k h. held k (later_held m k ms h)) place e there) place there
+  where
+    by : (m < below) ⊎ (below ≤ m) → ((place : ℕ) (e : Edge) → slice_get (edges_to n ms below) place ≡ Some e → Tells others below n e) → (place : ℕ) → slice_get (edges_to n (m ∷ ms) below) place ≡ Some e → Tells others below n e
+    by (inl near) again place there = one place (subst (λ b. slice_get ((if b then edge_to n m ∷ [] else []) ++ edges_to n ms below) place ≡ Some e) (near_is m below near) there)
+      where
+        one : (place : ℕ) → slice_get (edge_to n m ∷ edges_to n ms below) place ≡ Some e → Tells others below n e
         one zero there =
             let same : edge_to n m ≡ e = one_some there in
-            record { other = m; who = sym (ap (λ x. x.choice.which) same); to = sym (ap (λ x. x.to) same) ∙ plus_one m; waits = is; single = sym (ap (λ x. x.behind) same); within = near }
-        one (suc place) there = absurd cc
-    by (inr far) place there = absurd (let h : slice_get [] place ≡ Some e = subst (λ b. slice_get (if b then edge_to n m ∷ [] else []) place ≡ Some e) (far_is far) there in cc)
-      where
-        far_is : below ≤ m → nat_lt m below ≡ false
-        far_is h = grind (arith, nat_tests)
+            record { other = m; who = sym (ap (λ x. x.choice.which) same); to = sym (ap (λ x. x.to) same) ∙ plus_one m; waits = held m (first_held m ms); single = sym (ap (λ x. x.behind) same); within = near }
+        one (suc place) there = again place e there
+    by (inr far) again place there = again place e (subst (λ b. slice_get ((if b then edge_to n m ∷ [] else []) ++ edges_to n ms below) place ≡ Some e) (far_is m below far) there)
 
-module _ {next : ℕ → Option ℕ} {below : ℕ} {fans : List Fan} (w : AreWaits next below below fans) where
+held_later : (x other : ℕ) (xs : List ℕ) → (x ≡ other → ⊥) → IsTrue (is_held (x ∷ xs) other) → IsTrue (is_held xs other)
+held_later x other xs apart h = elim (or_else (nat_eq x other) (is_held xs other) h) [ inl e ↦ absurd (apart (eqb-true x other e)) | inr e ↦ e ]
+
+-- such an edge is one of them
+edge_among : (n below other : ℕ) (xs : List ℕ) → other < below → IsTrue (is_held xs other) → (place : ℕ) × (slice_get (edges_to n xs below) place ≡ Some (edge_to n other))
+edge_among n below other [] near h = absurd cc
+edge_among n below other (x ∷ xs) near h = by (same_or_other x other) (λ h. edge_among n below other xs near h)
+  where
+    by : (x ≡ other) ⊎ (x ≡ other → ⊥) → (IsTrue (is_held xs other) → (place : ℕ) × (slice_get (edges_to n xs below) place ≡ Some (edge_to n other)))
+        → (place : ℕ) × (slice_get (edges_to n (x ∷ xs) below) place ≡ Some (edge_to n other))
+    by (inl e) again =
+        let test : nat_lt x below ≡ true = near_is x below (let lt = near in omega (arith, lt, e)) in
+        (0, ap (λ b. slice_get ((if b then edge_to n x ∷ [] else []) ++ edges_to n xs below) 0) test ∙ ap (λ k. Some (edge_to n k)) e)
+    by (inr apart) again = shift (again (held_later x other xs apart h)) (lt_or_le x below)
+      where
+        shift : (place : ℕ) × (slice_get (edges_to n xs below) place ≡ Some (edge_to n other)) → (x < below) ⊎ (below ≤ x) → (place : ℕ) × (slice_get (edges_to n (x ∷ xs) below) place ≡ Some (edge_to n other))
+        shift y (inl lt) = (suc y.0, ap (λ b. slice_get ((if b then edge_to n x ∷ [] else []) ++ edges_to n xs below) (suc y.0)) (near_is x below lt) ∙ y.1)
+        shift y (inr le) = (y.0, ap (λ b. slice_get ((if b then edge_to n x ∷ [] else []) ++ edges_to n xs below) y.0) (far_is x below le) ∙ y.1)
+
+module _ {others : ℕ → List ℕ} {below : ℕ} {fans : List Fan} (w : AreWaits others below below fans) where
   -- a node of a process
-  tells : (n : ℕ) (e : Edge) → IsEdge fans (suc n) e → Tells next below n e
+  tells : (n : ℕ) (e : Edge) → IsEdge fans (suc n) e → Tells others below n e
   tells n e is =
       let inside : suc n < length fans = get_inside fans (suc n) is.fan is.there in
       let near : n < below = omega (arith, inside, w.many) in
       let f = w.each n near in
       let same : f.fan ≡ is.fan = one_some (sym f.there ∙ ap (slice_get fans) (plus_one n) ∙ is.there) in
-      let there : slice_get (edges_to n (next n) below) is.place ≡ Some e = ap (λ l. slice_get l is.place) (sym f.is ∙ ap (λ x. x.edges.items) same) ∙ is.is in
-      tells_one next (next n) refl is.place e there
+      let there : slice_get (edges_to n (others n) below) is.place ≡ Some e = ap (λ l. slice_get l is.place) (sym f.is ∙ ap (λ x. x.edges.items) same) ∙ is.is in
+      tells_among others (others n) (λ k h. h) is.place e there
 
   -- where a walk has come to that has begun
   end_some : (n : ℕ) (es : List Edge) → IsWalk fans (suc n) es → (x : ℕ) × (led_to (suc n) es ≡ suc x)
@@ -96,17 +120,18 @@ module _ {next : ℕ → Option ℕ} {below : ℕ} {fans : List Fan} (w : AreWai
   first_who a b [] walk end = let same : a ≡ b = cc in ap Some (sym same)
   first_who a b (e ∷ es) walk end = ap Some (tells a e walk.0).who
 
-  along : (a b : ℕ) (es : List Edge) → IsWalk fans (suc a) es → led_to (suc a) es ≡ suc b → (i m : ℕ) → slice_get (whos es) i ≡ Some m → next m ≡ slice_get (whos es ++ b ∷ []) (suc i)
-  along a b [] walk end i m there = absurd cc
-  along a b (e ∷ es) walk end zero m there =
+  along : (a b : ℕ) (es : List Edge) → IsWalk fans (suc a) es → led_to (suc a) es ≡ suc b → (i m k : ℕ) → slice_get (whos es) i ≡ Some m → slice_get (whos es ++ b ∷ []) (suc i) ≡ Some k → IsTrue (is_held (others m) k)
+  along a b [] walk end i m k there next = absurd cc
+  along a b (e ∷ es) walk end zero m k there next =
       let t = tells a e walk.0 in
-      let same : e.choice.which ≡ m = one_some there in
+      let same : a ≡ m = sym t.who ∙ one_some there in
       let rest : IsWalk fans (suc t.other) es = subst (λ k. IsWalk fans k es) t.to walk.1 in
-      ap next (sym same ∙ t.who) ∙ t.waits ∙ sym (first_who t.other b es rest (ap (λ k. led_to k es) (sym t.to) ∙ end))
-  along a b (e ∷ es) walk end (suc i) m there =
+      let is : t.other ≡ k = one_some (sym (first_who t.other b es rest (ap (λ k. led_to k es) (sym t.to) ∙ end)) ∙ next) in
+      subst (λ x. IsTrue (is_held (others x) k)) same (subst (λ x. IsTrue (is_held (others a) x)) is t.waits)
+  along a b (e ∷ es) walk end (suc i) m k there next =
       let t = tells a e walk.0 in
       let rest : IsWalk fans (suc t.other) es = subst (λ k. IsWalk fans k es) t.to walk.1 in
-      along t.other b es rest (ap (λ k. led_to k es) (sym t.to) ∙ end) i m there
+      along t.other b es rest (ap (λ k. led_to k es) (sym t.to) ∙ end) i m k there next
 
   -- ---- a way round is a circle
 
@@ -133,18 +158,18 @@ module _ {next : ℕ → Option ℕ} {below : ℕ} {fans : List Fan} (w : AreWai
           let some : 0 < length ws = omega (arith, inside) in
           ap (slice_get (ws ++ a ∷ [])) is ∙ push_end ws a ∙ sym (sym (push_inside ws a 0 some) ∙ start) ∙ ap (slice_get ws) (sym zero_is)
 
-  circles_from : (a : ℕ) (es : List Edge) → IsWalk fans (suc a) es → led_to (suc a) es ≡ suc a → Circles next (whos es)
-  circles_from a es walk back i m there =
-      along a a es walk back i m there ∙ turned (whos es) a i (first_who a a es walk back) (get_inside (whos es) i m there)
+  circles_from : (a : ℕ) (es : List Edge) → IsWalk fans (suc a) es → led_to (suc a) es ≡ suc a → Circles others (whos es)
+  circles_from a es walk back i m k there next =
+      along a a es walk back i m k there (turned (whos es) a i (first_who a a es walk back) (get_inside (whos es) i m there) ∙ next)
 
-  round_circles : (v : ℕ) (es : List Edge) → 0 < length es → IsWalk fans v es → led_to v es ≡ v → Circles next (whos es)
+  round_circles : (v : ℕ) (es : List Edge) → 0 < length es → IsWalk fans v es → led_to v es ≡ v → Circles others (whos es)
   round_circles v [] some walk back = absurd (omega (arith, some))
   round_circles v (e ∷ es) some walk back =
       let led = leads v e es walk in
       let is : v ≡ suc led.0 = sym back ∙ led.1 in
       circles_from led.0 (e ∷ es) (subst (λ k. IsWalk fans k (e ∷ es)) is walk) (subst (λ k. led_to k (e ∷ es) ≡ k) is back)
 
-  pub found_circle : (way round : List Edge) → IsRound fans way round → Circles next (map (λ e. e.choice.which) round)
+  pub found_circle : (way round : List Edge) → IsRound fans way round → Circles others (map (λ e. e.choice.which) round)
   found_circle way round r = round_circles (led_to 0 way) round r.some r.leaves r.returns
 
   -- ---- round a circle there are walks of any length
@@ -154,21 +179,14 @@ module _ {next : ℕ → Option ℕ} {below : ℕ} {fans : List Fan} (w : AreWai
       let inside : i < length ms = get_inside ms i m there in
       subst (λ k. k < below) (one_some (sym (get_there ms i m inside) ∙ there)) (h i m inside)
 
-  waits_edge : (m other : ℕ) → m < below → other < below → next m ≡ Some other → IsEdge fans (suc m) (edge_to m other)
+  waits_edge : (m other : ℕ) → m < below → other < below → IsTrue (is_held (others m) other) → IsEdge fans (suc m) (edge_to m other)
   waits_edge m other near within is =
       let f = w.each m near in
-      let test : nat_lt other below ≡ true = grind (arith, nat_tests) in
-      record {
-        fan = f.fan;
-        place = 0;
-        there = ap (slice_get fans) (sym plus) ∙ f.there;
-        is = ap (λ l. slice_get l 0) (f.is ∙ ap (λ x. edges_to m x below) is ∙ ap (λ b. if b then edge_to m other ∷ [] else []) test);
-      }
-    where
-      plus : m + 1 ≡ suc m
-      plus = omega arith
+      let x = edge_among m below other (others m) within is in
+      let plus : m + 1 ≡ suc m = omega arith in
+      record { fan = f.fan; place = x.0; there = ap (slice_get fans) (sym plus) ∙ f.there; is = ap (λ l. slice_get l x.0) f.is ∙ x.1 }
 
-  round_walk : (ms : List ℕ) → Circles next ms → All (λ x. x < below) ms → (many i m : ℕ) → slice_get ms i ≡ Some m → HasWalk fans (suc m) many
+  round_walk : (ms : List ℕ) → Circles others ms → All (λ x. x < below) ms → (many i m : ℕ) → slice_get ms i ≡ Some m → HasWalk fans (suc m) many
   round_walk ms c all zero i m there = record { edges = []; walk = tt; as_many = refl }
   round_walk ms c all (suc many) i m there =
       let inside : i < length ms = get_inside ms i m there in
@@ -176,13 +194,13 @@ module _ {next : ℕ → Option ℕ} {below : ℕ} {fans : List Fan} (w : AreWai
       let j = (i + 1) % length ms in
       let near : j < length ms = mod_below (i + 1) (length ms) some in
       let got = get_some ms j near in
-      let is : next m ≡ Some got.0 = c i m there ∙ got.1 in
+      let is : IsTrue (is_held (others m) got.0) = c i m got.0 there got.1 in
       let rest = round_walk ms c all many j got.0 got.1 in
       let edge = waits_edge m got.0 (all_at ms i m all there) (all_at ms j got.0 all got.1) is in
       let to : suc got.0 ≡ got.0 + 1 = omega arith in
       record { edges = edge_to m got.0 ∷ rest.edges; walk = (edge, subst (λ k. IsWalk fans k rest.edges) to rest.walk); as_many = let h = rest.as_many in omega (arith, h) }
 
-  pub no_circle : (many : ℕ) → IsLongest fans 0 many → (ms : List ℕ) → Circles next ms → All (λ x. x < below) ms → ms ≡ []
+  pub no_circle : (many : ℕ) → IsLongest fans 0 many → (ms : List ℕ) → Circles others ms → All (λ x. x < below) ms → ms ≡ []
   no_circle many longest [] c all = refl
   no_circle many longest (m ∷ ms) c all =
       let rest = round_walk (m ∷ ms) c all many 0 m refl in
@@ -207,13 +225,13 @@ module _ {below : ℕ} where
       let to : place + 1 ≡ e.to = ap (λ x. x.to) is in
       (omega (arith, near, to), sym (ap (λ x. x.behind) is))
 
-  fan_within : (n : ℕ) (x : Option ℕ) (place : ℕ) (e : Edge) → slice_get (edges_to n x below) place ≡ Some e → (e.to ≤ below) × (e.behind ≡ 0)
-  fan_within n x place e there = let same : ℕ → Option ℕ = λ k. x in let t = tells_one same x refl place e there in (omega (arith, t.to, t.within), t.single)
+  fan_within : (n : ℕ) (xs : List ℕ) (place : ℕ) (e : Edge) → slice_get (edges_to n xs below) place ≡ Some e → (e.to ≤ below) × (e.behind ≡ 0)
+  fan_within n xs place e there = let t = tells_among (λ k. xs) xs (λ k h. h) place e there in (omega (arith, t.to, t.within), t.single)
 
   pub first_within : (fan : Fan) → IsRoot below fan.edges.items → LeadWithin below 0 (fan ∷ [])
   first_within fan r = record { many = refl; within = λ k e is. let o = only_edge fan k e is in root_within fan.edges.items r o.1.0 e o.1.1 }
 
-  pub next_within : (fans : List Fan) (fan : Fan) (count : ℕ) (x : Option ℕ) → LeadWithin below count fans → fan.edges.items ≡ edges_to count x below → LeadWithin below (count + 1) (fans ++ fan ∷ [])
+  pub next_within : (fans : List Fan) (fan : Fan) (count : ℕ) (x : List ℕ) → LeadWithin below count fans → fan.edges.items ≡ edges_to count x below → LeadWithin below (count + 1) (fans ++ fan ∷ [])
   next_within fans fan count x h is =
       record {
         many = let l = length-append fans (fan ∷ []) in omega (arith, l, h.many);
@@ -224,11 +242,11 @@ module _ {below : ℕ} where
       by k e edge (inl old) = h.within k e (record { fan = edge.fan; place = edge.place; there = old; is = edge.is })
       by k e edge (inr new) = fan_within count x edge.place e (ap (λ l. slice_get l edge.place) (sym is ∙ ap (λ y. y.edges.items) new.1) ∙ edge.is)
 
-  pub first_waits : (next : ℕ → Option ℕ) (fan : Fan) → IsRoot below fan.edges.items → AreWaits next below 0 (fan ∷ [])
-  first_waits next fan r = record { many = refl; root = fan; first = refl; is_root = r; each = λ n h. absurd (omega (arith, h)) }
+  pub first_waits : (others : ℕ → List ℕ) (fan : Fan) → IsRoot below fan.edges.items → AreWaits others below 0 (fan ∷ [])
+  first_waits others fan r = record { many = refl; root = fan; first = refl; is_root = r; each = λ n h. absurd (omega (arith, h)) }
 
-  pub next_waits : (next : ℕ → Option ℕ) (fans : List Fan) (fan : Fan) (count : ℕ) → AreWaits next below count fans → fan.edges.items ≡ edges_to count (next count) below → AreWaits next below (count + 1) (fans ++ fan ∷ [])
-  next_waits next fans fan count w is =
+  pub next_waits : (others : ℕ → List ℕ) (fans : List Fan) (fan : Fan) (count : ℕ) → AreWaits others below count fans → fan.edges.items ≡ edges_to count (others count) below → AreWaits others below (count + 1) (fans ++ fan ∷ [])
+  next_waits others fans fan count w is =
       record {
         many = let l = length-append fans (fan ∷ []) in omega (arith, l, w.many);
         root = w.root;
@@ -237,12 +255,12 @@ module _ {below : ℕ} where
         each = λ n h. by n h (lt_or_le n count);
       }
     where
-      by : (n : ℕ) → n < count + 1 → (n < count) ⊎ (count ≤ n) → IsFanOf next below n (fans ++ fan ∷ [])
+      by : (n : ℕ) → n < count + 1 → (n < count) ⊎ (count ≤ n) → IsFanOf others below n (fans ++ fan ∷ [])
       by n h (inl near) = let f = w.each n near in record { fan = f.fan; there = push_keeps fans fan f.fan (n + 1) f.there; is = f.is }
       by n h (inr past) =
           let same : n ≡ count = omega (arith, h, past) in
           let place : length fans ≡ n + 1 = omega (arith, w.many, same) in
-          record { fan = fan; there = ap (slice_get (fans ++ fan ∷ [])) (sym place) ∙ push_last fans fan; is = is ∙ ap (λ k. edges_to k (next k) below) (sym same) }
+          record { fan = fan; there = ap (slice_get (fans ++ fan ∷ [])) (sym place) ∙ push_last fans fan; is = is ∙ ap (λ k. edges_to k (others k) below) (sym same) }
 
   pub within_graph : (fans : List Fan) → below ≤ 4294967294 → LeadWithin below below fans → IsGraph fans
   within_graph fans h w =
@@ -271,17 +289,17 @@ root_next edges count r =
 
 -- ---- what is told
 
-module _ {next : ℕ → Option ℕ} {below : ℕ} {fans : List Fan} (w : AreWaits next below below fans) where
-  pub no_waits : (many : ℕ) → IsLongest fans 0 many → IsCircle next below []
-  no_waits many longest = record { waits = λ i m there. absurd cc; once = λ i j m there again. absurd cc; unless = λ e ms circles all. no_circle w many longest ms circles all }
+module _ {others : ℕ → List ℕ} {below : ℕ} {fans : List Fan} (w : AreWaits others below below fans) where
+  pub no_waits : (many : ℕ) → IsLongest fans 0 many → IsCircle others below []
+  no_waits many longest = record { waits = λ i m k there next. absurd cc; once = λ i j m there again. absurd cc; unless = λ e ms circles all. no_circle w many longest ms circles all }
 
-  pub some_circles : (way round : List Edge) → IsRound fans way round → (0 < length (map (λ e. e.choice.which) round)) × Circles next (map (λ e. e.choice.which) round)
+  pub some_circles : (way round : List Edge) → IsRound fans way round → (0 < length (map (λ e. e.choice.which) round)) × Circles others (map (λ e. e.choice.which) round)
   some_circles way round r =
       let many : length (map (λ e. e.choice.which) round) ≡ length round = length-map round (λ e. e.choice.which) in
       let some = r.some in
       (omega (arith, many, some), found_circle w way round r)
 
 -- what is told of some in a ring
-pub ring_is : (next : ℕ → Option ℕ) (below : ℕ) (ns : List ℕ) → IsRing next ns → IsCircle next below ns
-ring_is next below [] r = let some = r.some in absurd (omega (arith, some))
-ring_is next below (n ∷ ns) r = record { waits = r.waits; once = r.once; unless = λ e ms circles all. absurd cc }
+pub ring_is : (others : ℕ → List ℕ) (below : ℕ) (ns : List ℕ) → IsRing others ns → IsCircle others below ns
+ring_is others below [] r = let some = r.some in absurd (omega (arith, some))
+ring_is others below (n ∷ ns) r = record { waits = r.waits; once = r.once; unless = λ e ms circles all. absurd cc }

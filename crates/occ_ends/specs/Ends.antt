@@ -1,13 +1,16 @@
 -- Which processes that are left may be at the ends of channels, and who waits for whom.
 -- Manual: the usage rules check list, for what a process may input from and output to. The rest is (own).
-use Rattle.std.specs.Prelude.{All, Bool, List, None, Option, Some, [], false, if◌then◌else◌, length, map, nat_lt, option_map, reverse, slice_get, true, ℕ, ◌%◌, ◌&&◌, ◌+◌, ◌++◌, ◌<◌, ◌≤◌, ◌∷◌, ◌≡◌, ◌⊎◌, Vec}
+use Rattle.std.specs.Prelude.{All, Bool, IsTrue, List, None, Option, Some, [], false, if◌then◌else◌, length, map, nat_lt, option_map, option_to_list, reverse, slice_get, true, ℕ, ◌%◌, ◌&&◌, ◌+◌, ◌++◌, ◌<◌, ◌≤◌, ◌∷◌, ◌≡◌, ◌⊎◌, Vec}
+use Rattle.std.specs.Option.{option_and_then}
+use Rattle.occ_term.specs.Frames.{is_held}
 use Rattle.occ_term.specs.Processes.{Numbered, processes_of}
 use Rattle.occ_term.specs.Terms.{Term}
 use Rattle.occ_term.specs.Uses.{Numbers, Uses, uses_of}
+use Rattle.occ_machine.specs.declared.task.Arm.{Arm}
 use Rattle.occ_machine.specs.declared.task.Task.{Task}
 use Rattle.occ_machine.specs.declared.task.Wait.{Wait}
 use Rattle.occ_machine.specs.declared.task.Wait.TheVariants.{Ready, Took, Offers, Awaits, Chooses, Joins, Halted, Done, Faulted}
-use Rattle.occ_net_replay.specs.Replay.{Tasks, Net}
+use Rattle.occ_net_replay.specs.Replay.{Tasks, ready_from}
 use Rattle.occ_net_tables.specs.Keys.{flat}
 use Rattle.occ_usage.specs.Noted.{uses_in}
 use Rattle.occ_explore_walks.specs.declared.graph.Edge.{Edge}
@@ -16,9 +19,8 @@ use Rattle.occ_explore_walks.specs.Walks.{IsEdge}
 use Rattle.occ_ends.specs.declared.uses.ProcessUses.{ProcessUses}
 use Rattle.occ_ends.specs.declared.ends.Ends.{Ends}
 use Rattle.occ_usage.specs.declared.noted.Use.{Use}
-use Rattle.occ_machine.specs.Compiled.{Program}
 use Rattle.occ_net_tables.specs.declared.tables.Tables.{Tables}
-use Rattle.occ_net_tables.specs.Holding.{HeldBy, Holds}
+use Rattle.occ_net_tables.specs.Holding.{HeldBy}
 
 -- ---- what processes use
 
@@ -66,11 +68,11 @@ first_with stand kind c [] = None
 first_with stand kind c (p ∷ ps) = if stand p.number && kind p.uses c then Some p.number else first_with stand kind c ps
 
 -- who may input from a channel, of those that stand; by the usage rules no two may
-abbrev pub who_reads : Term → Tasks → ℕ → Option ℕ
-who_reads t tasks c = first_with (stands tasks) (λ u. u.ins) c (all_using t)
+abbrev pub reader_among : List Using → Tasks → ℕ → Option ℕ
+reader_among us tasks c = first_with (stands tasks) (λ u. u.ins) c us
 
-abbrev pub who_writes : Term → Tasks → ℕ → Option ℕ
-who_writes t tasks c = first_with (stands tasks) (λ u. u.outs) c (all_using t)
+abbrev pub writer_among : List Using → Tasks → ℕ → Option ℕ
+writer_among us tasks c = first_with (stands tasks) (λ u. u.outs) c us
 
 -- of so many channels
 abbrev pub of_declared : ℕ → (ℕ → Option ℕ) → ℕ → Option ℕ
@@ -79,49 +81,67 @@ of_declared channels end c = if nat_lt c channels then end c else None
 abbrev pub end_noted : List (Option ℕ) → ℕ → Option ℕ
 end_noted ends c = flat (slice_get ends c)
 
-pub record AreEnds (t : Term) (tasks : Tasks) (channels : ℕ) (ends : Ends) : Type 0 where
-  pub readers : (c : ℕ) → end_noted ends.readers.items c ≡ of_declared channels (who_reads t tasks) c
-  pub writers : (c : ℕ) → end_noted ends.writers.items c ≡ of_declared channels (who_writes t tasks) c
+-- by what processes use
+pub record AreEnds (us : List Using) (tasks : Tasks) (channels : ℕ) (ends : Ends) : Type 0 where
+  pub readers : (c : ℕ) → end_noted ends.readers.items c ≡ of_declared channels (reader_among us tasks) c
+  pub writers : (c : ℕ) → end_noted ends.writers.items c ≡ of_declared channels (writer_among us tasks) c
 
 -- ---- who waits for whom
 
--- whom a process waits for that offers a message, or awaits one: who is at the channel's other end
-abbrev pub waits_on : (reader writer : ℕ → Option ℕ) → Wait → Option ℕ
-waits_on reader writer Ready = None
-waits_on reader writer (Took arm indices m) = None
-waits_on reader writer (Offers c m) = reader c
-waits_on reader writer (Awaits c) = writer c
-waits_on reader writer (Chooses pri arms) = None
-waits_on reader writer (Joins ns) = None
-waits_on reader writer Halted = None
-waits_on reader writer Done = None
-waits_on reader writer (Faulted e) = None
+-- who may output to the channel of an arm; an arm with SKIP has none
+abbrev pub arm_writer : (writer : ℕ → Option ℕ) → Arm → Option ℕ
+arm_writer writer a = option_and_then writer a.chan
 
-abbrev pub task_waits_for : (reader writer : ℕ → Option ℕ) → Option (Option Task) → Option ℕ
-task_waits_for reader writer None = None
-task_waits_for reader writer (Some None) = None
-task_waits_for reader writer (Some (Some t)) = waits_on reader writer t.wait
+abbrev pub arm_writers : (writer : ℕ → Option ℕ) → List Arm → List ℕ
+arm_writers writer [] = []
+arm_writers writer (a ∷ arms) = option_to_list (arm_writer writer a) ++ arm_writers writer arms
 
-abbrev pub next_of : (reader writer : ℕ → Option ℕ) → Tasks → ℕ → Option ℕ
-next_of reader writer tasks n = task_waits_for reader writer (slice_get tasks n)
+-- Whom a process waits for: who is at the other end of the channel on which it offers a message, or awaits one. One that chooses waits for
+-- those of each arm, but only where no process can go on: else another arm may still be served.
+abbrev pub waits_on : (reader writer : ℕ → Option ℕ) → (still : Bool) → Wait → List ℕ
+waits_on reader writer still Ready = []
+waits_on reader writer still (Took arm indices m) = []
+waits_on reader writer still (Offers c m) = option_to_list (reader c)
+waits_on reader writer still (Awaits c) = option_to_list (writer c)
+waits_on reader writer still (Chooses pri arms) = if still then arm_writers writer arms else []
+waits_on reader writer still (Joins ns) = []
+waits_on reader writer still Halted = []
+waits_on reader writer still Done = []
+waits_on reader writer still (Faulted e) = []
+
+abbrev pub task_waits_for : (reader writer : ℕ → Option ℕ) → (still : Bool) → Option (Option Task) → List ℕ
+task_waits_for reader writer still None = []
+task_waits_for reader writer still (Some None) = []
+task_waits_for reader writer still (Some (Some t)) = waits_on reader writer still t.wait
+
+abbrev pub is_none_left : List ℕ → Bool
+is_none_left [] = true
+is_none_left (n ∷ ns) = false
+
+-- no process can go on
+abbrev pub stands_still : Tasks → Bool
+stands_still tasks = is_none_left (ready_from 0 tasks)
+
+abbrev pub others_of : (reader writer : ℕ → Option ℕ) → Tasks → ℕ → List ℕ
+others_of reader writer tasks n = task_waits_for reader writer (stands_still tasks) (slice_get tasks n)
 
 -- the same, by who is noted
-abbrev pub next_noted : Ends → Tasks → ℕ → Option ℕ
-next_noted ends = next_of (end_noted ends.readers.items) (end_noted ends.writers.items)
+abbrev pub others_noted : Ends → Tasks → ℕ → List ℕ
+others_noted ends = others_of (end_noted ends.readers.items) (end_noted ends.writers.items)
 
 -- each of these waits for the one behind it, and the last one for the first
-abbrev pub Circles : (ℕ → Option ℕ) → List ℕ → Type 0
-Circles next ns = (i m : ℕ) → slice_get ns i ≡ Some m → next m ≡ slice_get ns ((i + 1) % length ns)
+abbrev pub Circles : (ℕ → List ℕ) → List ℕ → Type 0
+Circles others ns = (i m k : ℕ) → slice_get ns i ≡ Some m → slice_get ns ((i + 1) % length ns) ≡ Some k → IsTrue (is_held (others m) k)
 
 -- none of these stands twice
 abbrev pub IsOnce : List ℕ → Type 0
 IsOnce ns = (i j m : ℕ) → slice_get ns i ≡ Some m → slice_get ns j ≡ Some m → i ≡ j
 
 -- A circle, once round; none only where there is none, among processes whose number is below that.
-pub record IsCircle (next : ℕ → Option ℕ) (below : ℕ) (ns : List ℕ) : Type 0 where
-  pub waits : Circles next ns
+pub record IsCircle (others : ℕ → List ℕ) (below : ℕ) (ns : List ℕ) : Type 0 where
+  pub waits : Circles others ns
   pub once : IsOnce ns
-  pub unless : ns ≡ [] → (ms : List ℕ) → Circles next ms → All (λ m. m < below) ms → ms ≡ []
+  pub unless : ns ≡ [] → (ms : List ℕ) → Circles others ms → All (λ m. m < below) ms → ms ≡ []
 
 -- ---- private contracts alone cite what follows
 
@@ -153,27 +173,27 @@ pub record MarkedIn (stand : ℕ → Bool) (kind : Uses → Numbers) (ps : List 
 abbrev pub edge_to : ℕ → ℕ → Edge
 edge_to n next = record { to = next + 1; choice = record { which = n; pick = 0 }; behind = 0; tail = 0 }
 
-abbrev pub edges_to : ℕ → Option ℕ → ℕ → List Edge
-edges_to n None below = []
-edges_to n (Some next) below = if nat_lt next below then edge_to n next ∷ [] else []
+abbrev pub edges_to : ℕ → List ℕ → ℕ → List Edge
+edges_to n [] below = []
+edges_to n (m ∷ ms) below = (if nat_lt m below then edge_to n m ∷ [] else []) ++ edges_to n ms below
 
 -- edges from node 0, to each process
 pub record IsRoot (below : ℕ) (edges : List Edge) : Type 0 where
   pub many : length edges ≡ below
   pub are : (n : ℕ) → n < below → slice_get edges n ≡ Some (edge_to n n)
 
-pub record IsFanOf (next : ℕ → Option ℕ) (below n : ℕ) (fans : List Fan) : Type 0 where
+pub record IsFanOf (others : ℕ → List ℕ) (below n : ℕ) (fans : List Fan) : Type 0 where
   pub fan : Fan
   pub there : slice_get fans (n + 1) ≡ Some fan
-  pub is : fan.edges.items ≡ edges_to n (next n) below
+  pub is : fan.edges.items ≡ edges_to n (others n) below
 
 -- node 0, and those of the first so many processes
-pub record AreWaits (next : ℕ → Option ℕ) (below count : ℕ) (fans : List Fan) : Type 0 where
+pub record AreWaits (others : ℕ → List ℕ) (below count : ℕ) (fans : List Fan) : Type 0 where
   pub many : length fans ≡ count + 1
   pub root : Fan
   pub first : slice_get fans 0 ≡ Some root
   pub is_root : IsRoot below root.edges.items
-  pub each : (n : ℕ) → n < count → IsFanOf next below n fans
+  pub each : (n : ℕ) → n < count → IsFanOf others below n fans
 
 -- no edge leads further
 pub record LeadWithin (below count : ℕ) (fans : List Fan) : Type 0 where
@@ -182,34 +202,42 @@ pub record LeadWithin (below count : ℕ) (fans : List Fan) : Type 0 where
 
 -- ---- once round a circle
 
--- the first of these comes again at this place, or not at all, which is then behind the last
-pub record IsAgain (ns : List ℕ) (place : ℕ) : Type 0 where
-  pub some : 0 < place
-  pub within : place ≤ length ns
-  pub first : (k : ℕ) → k < place → slice_get ns k ≡ slice_get ns 0 → k ≡ 0
-  pub again : (place ≡ length ns) ⊎ (slice_get ns place ≡ slice_get ns 0)
+-- the one at this place does not stand before it
+abbrev pub IsFresh : List ℕ → ℕ → Type 0
+IsFresh ns place = (k : ℕ) → k < place → slice_get ns k ≡ slice_get ns place → ⊥
+
+-- from `first` on none stands twice before `end`, where the first of them comes again; or none of all does
+pub record IsAgain (ns : List ℕ) (first end : ℕ) : Type 0 where
+  pub some : first < end
+  pub within : end ≤ length ns
+  pub apart : (i j : ℕ) → i < j → j < end → slice_get ns i ≡ slice_get ns j → ⊥
+  pub again : ((first ≡ 0) × (end ≡ length ns)) ⊎ (slice_get ns end ≡ slice_get ns first)
 
 -- some that stand in a circle, none twice
-pub record IsRing (next : ℕ → Option ℕ) (ns : List ℕ) : Type 0 where
+pub record IsRing (others : ℕ → List ℕ) (ns : List ℕ) : Type 0 where
   pub some : 0 < length ns
-  pub waits : Circles next ns
+  pub waits : Circles others ns
   pub once : IsOnce ns
 
 -- ---- of whatever network the tables hold, and of a term whose uses these are
 
 -- whom a process waits for, by who is noted
-abbrev pub waits_noted : Ends → Wait → Option ℕ
-waits_noted ends wait = waits_on (end_noted ends.readers.items) (end_noted ends.writers.items) wait
+abbrev pub waits_noted : Ends → Bool → Wait → List ℕ
+waits_noted ends still wait = waits_on (end_noted ends.readers.items) (end_noted ends.writers.items) still wait
+
+-- those that a process waits for
+abbrev pub ListsOthers : {A : Type 0} → Ends → Tables → ℕ → Vec ℕ A → Type 0
+ListsOthers ends tables n others = HeldBy tables (λ net. others.items ≡ others_noted ends net.tasks n)
 
 abbrev pub HoldWaits : {A : Type 0} → Ends → Tables → ℕ → Vec Fan A → Type 0
-HoldWaits ends tables below fans = HeldBy tables (λ net. AreWaits (next_noted ends net.tasks) below below fans.items)
+HoldWaits ends tables below fans = HeldBy tables (λ net. AreWaits (others_noted ends net.tasks) below below fans.items)
 
 abbrev pub HoldsCircle : {A : Type 0} → Ends → Tables → ℕ → Vec ℕ A → Type 0
-HoldsCircle ends tables below ns = HeldBy tables (λ net. IsCircle (next_noted ends net.tasks) below ns.items)
+HoldsCircle ends tables below ns = HeldBy tables (λ net. IsCircle (others_noted ends net.tasks) below ns.items)
 
 -- whoever is next: what circles, some, makes this ring
 abbrev pub MakesRing : (ns ring : List ℕ) → Type 0
-MakesRing ns ring = (next : ℕ → Option ℕ) → 0 < length ns → Circles next ns → IsRing next ring
+MakesRing ns ring = (others : ℕ → List ℕ) → 0 < length ns → Circles others ns → IsRing others ring
 
 abbrev pub MarksReaders : Ends → List Use → ℕ → Ends → Type 0
 MarksReaders old uses n new = Marks old.readers.items (uses_in uses).ins n new.readers.items
@@ -221,9 +249,7 @@ abbrev pub MarksAll : Tables → (Uses → Numbers) → List ProcessUses → (ol
 MarksAll tables kind ps old new = HeldBy tables (λ net. MarkedIn (stands net.tasks) kind (map noted_for ps) old new)
 
 abbrev pub AreEndsBy : List ProcessUses → Tables → ℕ → Ends → Type 0
-AreEndsBy ps tables channels ends =
-    (t : Term) (p : Program) (keyboard : List ℕ) (net : Net)
-    → map noted_for ps ≡ all_using t → Holds p keyboard tables net → AreEnds t net.tasks channels ends
+AreEndsBy ps tables channels ends = HeldBy tables (λ net. AreEnds (map noted_for ps) net.tasks channels ends)
 
 -- behind all that stood there
 abbrev pub AddsUses : {A : Type 0} → Vec ProcessUses A → List Numbered → Vec ProcessUses A → Type 0

@@ -1,11 +1,10 @@
 //! Circles of processes that wait for one another.
-ghost use Rattle.std.specs.Prelude.{◌≡◌, ◌<◌, ◌≤◌, IfOk, Option, length, map, min};
-ghost use Rattle.occ_net_tables.specs.Holding.{HeldBy};
-ghost use Rattle.occ_ends.specs.Ends.{HoldWaits, HoldsCircle, IsAgain, IsRoot, LeadWithin, MakesRing, edge_to, edges_to, end_noted, next_noted, waits_noted};
+ghost use Rattle.std.specs.Prelude.{◌≡◌, ◌<◌, ◌≤◌, IfNone, IfOk, IfSome, length, map, min, option_to_list, slice_get};
+ghost use Rattle.occ_ends.specs.Ends.{HoldWaits, HoldsCircle, IsAgain, IsFresh, IsRoot, LeadWithin, ListsOthers, MakesRing, arm_writer, arm_writers, edge_to, edges_to, end_noted, waits_noted};
 
 use crate::ends::Ends;
 use occ_explore_walks::{Edge, Fan, Lasting, lasting};
-use occ_machine::Wait;
+use occ_machine::{Arm, Wait};
 use occ_net_replay::Choice;
 use occ_net_tables::Tables;
 use std::alloc::{AllocError, Global};
@@ -23,43 +22,90 @@ fn noted(ends: &[Option<u32>], chan: u32) -> Option<u32>
     }
 }
 
-/// Whom a process waits for that stands at this.
-fn waits_for(ends: &Ends, wait: &Wait) -> Option<u32>
-    ensures { result ≡ waits_noted ends.now wait.now }
+/// Whom a process waits for at one channel.
+fn alone(alloc: Global, end: Option<u32>) -> Result<Vec<u32>, AllocError>
+    ensures { IfOk result (λ others. others.items ≡ option_to_list end) }
+{
+    let mut others = Vec::new(alloc);
+    if let Some(other) = end {
+        others.push(other)?;
+    }
+    Ok(others)
+}
+
+/// Who may output to the channels of these arms.
+fn arm_writers(alloc: Global, writers: &[Option<u32>], arms: &[Arm]) -> Result<Vec<u32>, AllocError>
+    ensures { IfOk result (λ others. others.items ≡ arm_writers (end_noted writers.now) arms.now) }
+{
+    let mut others = Vec::new(alloc);
+    let mut rest = arms;
+    while let Some((arm, later)) = rest.split_first() {
+        if let Some(other) = arm_writer(writers, arm) {
+            others.push(other)?;
+        }
+        rest = later;
+    }
+    Ok(others)
+}
+
+/// Who may output to the channel of an arm.
+fn arm_writer(writers: &[Option<u32>], arm: &Arm) -> Option<u32>
+    ensures { result ≡ arm_writer (end_noted writers.now) arm.now }
+{
+    match arm.chan {
+        Some(chan) => noted(writers, chan),
+        None => None,
+    }
+}
+
+/// Whom a process waits for that stands at this. Its arms count where no process can go on.
+fn waits_for(alloc: Global, ends: &Ends, still: bool, wait: &Wait) -> Result<Vec<u32>, AllocError>
+    ensures { IfOk result (λ others. others.items ≡ waits_noted ends.now still wait.now) }
 {
     match wait {
-        Wait::Offers { chan, message: _ } => noted(ends.readers.as_slice(), *chan),
-        Wait::Awaits { chan } => noted(ends.writers.as_slice(), *chan),
+        Wait::Offers { chan, message: _ } => alone(alloc, noted(ends.readers.as_slice(), *chan)),
+        Wait::Awaits { chan } => alone(alloc, noted(ends.writers.as_slice(), *chan)),
+        Wait::Chooses { pri: _, arms } if still => {
+            arm_writers(alloc, ends.writers.as_slice(), arms.as_slice())
+        }
         Wait::Ready
         | Wait::Took { .. }
         | Wait::Chooses { .. }
         | Wait::Joins { .. }
         | Wait::Halted
         | Wait::Done
-        | Wait::Faulted(_) => None,
+        | Wait::Faulted(_) => Ok(Vec::new(alloc)),
     }
 }
 
 /// Whom the process with this number waits for.
-fn next_of(ends: &Ends, tables: &Tables, number: u32) -> Option<u32>
-    ensures { HeldBy tables.now (λ net. result ≡ next_noted ends.now net.tasks number) }
+fn others_of(
+    alloc: Global,
+    ends: &Ends,
+    tables: &Tables,
+    number: u32,
+) -> Result<Vec<u32>, AllocError>
+    ensures { IfOk result (ListsOthers ends.now tables.now number) }
 {
+    let still = tables.ready().is_empty();
     match tables.task(number) {
-        Some(task) => waits_for(ends, &task.wait),
-        None => None,
+        Some(task) => waits_for(alloc, ends, still, &task.wait),
+        None => Ok(Vec::new(alloc)),
     }
 }
 
-/// The edge from a process to the one that it waits for; node 0 is none.
-fn fan_of(alloc: Global, number: u32, next: Option<u32>, below: u32) -> Result<Fan, AllocError>
+/// The edges from a process to those that it waits for; node 0 is none.
+fn fan_of(alloc: Global, number: u32, others: &[u32], below: u32) -> Result<Fan, AllocError>
     requires { below ≤ 4294967294 }
-    ensures { IfOk result (λ fan. fan.edges.items ≡ edges_to number next below) }
+    ensures { IfOk result (λ fan. fan.edges.items ≡ edges_to number others.now below) }
 {
     let mut fan = Fan::new(alloc);
-    if let Some(next) = next {
-        if next < below {
-            fan.edges.push(edge(number, next))?;
+    let mut rest = others;
+    while let Some((other, later)) = rest.split_first() {
+        if *other < below {
+            fan.edges.push(edge(number, *other))?;
         }
+        rest = later;
     }
     Ok(fan)
 }
@@ -102,8 +148,8 @@ fn graph(alloc: Global, ends: &Ends, tables: &Tables, below: u32) -> Result<Vec<
     let mut fans = Vec::new(alloc);
     fans.push(root(alloc, below)?)?;
     for number in 0..below {
-        let next = next_of(ends, tables, number);
-        fans.push(fan_of(alloc, number, next, below)?)?;
+        let others = others_of(alloc, ends, tables, number)?;
+        fans.push(fan_of(alloc, number, others.as_slice(), below)?)?;
     }
     Ok(fans)
 }
@@ -119,40 +165,52 @@ fn members(alloc: Global, round: &[Edge]) -> Result<Vec<u32>, AllocError>
     Ok(numbers)
 }
 
-/// Where the first of these comes again; behind the last where it doesn't.
-fn again(numbers: &[u32]) -> usize
-    requires { 0 < length numbers.now }
-    ensures { IsAgain numbers.now result }
+/// Where the number at this place stands before it.
+fn place_before(numbers: &[u32], place: usize) -> Option<usize>
+    requires { place < length numbers.now }
+    ensures before { IfSome result (λ first. first < place) }
+    ensures some { IfSome result
+        (λ first. slice_get numbers.now first ≡ slice_get numbers.now place) }
+    ensures none { IfNone result (IsFresh numbers.now place) }
 {
-    let first = numbers[0];
-    for place in 1..numbers.len() {
-        if numbers[place] == first {
-            return place;
+    for first in 0..place {
+        if numbers[first] == numbers[place] {
+            return Some(first);
         }
     }
-    numbers.len()
+    None
 }
 
-/// The circle that these stand in, once round, where some do.
-fn once_round(numbers: Vec<u32>) -> Vec<u32>
-    ensures { MakesRing numbers.items result.items }
+/// From where to where the first of these comes again that does; they are all where none does.
+fn again(numbers: &[u32]) -> (usize, usize)
+    requires { 0 < length numbers.now }
+    ensures { IsAgain numbers.now result.0 result.1 }
+{
+    for place in 1..numbers.len() {
+        if let Some(first) = place_before(numbers, place) {
+            return (first, place);
+        }
+    }
+    (0, numbers.len())
+}
+
+/// A circle among these, none of them twice, where some stand in one.
+fn once_round(alloc: Global, numbers: &[u32]) -> Result<Vec<u32>, AllocError>
+    ensures { IfOk result (λ ring. MakesRing numbers.now ring.items) }
 {
     if numbers.is_empty() {
-        return numbers;
+        return Ok(Vec::new(alloc));
     }
-    let place = again(numbers.as_slice());
-    let mut kept = numbers;
-    kept.truncate(place);
-    kept
+    let (first, end) = again(numbers);
+    let ring = Vec::from_slice(alloc, &numbers[first..end])?;
+    Ok(ring)
 }
 
 /// Processes each of which waits for the one behind it, and the last one for the first: for it to input what it offers, or to
-/// output what it awaits; none of them twice. None where there are none, among the first `count` processes.
-///
-/// # Errors
-///
-/// A refused growth.
-pub fn circle(
+/// output what it awaits, or what one of its arms does where no process can go on; none of them twice. None where there are none,
+/// among the first `count` processes.
+/// The error is a refused growth.
+pub(crate) fn circle(
     alloc: Global,
     ends: &Ends,
     tables: &Tables,
@@ -166,7 +224,8 @@ pub fn circle(
         Lasting::Within(_) => Ok(Vec::new(alloc)),
         Lasting::Forever { way: _, round } => {
             let numbers = members(alloc, round.as_slice())?;
-            Ok(once_round(numbers))
+            let ring = once_round(alloc, numbers.as_slice())?;
+            Ok(ring)
         }
     }
 }

@@ -1,12 +1,14 @@
-//! Who is at the other ends of channels where a run has not ended, and who waits for whom: [`process_uses`] tells what each process
-//! of a program uses, [`ends_of`] which of those that are left may be at the ends of each channel, and [`circle`] finds processes that
-//! wait for one another in a circle.
+//! Who is at the other ends of channels where a run has not ended, and what kind of stop it has come to: [`process_uses`] tells what
+//! each process of a program uses, [`ends_of`] which of those that are left may be at the ends of each channel, and [`left_in`] finds
+//! processes that wait for one another in a circle, those that were halted, and those that were to come to their ends.
 #![tactic(auto)]
 
-pub mod circling;
+mod circling;
+mod endless;
 pub mod ends;
+pub mod kinds;
 pub mod uses;
 
-pub use circling::circle;
 pub use ends::{Ends, ends_of};
+pub use kinds::{Kind, Left, kind_in, left_in};
 pub use uses::{ProcessUses, process_uses};

@@ -66,170 +66,86 @@ pub enum Class {
     End,
 }
 
-/// The symbols, those of two bytes first.
-static SYMBOLS: [(&[u8], Class); 10] = [
-    (b":=", Class::Assign),
-    (b"::", Class::DoubleColon),
-    (b"<>", Class::Dyadic),
-    (b"<=", Class::Dyadic),
-    (b">=", Class::Dyadic),
-    (b"<<", Class::Dyadic),
-    (b">>", Class::Dyadic),
-    (b"><", Class::Dyadic),
-    (b"/\\", Class::Dyadic),
-    (b"\\/", Class::Dyadic),
+/// The reserved words of each class.
+#[rattlefmt::skip]
+static RESERVED: [(&str, Class); 25] = [
+    ("BOOL BYTE INT", Class::Primitive),
+    ("FALSE TRUE", Class::Truth),
+    ("MOSTNEG MOSTPOS", Class::Most),
+    ("BITNOT NOT SIZE", Class::Monadic),
+    ("AFTER BITAND BITOR MINUS PLUS REM TIMES", Class::Dyadic),
+    ("AND", Class::And),
+    ("OR", Class::Or),
+    ("VAL", Class::Val),
+    ("CHAN", Class::Chan),
+    ("OF", Class::Of),
+    ("PROTOCOL", Class::Protocol),
+    ("PROC", Class::Proc),
+    ("IS", Class::Is),
+    ("CASE", Class::Case),
+    ("ELSE", Class::Else),
+    ("IF", Class::If),
+    ("ALT", Class::Alt),
+    ("PRI", Class::Pri),
+    ("SEQ", Class::Seq),
+    ("PAR", Class::Par),
+    ("WHILE", Class::While),
+    ("FOR", Class::For),
+    ("SKIP", Class::Skip),
+    ("STOP", Class::Stop),
+    (
+        "ANY AT FROM FUNCTION INT16 INT32 INT64 PLACE PLACED PORT PROCESSOR REAL32 REAL64 RESULT RETYPES ROUND TIMER TRUNC VALOF",
+        Class::Reserved,
+    ),
 ];
 
-static MARKS: [(u8, Class); 19] = [
-    (b':', Class::Colon),
-    (b';', Class::Semicolon),
-    (b',', Class::Comma),
-    (b'(', Class::OpenParen),
-    (b')', Class::CloseParen),
-    (b'[', Class::OpenBracket),
-    (b']', Class::CloseBracket),
-    (b'&', Class::Ampersand),
-    (b'?', Class::Question),
-    (b'!', Class::Exclamation),
-    (b'=', Class::Equal),
-    (b'-', Class::Minus),
-    (b'~', Class::Monadic),
-    (b'<', Class::Dyadic),
-    (b'>', Class::Dyadic),
-    (b'+', Class::Dyadic),
-    (b'*', Class::Dyadic),
-    (b'/', Class::Dyadic),
-    (b'\\', Class::Dyadic),
-];
-
-static OPERATORS: [(&[u8], Class); 14] = [
-    (b"AFTER", Class::Dyadic),
-    (b"AND", Class::And),
-    (b"BITAND", Class::Dyadic),
-    (b"BITNOT", Class::Monadic),
-    (b"BITOR", Class::Dyadic),
-    (b"MINUS", Class::Dyadic),
-    (b"MOSTNEG", Class::Most),
-    (b"MOSTPOS", Class::Most),
-    (b"NOT", Class::Monadic),
-    (b"OR", Class::Or),
-    (b"PLUS", Class::Dyadic),
-    (b"REM", Class::Dyadic),
-    (b"SIZE", Class::Monadic),
-    (b"TIMES", Class::Dyadic),
-];
-
-static CONSTRUCTS: [(&[u8], Class); 11] = [
-    (b"ALT", Class::Alt),
-    (b"CASE", Class::Case),
-    (b"ELSE", Class::Else),
-    (b"FOR", Class::For),
-    (b"IF", Class::If),
-    (b"PAR", Class::Par),
-    (b"PRI", Class::Pri),
-    (b"SEQ", Class::Seq),
-    (b"SKIP", Class::Skip),
-    (b"STOP", Class::Stop),
-    (b"WHILE", Class::While),
-];
-
-static DECLARING: [(&[u8], Class); 11] = [
-    (b"BOOL", Class::Primitive),
-    (b"BYTE", Class::Primitive),
-    (b"CHAN", Class::Chan),
-    (b"FALSE", Class::Truth),
-    (b"INT", Class::Primitive),
-    (b"IS", Class::Is),
-    (b"OF", Class::Of),
-    (b"PROC", Class::Proc),
-    (b"PROTOCOL", Class::Protocol),
-    (b"TRUE", Class::Truth),
-    (b"VAL", Class::Val),
-];
-
-static RESERVED: [(&[u8], Class); 19] = [
-    (b"ANY", Class::Reserved),
-    (b"AT", Class::Reserved),
-    (b"FROM", Class::Reserved),
-    (b"FUNCTION", Class::Reserved),
-    (b"INT16", Class::Reserved),
-    (b"INT32", Class::Reserved),
-    (b"INT64", Class::Reserved),
-    (b"PLACE", Class::Reserved),
-    (b"PLACED", Class::Reserved),
-    (b"PORT", Class::Reserved),
-    (b"PROCESSOR", Class::Reserved),
-    (b"REAL32", Class::Reserved),
-    (b"REAL64", Class::Reserved),
-    (b"RESULT", Class::Reserved),
-    (b"RETYPES", Class::Reserved),
-    (b"ROUND", Class::Reserved),
-    (b"TIMER", Class::Reserved),
-    (b"TRUNC", Class::Reserved),
-    (b"VALOF", Class::Reserved),
-];
-
-/// The class of a whole spelling in a table.
-fn listed(table: &[(&[u8], Class)], word: &[u8]) -> Option<Class> {
-    for (spelling, class) in table {
-        if *spelling == word {
-            return Some(*class);
+/// The reserved word that a word is in capitals, and its class.
+pub(crate) fn reserved_like(word: &[u8]) -> Option<(&'static str, Class)> {
+    for (spellings, class) in RESERVED.as_slice() {
+        for spelling in spellings.split_ascii_whitespace() {
+            if spelling.as_bytes().eq_ignore_ascii_case(word) {
+                return Some((spelling, *class));
+            }
         }
     }
     None
-}
-
-/// The tables of reserved words.
-fn reserved_words() -> [&'static [(&'static [u8], Class)]; 4] {
-    [
-        OPERATORS.as_slice(),
-        CONSTRUCTS.as_slice(),
-        DECLARING.as_slice(),
-        RESERVED.as_slice(),
-    ]
 }
 
 /// The class of a word of letters, digits and dots.
 pub(crate) fn class_of(word: &[u8]) -> Class {
-    for table in reserved_words() {
-        if let Some(class) = listed(table, word) {
-            return class;
-        }
+    match reserved_like(word) {
+        Some((spelling, class)) if spelling.as_bytes() == word => class,
+        _ => Class::Name,
     }
-    Class::Name
-}
-
-/// The spelling in a table that a word is in capitals.
-fn spelled_like(table: &[(&'static [u8], Class)], word: &[u8]) -> Option<&'static [u8]> {
-    for (spelling, _class) in table {
-        if spelling.eq_ignore_ascii_case(word) {
-            return Some(*spelling);
-        }
-    }
-    None
-}
-
-/// The reserved word that a word is in capitals.
-pub(crate) fn reserved_like(word: &[u8]) -> Option<&'static [u8]> {
-    for table in reserved_words() {
-        if let Some(spelling) = spelled_like(table, word) {
-            return Some(spelling);
-        }
-    }
-    None
 }
 
 /// The class of a symbol of two bytes.
-pub(crate) fn class_of_two(two: &[u8]) -> Option<Class> {
-    listed(SYMBOLS.as_slice(), two)
+pub(crate) fn class_of_two(one: u8, other: u8) -> Option<Class> {
+    match (one, other) {
+        (b':', b'=') => Some(Class::Assign),
+        (b':', b':') => Some(Class::DoubleColon),
+        (b'<' | b'>', b'<' | b'=' | b'>') | (b'/', b'\\') | (b'\\', b'/') => Some(Class::Dyadic),
+        _ => None,
+    }
 }
 
 /// The class of a symbol of one byte, and of a byte that is none.
 pub(crate) fn class_of_one(byte: u8) -> Class {
-    for (mark, class) in MARKS.as_slice() {
-        if *mark == byte {
-            return *class;
-        }
+    match byte {
+        b':' => Class::Colon,
+        b';' => Class::Semicolon,
+        b',' => Class::Comma,
+        b'(' => Class::OpenParen,
+        b')' => Class::CloseParen,
+        b'[' => Class::OpenBracket,
+        b']' => Class::CloseBracket,
+        b'&' => Class::Ampersand,
+        b'?' => Class::Question,
+        b'!' => Class::Exclamation,
+        b'=' => Class::Equal,
+        b'-' => Class::Minus,
+        b'~' => Class::Monadic,
+        b'<' | b'>' | b'+' | b'*' | b'/' | b'\\' => Class::Dyadic,
+        _ => Class::BadByte,
     }
-    Class::BadByte
 }

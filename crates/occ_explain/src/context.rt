@@ -2,10 +2,38 @@
 
 use crate::class::Class;
 use crate::finding::index_of;
-use crate::grammar::Part;
 use crate::refusal::Refusal;
 use crate::scan::{Text, Word};
 use crate::walk::class_at;
+
+/// What a line may be.
+#[derive(Clone, Copy)]
+pub(crate) enum Start {
+    Top,
+    Process,
+    Choice,
+    Arm,
+    Option,
+    Variant,
+    Cases,
+    Tag,
+}
+
+impl Start {
+    /// Its part of the grammar.
+    pub(crate) fn part(self) -> &'static str {
+        match self {
+            Start::Top => "top",
+            Start::Process => "process",
+            Start::Choice => "choice",
+            Start::Arm => "arm",
+            Start::Option => "option",
+            Start::Variant => "variant",
+            Start::Cases => "cases",
+            Start::Tag => "tag",
+        }
+    }
+}
 
 /// The last PROC at the left margin, and the first line where there is none.
 pub(crate) fn last_proc(text: &Text<'_>) -> usize {
@@ -50,40 +78,28 @@ pub(crate) fn parent_of(text: &Text<'_>, index: usize) -> Option<usize> {
     None
 }
 
-/// Whether the line is `PROTOCOL name`.
-fn begins_protocol(text: &Text<'_>, index: Option<usize>) -> bool {
-    match index {
-        Some(index) => class_at(text.words_at(index), 0) == Class::Protocol,
-        None => false,
-    }
-}
-
 /// Whether the line ends with `? CASE`.
 pub(crate) fn takes_variants(words: &[Word<'_>]) -> bool {
     let last = words.len().saturating_sub(1);
     class_at(words, last) == Class::Case && index_of(words, Class::Question) < words.len()
 }
 
-/// What a line that stands under this one begins with.
-fn part_under(text: &Text<'_>, index: usize) -> Part {
-    let words = text.words_at(index);
-    match class_at(words, 0) {
-        Class::If => Part::Choice,
-        Class::Alt | Class::Pri => Part::Arm,
-        Class::Protocol => Part::Cases,
-        Class::Case if words.len() == 1 && begins_protocol(text, parent_of(text, index)) => {
-            Part::Tag
-        }
-        Class::Case => Part::Option,
-        _ if takes_variants(words) => Part::Variant,
-        _ => Part::Process,
-    }
-}
-
 /// What a line begins with, by the line that it stands under.
-pub(crate) fn start_of(text: &Text<'_>, index: usize) -> Part {
-    match parent_of(text, index) {
-        Some(parent) => part_under(text, parent),
-        None => Part::Top,
+pub(crate) fn start_of(text: &Text<'_>, index: usize) -> Start {
+    let Some(parent) = parent_of(text, index) else {
+        return Start::Top;
+    };
+    let words = text.words_at(parent);
+    match class_at(words, 0) {
+        Class::If => Start::Choice,
+        Class::Alt | Class::Pri => Start::Arm,
+        Class::Protocol => Start::Cases,
+        Class::Case if words.len() == 1 => match parent_of(text, parent) {
+            Some(round) if class_at(text.words_at(round), 0) == Class::Protocol => Start::Tag,
+            _ => Start::Option,
+        },
+        Class::Case => Start::Option,
+        _ if takes_variants(words) => Start::Variant,
+        _ => Start::Process,
     }
 }

@@ -1,7 +1,7 @@
 //! What is found out about a refusal: a place, what is wrong there, and how it is mended.
 
 ghost use Rattle.std.specs.Prelude.{◌≡◌, ◌≤◌, ◌+◌, IfOk, length};
-ghost use Rattle.occ_explain.specs.Causes.{IsCaused, TellsCause, cause_of};
+ghost use Rattle.occ_explain.specs.Causes.{TellsCause, cause_of, is_told_closer};
 ghost use mathlib.Core.List.{IsPrefix};
 
 use crate::breaks::break_finding;
@@ -15,13 +15,12 @@ use crate::large::large_finding;
 use crate::levels::{level_finding, missing_finding};
 use crate::messages::{message_finding, tag_finding};
 use crate::mismatch::mismatch;
-use crate::names::{name_finding, shared_finding};
+use crate::names::{base, shared_finding, twice, unknown};
 use crate::odd::odd_finding;
 use crate::refusal::Refusal;
-use crate::saying::leaving_sentence;
 use crate::scan::{Text, Word};
-use crate::sentence::{Piece, Told, one, plain, word};
-use crate::telling::{piece_text, written};
+use crate::sentence::{Nothing, Piece, Told};
+use crate::telling::written;
 use crate::walk::{class_at, first_leaving};
 use std::alloc::{AllocError, Global};
 
@@ -59,8 +58,8 @@ pub(crate) fn spot_at(words: &[Word<'_>], at: usize) -> Spot {
 
 /// The number of words up to the first of this class, and all where there is none.
 pub(crate) fn index_of(words: &[Word<'_>], class: Class) -> usize {
-    for (i, word) in words.iter().enumerate() {
-        if word.class == class {
+    for i in 0..words.len() {
+        if words[i].class == class {
             return i;
         }
     }
@@ -81,55 +80,52 @@ pub(crate) fn finding_of(
     ensures cause { IfOk result (λ f. TellsCause refusal.now.number f.wrong.items) }
     ensures some { IfOk result (λ f. 1 ≤ length f.wrong.items) }
 {
-    let Some(line) = line_index(text, refusal) else {
-        let spot = Spot {
-            line: refusal.line,
-            before: 0,
-        };
-        return caused(alloc, spot, refusal.number, b"");
-    };
-    match refusal.number {
-        2 | 4 | 5 | 6 => closer(
-            alloc,
-            text,
-            refusal,
-            &odd_finding(text, line, refusal.number),
-        ),
-        20 => unexpected_finding(alloc, text, line, refusal),
-        21 => closer(alloc, text, refusal, &level_finding(text, line)),
-        22 => closer(alloc, text, refusal, &missing_finding(text, line)),
-        30 | 31 => closer(alloc, text, refusal, &name_finding(text, line, refusal)),
-        50 | 51 | 52 => shared_finding(alloc, text, line, refusal),
-        _ => headed(alloc, text, line, refusal),
-    }
-}
-
-/// The cause of a refusal, and a hint.
-fn caused(alloc: Global, spot: Spot, number: u32, hint: &[u8]) -> Result<Finding, AllocError>
-    ensures cause { IfOk result (λ f. f.wrong.items ≡ cause_of number) }
-    ensures some { IfOk result (λ f. 1 ≤ length f.wrong.items) }
-{
-    let wrong = Vec::from_slice(alloc, cause_of(number).as_bytes())?;
-    let hint = Vec::from_slice(alloc, hint)?;
-    Ok(Finding { spot, wrong, hint })
-}
-
-/// What is told in place of the cause; the cause where it says nothing.
-pub(crate) fn closer(
-    alloc: Global,
-    text: &Text<'_>,
-    refusal: &Refusal<'_>,
-    told: &Told,
-) -> Result<Finding, AllocError>
-    ensures { IfOk result (λ f. 1 ≤ length f.wrong.items) }
-{
+    let told = told_of(alloc, text, refusal)?;
     let spot = spot_at(text.words_at(told.line), told.at);
-    let hint = written(alloc, text, refusal.name, &told.hint)?;
-    let wrong = written(alloc, text, refusal.name, &told.wrong)?;
-    if wrong.is_empty() {
-        return caused(alloc, spot, refusal.number, hint.as_slice());
-    }
+    let hint = written(alloc, text, refusal.name, &told, told.hint)?;
+    let wrong = written(alloc, text, refusal.name, &told, told.wrong)?;
+    let wrong = headed(alloc, refusal.number, wrong.as_slice())?;
     Ok(Finding { spot, wrong, hint })
+}
+
+/// Whether what is found out may be told in place of the cause.
+fn is_closer(number: u32) -> bool
+    ensures { result ≡ is_told_closer number }
+{
+    number == 2
+        || number == 4
+        || number == 5
+        || number == 6
+        || number == 20
+        || number == 21
+        || number == 22
+        || number == 30
+        || number == 31
+        || number == 50
+        || number == 51
+        || number == 52
+}
+
+/// What is found out of a refusal, behind its heading where it has one; the cause where nothing is, or may be told in its place.
+fn headed(alloc: Global, number: u32, wrong: &[u8]) -> Result<Vec<u8>, AllocError>
+    ensures cause { IfOk result (λ v. TellsCause number v.items) }
+    ensures some { IfOk result (λ v. 1 ≤ length v.items) }
+{
+    let heading = heading_of(number);
+    if wrong.is_empty() || heading.is_empty() && !is_closer(number) {
+        return Vec::from_slice(alloc, cause_of(number).as_bytes());
+    }
+    with_heading(alloc, heading, wrong)
+}
+
+/// What is found out, behind a heading.
+fn with_heading(alloc: Global, heading: &str, wrong: &[u8]) -> Result<Vec<u8>, AllocError>
+    ensures begun { IfOk result (λ v. IsPrefix heading.now v.items) }
+    ensures longer { IfOk result (λ v. length heading.now + length wrong.now ≤ length v.items) }
+{
+    let mut told = Vec::from_slice(alloc, heading.as_bytes())?;
+    told.extend_from_slice(wrong)?;
+    Ok(told)
 }
 
 /// A semicolon that ends its physical line before the word in this place, or a comma that does so right before it.
@@ -148,40 +144,28 @@ fn break_before(words: &[Word<'_>], at: usize) -> Option<usize> {
     None
 }
 
-/// What to write in place of a semicolon or a comma that ends a line.
-fn unbroken(class: Class) -> &'static str {
-    if class == Class::Semicolon {
-        "write the parts of a SEQ in lines of their own, with nothing between them"
-    } else {
-        "end a declaration with a colon, or go on with its next name"
-    }
-}
-
-/// A line that leaves the grammar.
-fn unexpected(alloc: Global, text: &Text<'_>, line: usize) -> Result<Told, AllocError> {
+/// A line that leaves the grammar; nothing where the words do not tell.
+fn unexpected(alloc: Global, text: &Text<'_>, line: usize) -> Result<Option<Told>, AllocError> {
     let words = text.words_at(line);
-    let start = start_of(text, line);
+    let start = start_of(text, line).part();
     let Some(mut leaving) = first_leaving(alloc, words, start)? else {
-        return Ok(Told {
-            line,
-            at: 0,
-            wrong: plain(cause_of(20)),
-            hint: plain(""),
-        });
+        return Ok(None);
     };
     if leaving.at == 0 {
-        leaving.wanted = Some(start);
+        leaving.wanted = start;
     }
     if let Some(at) = break_before(words, leaving.at) {
-        return Ok(Told {
+        return Ok(Some(Told {
             line,
             at,
-            wrong: one(
-                "`@` at the end of a line, which then goes on in the next one",
-                word(line, at),
-            ),
-            hint: plain(unbroken(class_at(words, at))),
-        });
+            wrong: "`@1` at the end of a line, which then goes on in the next one",
+            hint: if class_at(words, at) == Class::Semicolon {
+                "write the parts of a SEQ in lines of their own, with nothing between them"
+            } else {
+                "end a declaration with a colon, or go on with its next name"
+            },
+            pieces: [Piece::Short(line, at), Nothing, Nothing, Nothing],
+        }));
     }
     let met = Met {
         line,
@@ -189,25 +173,7 @@ fn unexpected(alloc: Global, text: &Text<'_>, line: usize) -> Result<Told, Alloc
         start,
         leaving,
     };
-    Ok(Told {
-        line,
-        at: leaving.at,
-        wrong: leaving_sentence(line, &leaving, class_at(words, leaving.at)),
-        hint: met.advice(),
-    })
-}
-
-/// What is told of a line that leaves the grammar.
-fn unexpected_finding(
-    alloc: Global,
-    text: &Text<'_>,
-    line: usize,
-    refusal: &Refusal<'_>,
-) -> Result<Finding, AllocError>
-    ensures { IfOk result (λ f. 1 ≤ length f.wrong.items) }
-{
-    let told = unexpected(alloc, text, line)?;
-    closer(alloc, text, refusal, &told)
+    Ok(Some(met.told()))
 }
 
 /// Where a refusal of types, kinds, constants or actuals points to, as far as the words tell.
@@ -237,79 +203,53 @@ fn typed_hint(number: u32) -> &'static str {
         41 => "assign one after the other, in a SEQ",
         60 =>
             "each call, and each copy of a replicated PAR, has code of its own: make the copies fewer, or loop within one",
+        32 | 33 | 37 | 39 => "@1",
         _ => "",
     }
 }
 
-/// What is found out by the words of a line, or of the text.
-fn looked_up(
-    alloc: Global,
-    text: &Text<'_>,
-    line: usize,
-    number: u32,
-) -> Result<Option<Told>, AllocError> {
-    match number {
-        7 => Ok(break_finding(text, line)),
-        32 => Ok(kind_finding(text, line)),
-        33 => mismatch(alloc, text, line),
-        34 => Ok(constant_finding(text, line)),
-        36 => Ok(subscript_finding(text, line)),
-        37 => message_finding(alloc, text, line),
-        38 => Ok(tag_finding(text, line)),
-        39 => call_finding(alloc, text, line),
-        42 => Ok(Some(main_finding(text, line))),
-        43 => large_finding(alloc, text),
-        _ => Ok(None),
-    }
-}
-
-/// A refusal whose cause is told with what is found out of it, behind a heading, or else by itself.
-fn headed(
-    alloc: Global,
-    text: &Text<'_>,
-    line: usize,
-    refusal: &Refusal<'_>,
-) -> Result<Finding, AllocError>
-    ensures cause { IfOk result (λ f. IsCaused refusal.now.number f.wrong.items) }
-    ensures some { IfOk result (λ f. 1 ≤ length f.wrong.items) }
-{
-    let heading = heading_of(refusal.number);
-    if !heading.is_empty()
-        && let Some(told) = looked_up(alloc, text, line, refusal.number)?
-    {
-        let found = closer(alloc, text, refusal, &told)?;
-        return with_heading(alloc, heading, found);
-    }
-    typed(alloc, text, line, refusal.number)
-}
-
-/// A finding behind a heading.
-fn with_heading(alloc: Global, heading: &str, found: Finding) -> Result<Finding, AllocError>
-    ensures begun { IfOk result (λ f. IsPrefix heading.now f.wrong.items) }
-    ensures longer { IfOk result (λ f. length heading.now + length found.wrong.items
-        ≤ length f.wrong.items) }
-{
-    let mut wrong = Vec::from_slice(alloc, heading.as_bytes())?;
-    wrong.extend_from_slice(found.wrong.as_slice())?;
-    Ok(Finding {
-        spot: found.spot,
-        wrong,
-        hint: found.hint,
-    })
-}
-
-/// A refusal of types, kinds, constants or actuals.
-fn typed(alloc: Global, text: &Text<'_>, line: usize, number: u32) -> Result<Finding, AllocError>
-    ensures cause { IfOk result (λ f. f.wrong.items ≡ cause_of number) }
-    ensures some { IfOk result (λ f. 1 ≤ length f.wrong.items) }
-{
-    let words = text.words_at(line);
-    let spot = spot_at(words, typed_at(words, number));
-    let hint = if matches!(number, 32 | 33 | 37 | 39) {
-        Piece::Types(line)
-    } else {
-        Piece::Text(typed_hint(number))
+/// What is told of a refusal: what is found out by the words of its line, or of the text, or else the cause at a place of the line.
+fn told_of(alloc: Global, text: &Text<'_>, refusal: &Refusal<'_>) -> Result<Told, AllocError> {
+    let number = refusal.number;
+    let nothing = Told {
+        line: usize::MAX,
+        at: 0,
+        wrong: "",
+        hint: "",
+        pieces: [Nothing, Nothing, Nothing, Nothing],
     };
-    let hint = piece_text(alloc, text, hint)?;
-    caused(alloc, spot, number, hint.as_slice())
+    let Some(line) = line_index(text, refusal) else {
+        return Ok(nothing);
+    };
+    let words = text.words_at(line);
+    let found = match number {
+        2 | 4 | 5 | 6 => Some(odd_finding(text, line)),
+        7 => break_finding(text, line),
+        20 => unexpected(alloc, text, line)?,
+        21 => Some(level_finding(text, line)),
+        22 => Some(missing_finding(text, line)),
+        30 => Some(unknown(text, line, base(refusal.name))),
+        31 => Some(twice(words, line, refusal.name)),
+        32 => kind_finding(text, line),
+        33 => mismatch(text, line),
+        34 => constant_finding(text, line),
+        36 => subscript_finding(text, line),
+        37 => message_finding(text, line),
+        38 => tag_finding(text, line),
+        39 => call_finding(text, line),
+        42 => Some(main_finding(text, line)),
+        43 => large_finding(alloc, text)?,
+        50 | 51 | 52 => Some(shared_finding(text, line, number, refusal.name)),
+        _ => None,
+    };
+    if let Some(found) = found {
+        return Ok(found);
+    }
+    Ok(Told {
+        line,
+        at: typed_at(words, number),
+        hint: typed_hint(number),
+        pieces: [Piece::Types(line), Nothing, Nothing, Nothing],
+        ..nothing
+    })
 }

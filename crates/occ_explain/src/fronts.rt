@@ -19,28 +19,15 @@ fn word(end: usize, class: Class) -> Front {
     }
 }
 
-/// How many bytes at the front are letters, digits or dots.
-fn name_size(bytes: &[u8]) -> usize {
+/// How many bytes at the front are digits of this base; of base 36, how many are letters, digits or dots.
+fn size_of(bytes: &[u8], base: u32) -> usize {
     for (i, byte) in bytes.iter().enumerate() {
-        if !byte.is_ascii_alphanumeric() && *byte != b'.' {
-            return i;
-        }
-    }
-    bytes.len()
-}
-
-fn digit_count(bytes: &[u8]) -> usize {
-    for (i, byte) in bytes.iter().enumerate() {
-        if !byte.is_ascii_digit() {
-            return i;
-        }
-    }
-    bytes.len()
-}
-
-fn hex_digit_count(bytes: &[u8]) -> usize {
-    for (i, byte) in bytes.iter().enumerate() {
-        if !byte.is_ascii_hexdigit() {
+        let is_in = match base {
+            10 => byte.is_ascii_digit(),
+            16 => byte.is_ascii_hexdigit(),
+            _ => byte.is_ascii_alphanumeric() || *byte == b'.',
+        };
+        if !is_in {
             return i;
         }
     }
@@ -63,7 +50,7 @@ fn first(bytes: &[u8], count: usize) -> &[u8] {
 }
 
 fn decimal(bytes: &[u8]) -> Front {
-    let end = digit_count(bytes);
+    let end = size_of(bytes, 10);
     if value(first(bytes, end), 10) > 2_147_483_647 {
         word(end, Class::BadLiteral)
     } else {
@@ -73,8 +60,8 @@ fn decimal(bytes: &[u8]) -> Front {
 
 /// A number in hexadecimal digits. `digits` is what follows the `#`.
 fn pattern(digits: &[u8]) -> Front {
-    match hex_digit_count(digits) {
-        0 => word(name_size(digits).saturating_add(1), Class::BadLiteral),
+    match size_of(digits, 16) {
+        0 => word(size_of(digits, 36).saturating_add(1), Class::BadLiteral),
         // `09ABCDEF` has eight digits, and zeros may lead
         count if count > 8 && value(first(digits, count - 8), 2) > 0 => {
             word(count.saturating_add(1), Class::BadLiteral)
@@ -123,16 +110,14 @@ fn unended(quote: u8, within: Within, size: usize) -> Front {
 
 /// A byte that may not stand at a place, with those of the same character where it is no ASCII.
 fn bad_byte(begin: usize, bytes: &[u8]) -> Front {
-    let others = &bytes[begin.min(bytes.len())..];
-    let end = match others.iter().position(|byte| *byte < 128) {
-        Some(count) => count,
-        None => others.len(),
-    };
-    Front {
-        begin,
-        end: begin.saturating_add(end.clamp(1, 4)),
-        class: Some(Class::BadByte),
+    let mut end = begin;
+    for i in begin..begin.saturating_add(4).min(bytes.len()) {
+        if bytes[i] < 128 {
+            break;
+        }
+        end = i;
     }
+    mistake(begin, end, Class::BadByte)
 }
 
 fn is_character(byte: u8) -> bool {
@@ -176,7 +161,9 @@ fn literal(quote: u8, bytes: &[u8]) -> Front {
 
 /// A symbol, or a byte that begins no word.
 fn symbol(bytes: &[u8]) -> Front {
-    if let Some(class) = class_of_two(first(bytes, 2)) {
+    if let [one, other, ..] = bytes
+        && let Some(class) = class_of_two(*one, *other)
+    {
         return word(2, class);
     }
     match bytes {
@@ -202,7 +189,7 @@ pub(crate) fn front_of(bytes: &[u8]) -> Front {
         [b'\'', ..] => literal(b'\'', bytes),
         [b'"', ..] => literal(b'"', bytes),
         [first_byte, ..] if first_byte.is_ascii_alphabetic() => {
-            let end = name_size(bytes);
+            let end = size_of(bytes, 36);
             word(end, class_of(first(bytes, end)))
         }
         [first_byte, ..] if first_byte.is_ascii_digit() => decimal(bytes),

@@ -2,408 +2,104 @@
 //! occam 2.
 
 use crate::class::{Class, class_of, reserved_like};
-use crate::grammar::Part;
-use crate::saying::is_operator;
+use crate::grammar::{class_in, said_of};
 use crate::scan::Word;
-use crate::sentence::{Piece, Sentence, four, one, plain, two, word};
-use crate::walk::{Leaving, bytes_at, class_at};
+use crate::sentence::{Nothing, Piece, Told};
+use crate::walk::{Leaving, bytes_at, class_at, word_from};
 
-/// Something that has to hold of a place where a line leaves the grammar.
-pub(crate) enum When {
-    /// The line begins with this part.
-    Start(Part),
-    /// This part is wanted.
-    Wanted(Part),
-    /// The line has to end here.
-    Ends,
-    /// Something is over here, as a whole expression.
-    Over,
-    /// The first word.
-    First(&'static [u8]),
-    /// The word before.
-    Before(&'static [u8]),
-    BeforeIs(Class),
-    /// The word before the one before.
-    EarlierIs(Class),
-    /// The word that is met; none at the line's end.
-    Met(&'static [u8]),
-    MetIs(Class),
-    /// The word behind it.
-    Next(&'static [u8]),
-    /// Any word of the line.
-    Somewhere(&'static [u8]),
-}
-
-/// A hint, and all that has to hold where it is given.
-pub(crate) struct Hint {
-    pub(crate) when: &'static [When],
-    pub(crate) says: &'static str,
-}
-
-/// What this profile leaves out, by the word that shows it.
-#[rattlefmt::skip]
-static LEFT_OUT: [Hint; 12] = [
-    Hint { when: &[When::Somewhere(b"TIMER")], says: "this profile of occam 2 has no timers" },
-    Hint { when: &[When::Somewhere(b"AFTER"), When::Somewhere(b"?")], says: "this profile of occam 2 has no timers" },
-    Hint {
-        when: &[When::Somewhere(b"REAL32")],
-        says: "this profile of occam 2 has no real numbers: use INT, for example in hundredths",
-    },
-    Hint {
-        when: &[When::Somewhere(b"REAL64")],
-        says: "this profile of occam 2 has no real numbers: use INT, for example in hundredths",
-    },
-    Hint { when: &[When::Somewhere(b"INT16")], says: "this profile of occam 2 has no INT16: use INT, which has 32 bits" },
-    Hint { when: &[When::Somewhere(b"INT32")], says: "this profile of occam 2 has no INT32: use INT, which has 32 bits" },
-    Hint { when: &[When::Somewhere(b"INT64")], says: "this profile of occam 2 has no INT64: use INT, which has 32 bits" },
-    Hint {
-        when: &[When::Somewhere(b"FUNCTION")],
-        says: "this profile of occam 2 has no FUNCTION: write a PROC that sets a formal",
-    },
-    Hint {
-        when: &[When::Somewhere(b"VALOF")],
-        says: "this profile of occam 2 has no VALOF and RESULT: write a PROC that sets a formal",
-    },
-    Hint {
-        when: &[When::Somewhere(b"RETYPES")],
-        says: "this profile of occam 2 has no RETYPES: convert by INT x, BYTE x and shifts",
-    },
-    Hint {
-        when: &[When::Somewhere(b"FROM")],
-        says: "this profile of occam 2 has no segments of arrays: copy the components in a replicated SEQ",
-    },
-    Hint { when: &[When::Somewhere(b"PORT")], says: "this profile of occam 2 has no ports" },
-];
-
-#[rattlefmt::skip]
-static LEFT_OUT_TOO: [Hint; 9] = [
-    Hint { when: &[When::Somewhere(b"PLACED")], says: "this profile of occam 2 has no PLACED PAR: write PAR" },
-    Hint { when: &[When::Somewhere(b"PLACE")], says: "this profile of occam 2 has no PLACE: leave the line out" },
-    Hint { when: &[When::Somewhere(b"ANY")], says: "this profile of occam 2 has no ANY: write a type, or declare a PROTOCOL" },
-    Hint { when: &[When::Before(b"PRI"), When::Met(b"PAR")], says: "this profile of occam 2 has no PRI PAR: write PAR" },
-    Hint { when: &[When::First(b"INITIAL")], says: "there is no INITIAL: declare the variable, and assign it in a SEQ" },
-    Hint { when: &[When::First(b"VAR")], says: "declare a variable with its type: INT x:" },
-    Hint {
-        when: &[When::Met(b"["), When::BeforeIs(Class::Text)],
-        says: "a string takes no subscript: name it first by VAL s IS \"abc\":",
-    },
-    Hint {
-        when: &[When::Wanted(Part::Expression), When::Met(b"[")],
-        says: "this profile of occam 2 has no lists of values in brackets: assign the components one by one, or use a string for bytes",
-    },
-    Hint {
-        when: &[When::Met(b"IS")],
-        says: "this profile of occam 2 has no abbreviations of variables: use the variable itself, or name a value by VAL x IS y:",
-    },
-];
-
-/// Signs of other languages.
-#[rattlefmt::skip]
-static SIGNS: [Hint; 12] = [
-    Hint { when: &[When::Met(b"/"), When::Next(b"/")], says: "a comment begins with two hyphens: -- like this" },
-    Hint { when: &[When::Before(b"="), When::Met(b"=")], says: "write = for equal" },
-    Hint { when: &[When::Before(b"="), When::Met(b">")], says: "write >= for greater or equal" },
-    Hint { when: &[When::Before(b"="), When::Met(b"<")], says: "write <= for less or equal" },
-    Hint { when: &[When::Met(b"!"), When::Next(b"=")], says: "write <> for unequal" },
-    Hint { when: &[When::Met(b"&"), When::Over], says: "write AND for both" },
-    Hint { when: &[When::Before(b"+"), When::Met(b"+")], says: "write x := x + 1 to add one" },
-    Hint { when: &[When::Met(b"+"), When::Next(b"=")], says: "write x := x + 1 to add one" },
-    Hint { when: &[When::Met(b"MOD")], says: "write \\ or REM for the remainder" },
-    Hint { when: &[When::Start(Part::Choice), When::Met(b":=")], says: "write = to compare, and := to assign" },
-    Hint { when: &[When::Wanted(Part::NamedProcess), When::Met(b"=")], says: "write := to assign, and = to compare" },
-    Hint { when: &[When::Wanted(Part::Placed), When::Met(b"=")], says: "write := to assign, and = to compare" },
-];
-
-#[rattlefmt::skip]
-static CONSTRUCTS: [Hint; 19] = [
-    Hint { when: &[When::First(b"FOR")], says: "write a loop as SEQ i = 0 FOR 10, and its body below, two spaces deeper" },
-    Hint {
-        when: &[When::First(b"WHILE"), When::Met(b"DO")],
-        says: "leave DO out: the body of a WHILE stands in the next line, two spaces deeper",
-    },
-    Hint {
-        when: &[When::Start(Part::Arm), When::First(b"SEQ")],
-        says: "an arm begins with a guard, such as c ? x: write that first, and the SEQ below it",
-    },
-    Hint {
-        when: &[When::Start(Part::Arm), When::First(b"PAR")],
-        says: "an arm begins with a guard, such as c ? x: write that first, and the PAR below it",
-    },
-    Hint {
-        when: &[When::First(b"PROC"), When::Ends, When::Met(b":")],
-        says: "leave this colon out: the one that ends a PROC stands below its body, in a line of its own",
-    },
-    Hint {
-        when: &[When::Ends, When::Met(b"("), When::BeforeIs(Class::Name)],
-        says: "a PROC has no value: let it set a formal, and call it in a line of its own: f (3, x)",
-    },
-    Hint {
-        when: &[When::Start(Part::Choice), When::Met(b"ELSE")],
-        says: "write TRUE for the last choice of an IF; ELSE is for CASE alone",
-    },
-    Hint { when: &[When::First(b"IF")], says: "write IF alone, each condition in a line below it, and its process below that" },
-    Hint { when: &[When::Start(Part::Arm), When::Met(b"SKIP")], says: "write TRUE & SKIP for a guard that is always ready" },
-    Hint { when: &[When::Wanted(Part::Guarded), When::Met(b"!")], says: "a guard is an input: an output cannot be one" },
-    Hint {
-        when: &[When::Wanted(Part::Guarded)],
-        says: "a guard is an input, or a condition with & and an input or SKIP: x > 0 & c ? y",
-    },
-    Hint { when: &[When::Wanted(Part::ForWord)], says: "a replicator has a base and a count, not a last value: i = 0 FOR 10" },
-    Hint {
-        when: &[When::Wanted(Part::Top), When::Met(b":")],
-        says: "leave this colon out: each PROC, and each PROTOCOL with tags, ends with one",
-    },
-    Hint { when: &[When::Wanted(Part::Top)], says: "write processes within a PROC, two spaces deeper than its first line" },
-    Hint {
-        when: &[When::Wanted(Part::NamedProcess), When::MetIs(Class::End)],
-        says: "write brackets behind the name in a call, also if they are empty: f ()",
-    },
-    Hint {
-        when: &[When::Wanted(Part::NamedProcess)],
-        says: "an assignment is x := y, an input is c ? x, an output is c ! x, a call is f (x)",
-    },
-    Hint { when: &[When::Wanted(Part::CloseRound), When::MetIs(Class::End)], says: "close the bracket: write `)`" },
-    Hint { when: &[When::Ends, When::Met(b")")], says: "leave this bracket out: none is open here" },
-    Hint { when: &[When::Over, When::Met(b":")], says: "leave the colon out: only declarations end with one" },
-];
-
-#[rattlefmt::skip]
-static DECLARATIONS: [Hint; 10] = [
-    Hint {
-        when: &[When::Wanted(Part::MoreNames), When::Met(b"[")],
-        says: "write the size of an array before its type: [10]INT a:",
-    },
-    Hint { when: &[When::Wanted(Part::MoreNames), When::MetIs(Class::End)], says: "end the declaration with a colon" },
-    Hint {
-        when: &[When::Wanted(Part::MoreNames), When::Met(b":=")],
-        says: "a declaration gives no value: assign it in a SEQ below",
-    },
-    Hint { when: &[When::Wanted(Part::ColonWord), When::MetIs(Class::End)], says: "end the declaration with a colon" },
-    Hint { when: &[When::Wanted(Part::MoreItems), When::MetIs(Class::End)], says: "end the PROTOCOL with a colon" },
-    Hint { when: &[When::Wanted(Part::IsWord), When::Met(b"=")], says: "write IS to name a value: VAL INT n IS 3:" },
-    Hint { when: &[When::Wanted(Part::OfWord)], says: "write OF behind CHAN: CHAN OF BYTE c:" },
-    Hint {
-        when: &[When::Wanted(Part::MoreFormals), When::Met(b"?")],
-        says: "this profile of occam 2 has no direction marks: leave ? out",
-    },
-    Hint {
-        when: &[When::Wanted(Part::MoreFormals), When::Met(b"!")],
-        says: "this profile of occam 2 has no direction marks: leave ! out",
-    },
-    Hint { when: &[When::Wanted(Part::Expression), When::Met(b"]")], says: "give the array its size: [10]BYTE s:" },
-];
-
-static OPERATORS: [Hint; 8] = [
-    Hint {
-        when: &[When::Wanted(Part::Operand), When::MetIs(Class::Minus)],
-        says: SIGNED,
-    },
-    Hint {
-        when: &[When::Wanted(Part::Operand), When::MetIs(Class::Most)],
-        says: "put brackets round it behind an operator: p <> (MOSTPOS INT)",
-    },
-    Hint {
-        when: &[When::Wanted(Part::Operand), When::MetIs(Class::Primitive)],
-        says: "put brackets round a conversion behind an operator: x + (INT b)",
-    },
-    Hint {
-        when: &[When::Wanted(Part::Operand), When::MetIs(Class::Monadic)],
-        says: "put brackets round an operator with one operand: a AND (NOT b)",
-    },
-    Hint {
-        when: &[When::Over, When::EarlierIs(Class::Monadic)],
-        says: "put brackets round an operator with one operand: (SIZE b) + 1",
-    },
-    Hint {
-        when: &[When::Over, When::EarlierIs(Class::Primitive)],
-        says: "put brackets round a conversion: (INT b) + 1",
-    },
-    Hint {
-        when: &[When::Over, When::MetIs(Class::And)],
-        says: "operators have no precedence: put brackets round each side of AND",
-    },
-    Hint {
-        when: &[When::Over, When::MetIs(Class::Or)],
-        says: "operators have no precedence: put brackets round each side of OR",
-    },
-];
-
-/// The hint where a sign stands behind an operator, which is told with the words of the line where they are few.
-const SIGNED: &str = "put brackets round a sign behind an operator: 3 * (-1)";
-
-/// The last hint that is tried where an operator follows an expression.
-const NO_PRECEDENCE: &str = "operators have no precedence: write (a + b) * c or a + (b * c)";
+/// The hints, each behind all that has to hold where it is given. `in` is the part that the line begins with, `wanted` the one that
+/// is wanted, and `first` the first word. `met` is the word that is met, `before` the one before it and `next` the one behind it;
+/// `like` is a word of the class of the one that is met, `after` of the one before, and `two.before` of the one before that. `some`
+/// is any word of the line. Where it `ends`, the line has to end; where something is `over`, no more of it can stand; and what `joins`
+/// is an operator.
+static HINTS: &str = "\
+some=TIMER / this profile of occam 2 has no timers
+some=AFTER some=? / this profile of occam 2 has no timers
+some=REAL32 / this profile of occam 2 has no real numbers: use INT, for example in hundredths
+some=REAL64 / this profile of occam 2 has no real numbers: use INT, for example in hundredths
+some=INT16 / this profile of occam 2 has no INT16: use INT, which has 32 bits
+some=INT32 / this profile of occam 2 has no INT32: use INT, which has 32 bits
+some=INT64 / this profile of occam 2 has no INT64: use INT, which has 32 bits
+some=FUNCTION / this profile of occam 2 has no FUNCTION: write a PROC that sets a formal
+some=VALOF / this profile of occam 2 has no VALOF and RESULT: write a PROC that sets a formal
+some=RETYPES / this profile of occam 2 has no RETYPES: convert by INT x, BYTE x and shifts
+some=FROM / this profile of occam 2 has no segments of arrays: copy the components in a replicated SEQ
+some=PORT / this profile of occam 2 has no ports
+some=PLACED / this profile of occam 2 has no PLACED PAR: write PAR
+some=PLACE / this profile of occam 2 has no PLACE: leave the line out
+some=ANY / this profile of occam 2 has no ANY: write a type, or declare a PROTOCOL
+before=PRI met=PAR / this profile of occam 2 has no PRI PAR: write PAR
+first=INITIAL / there is no INITIAL: declare the variable, and assign it in a SEQ
+first=VAR / declare a variable with its type: INT x:
+met=[ after=\"s\" / a string takes no subscript: name it first by VAL s IS \"abc\":
+wanted=expression met=[ / this profile of occam 2 has no lists of values in brackets: assign the components one by one, or use a string for bytes
+met=IS / this profile of occam 2 has no abbreviations of variables: use the variable itself, or name a value by VAL x IS y:
+met=/ next=/ / a comment begins with two hyphens: -- like this
+before== met== / write = for equal
+before== met=> / write >= for greater or equal
+before== met=< / write <= for less or equal
+met=! next== / write <> for unequal
+met=& over / write AND for both
+before=+ met=+ / write x := x + 1 to add one
+met=+ next== / write x := x + 1 to add one
+met=MOD / write \\ or REM for the remainder
+in=choice met=:= / write = to compare, and := to assign
+wanted=named.process met== / write := to assign, and = to compare
+wanted=placed met== / write := to assign, and = to compare
+first=FOR / write a loop as SEQ i = 0 FOR 10, and its body below, two spaces deeper
+first=WHILE met=DO / leave DO out: the body of a WHILE stands in the next line, two spaces deeper
+in=arm first=SEQ / an arm begins with a guard, such as c ? x: write that first, and the SEQ below it
+in=arm first=PAR / an arm begins with a guard, such as c ? x: write that first, and the PAR below it
+first=PROC ends met=: / leave this colon out: the one that ends a PROC stands below its body, in a line of its own
+ends met=( after=name / a PROC has no value: let it set a formal, and call it in a line of its own: f (3, x)
+in=choice met=ELSE / write TRUE for the last choice of an IF; ELSE is for CASE alone
+first=IF / write IF alone, each condition in a line below it, and its process below that
+in=arm met=SKIP / write TRUE & SKIP for a guard that is always ready
+wanted=guarded met=! / a guard is an input: an output cannot be one
+wanted=guarded / a guard is an input, or a condition with & and an input or SKIP: x > 0 & c ? y
+wanted=FOR / a replicator has a base and a count, not a last value: i = 0 FOR 10
+wanted=top met=: / leave this colon out: each PROC, and each PROTOCOL with tags, ends with one
+wanted=top / write processes within a PROC, two spaces deeper than its first line
+wanted=named.process met= / write brackets behind the name in a call, also if they are empty: f ()
+wanted=named.process / an assignment is x := y, an input is c ? x, an output is c ! x, a call is f (x)
+wanted=) met= / close the bracket: write `)`
+ends met=) / leave this bracket out: none is open here
+over met=: / leave the colon out: only declarations end with one
+wanted=more.names met=[ / write the size of an array before its type: [10]INT a:
+wanted=more.names met= / end the declaration with a colon
+wanted=more.names met=:= / a declaration gives no value: assign it in a SEQ below
+wanted=: met= / end the declaration with a colon
+wanted=more.items met= / end the PROTOCOL with a colon
+wanted=IS met== / write IS to name a value: VAL INT n IS 3:
+wanted=OF / write OF behind CHAN: CHAN OF BYTE c:
+wanted=more.formals met=? / this profile of occam 2 has no direction marks: leave ? out
+wanted=more.formals met=! / this profile of occam 2 has no direction marks: leave ! out
+wanted=expression met=] / give the array its size: [10]BYTE s:
+wanted=operand like=- / put brackets round a sign behind an operator: 3 * (-1)
+wanted=operand like=MOSTPOS / put brackets round it behind an operator: p <> (MOSTPOS INT)
+wanted=operand like=INT / put brackets round a conversion behind an operator: x + (INT b)
+wanted=operand like=NOT / put brackets round an operator with one operand: a AND (NOT b)
+over two.before=NOT / put brackets round an operator with one operand: (SIZE b) + 1
+over two.before=INT / put brackets round a conversion: (INT b) + 1
+over like=AND / operators have no precedence: put brackets round each side of AND
+over like=OR / operators have no precedence: put brackets round each side of OR
+over joins / operators have no precedence: write (a + b) * c or a + (b * c)";
 
 /// A place where a line leaves the grammar.
 #[derive(Clone, Copy)]
 pub(crate) struct Met<'a> {
     pub(crate) line: usize,
     pub(crate) words: &'a [Word<'a>],
-    pub(crate) start: Part,
+    pub(crate) start: &'static str,
     pub(crate) leaving: Leaving,
 }
 
-impl Met<'_> {
-    fn spells(&self, at: usize, spelling: &[u8]) -> bool {
-        match self.words.get(at) {
-            Some(word) => word.bytes == spelling,
-            None => false,
-        }
-    }
-
-    /// Whether the word so many places before is of this class.
-    fn is_before(&self, places: usize, class: Class) -> bool {
-        let at = self.leaving.at;
-        at >= places && class_at(self.words, at - places) == class
-    }
-
-    fn is_somewhere(&self, spelling: &[u8]) -> bool {
-        for word in self.words {
-            if word.bytes == spelling {
-                return true;
-            }
-        }
-        false
-    }
-
-    fn holds(&self, when: &When) -> bool {
-        let at = self.leaving.at;
-        match when {
-            When::Start(part) => self.start == *part,
-            When::Wanted(part) => self.leaving.wanted == Some(*part),
-            When::Ends => self.leaving.wanted.is_none(),
-            When::Over => self.leaving.over.is_some(),
-            When::First(spelling) => self.spells(0, spelling),
-            When::Before(spelling) => at > 0 && self.spells(at - 1, spelling),
-            When::BeforeIs(class) => self.is_before(1, *class),
-            When::EarlierIs(class) => self.is_before(2, *class),
-            When::Met(spelling) => self.spells(at, spelling),
-            When::MetIs(class) => class_at(self.words, at) == *class,
-            When::Next(spelling) => self.spells(at.saturating_add(1), spelling),
-            When::Somewhere(spelling) => self.is_somewhere(spelling),
-        }
-    }
-
-    fn hint_in(&self, table: &'static [Hint]) -> Option<&'static str> {
-        for hint in table {
-            if hint.when.iter().all(|when| self.holds(when)) {
-                return Some(hint.says);
-            }
-        }
-        None
-    }
-
-    /// The hint that a table has for this place.
-    fn listed_hint(&self) -> &'static str {
-        for table in [
-            LEFT_OUT.as_slice(),
-            LEFT_OUT_TOO.as_slice(),
-            SIGNS.as_slice(),
-            CONSTRUCTS.as_slice(),
-            DECLARATIONS.as_slice(),
-            OPERATORS.as_slice(),
-        ] {
-            if let Some(hint) = self.hint_in(table) {
-                return hint;
-            }
-        }
-        if self.leaving.over.is_some() && is_operator(class_at(self.words, self.leaving.at)) {
-            NO_PRECEDENCE
-        } else {
-            ""
-        }
-    }
-
-    /// Whether AND or OR is met.
-    fn meets_and_or(&self) -> bool {
-        matches!(
-            class_at(self.words, self.leaving.at),
-            Class::And | Class::Or
-        )
-    }
-
-    /// Whether the words before and behind are single operands: `1 + 2` before and `3` behind.
-    fn joins_single_operands(&self) -> bool {
-        let at = self.leaving.at;
-        let joins = match self.leaving.over {
-            Some(Part::Whole) => !self.meets_and_or(),
-            over => over.is_some(),
-        };
-        if at < 3 || !joins {
-            return false;
-        }
-        let before = if at > 3 {
-            class_at(self.words, at - 4)
-        } else {
-            Class::End
-        };
-        is_operator(class_at(self.words, at))
-            && is_single(class_at(self.words, at - 3))
-            && is_operator(class_at(self.words, at - 2))
-            && is_single(class_at(self.words, at - 1))
-            && is_single(class_at(self.words, at.saturating_add(1)))
-            && !is_operator(before)
-            && !matches!(
-                class_at(self.words, at.saturating_add(2)),
-                Class::OpenBracket | Class::OpenParen
-            )
-    }
-
-    /// Both ways to put brackets where an operator follows an expression of single words.
-    fn bracketed(&self) -> Sentence {
-        let (line, at) = (self.line, self.leaving.at);
-        let first = at.saturating_sub(3);
-        let end = at.saturating_add(2);
-        four(
-            "operators have no precedence: write (@) @ or @ (@)",
-            Piece::Spaced(line, first, at),
-            Piece::Spaced(line, at, end),
-            Piece::Spaced(line, first, at.saturating_sub(1)),
-            Piece::Spaced(line, at.saturating_sub(1), end),
-        )
-    }
-
-    /// The reserved word that a name of the line is in small letters: the name that is met, the one before it, or the first.
-    fn small_letters(&self) -> Option<&'static [u8]> {
-        for at in [self.leaving.at, self.leaving.at.saturating_sub(1), 0] {
-            if class_at(self.words, at) == Class::Name {
-                let reserved = reserved_like(bytes_at(self.words, at));
-                if reserved.is_some() {
-                    return reserved;
-                }
-            }
-        }
-        None
-    }
-
-    /// Whether a reserved word stands where a new name is wanted.
-    fn names_reserved(&self) -> bool {
-        self.leaving.wanted == Some(Part::NewName)
-            && class_of(bytes_at(self.words, self.leaving.at)) != Class::Name
-    }
-
-    /// The hint for this place; it says nothing where there is none.
-    pub(crate) fn advice(&self) -> Sentence {
-        let (line, at) = (self.line, self.leaving.at);
-        if let Some(reserved) = self.small_letters() {
-            return in_capitals(reserved);
-        }
-        let listed = self.listed_hint();
-        if listed.is_empty() && self.names_reserved() {
-            return one("`@` is a reserved word: use another name", word(line, at));
-        }
-        if self.joins_single_operands() && listed.starts_with("operators have") {
-            return self.bracketed();
-        }
-        if listed == SIGNED && at > 0 {
-            return two(
-                "put brackets round a sign behind an operator: `@ (-@)`",
-                word(line, at - 1),
-                word(line, at.saturating_add(1)),
-            );
-        }
-        plain(listed)
-    }
+/// Whether the word is an operator with two operands.
+pub(crate) fn is_operator(class: Class) -> bool {
+    matches!(
+        class,
+        Class::And | Class::Dyadic | Class::Equal | Class::Minus | Class::Or
+    )
 }
 
 /// Whether a word is an operand by itself.
@@ -414,10 +110,152 @@ fn is_single(class: Class) -> bool {
     )
 }
 
-/// What to do about a reserved word in small letters.
-pub(crate) fn in_capitals(reserved: &'static [u8]) -> Sentence {
-    one(
-        "write reserved words in capitals: @",
-        Piece::Reserved(reserved),
-    )
+impl Met<'_> {
+    /// Whether what stands before a hint holds here.
+    fn holds(&self, condition: &str) -> bool {
+        let (kind, spelling) = match condition.split_once('=') {
+            Some((kind, spelling)) => (kind.as_bytes(), spelling),
+            None => (condition.as_bytes(), ""),
+        };
+        let leaving = self.leaving;
+        let place = match kind {
+            [b'f', ..] => 0,
+            [b'b' | b'a', ..] => leaving.at.wrapping_sub(1),
+            [b't', ..] => leaving.at.wrapping_sub(2),
+            [b'n', ..] => leaving.at.saturating_add(1),
+            _ => leaving.at,
+        };
+        let class = class_at(self.words, place);
+        match kind {
+            [b'i', ..] => self.start == spelling,
+            [b'w', ..] => leaving.wanted == spelling,
+            [b'e', ..] => leaving.wanted.is_empty(),
+            [b'o', ..] => !leaving.over.is_empty(),
+            [b'j', ..] => is_operator(class),
+            [b's', ..] => word_from(self.words, 0, spelling.as_bytes()) < self.words.len(),
+            [b'l' | b'a' | b't', ..] => class_in(spelling) == Some(class),
+            _ => bytes_at(self.words, place) == spelling.as_bytes(),
+        }
+    }
+
+    /// The hint for this place; it says nothing where there is none.
+    fn hint(&self) -> &'static str {
+        for row in HINTS.lines() {
+            let Some((conditions, says)) = row.split_once(" / ") else {
+                continue;
+            };
+            let mut holds = true;
+            for condition in conditions.split_ascii_whitespace() {
+                holds = holds && self.holds(condition);
+            }
+            if holds {
+                return says;
+            }
+        }
+        ""
+    }
+
+    /// Whether the words before and behind are single operands: `1 + 2` before and `3` behind.
+    fn joins_single_operands(&self) -> bool {
+        let (words, at, over) = (self.words, self.leaving.at, self.leaving.over);
+        let met = class_at(words, at);
+        at > 2
+            && !over.is_empty()
+            && !(over == b"whole".as_slice() && matches!(met, Class::And | Class::Or))
+            && is_operator(met)
+            && is_single(class_at(words, at - 3))
+            && is_operator(class_at(words, at - 2))
+            && is_single(class_at(words, at - 1))
+            && is_single(class_at(words, at.saturating_add(1)))
+            && !is_operator(class_at(words, at.wrapping_sub(4)))
+            && !matches!(
+                class_at(words, at.saturating_add(2)),
+                Class::OpenBracket | Class::OpenParen
+            )
+    }
+
+    /// The reserved word that a name of the line is in small letters: the name that is met, the one before it, or the first.
+    fn small_letters(&self) -> Option<&'static str> {
+        for at in [self.leaving.at, self.leaving.at.saturating_sub(1), 0] {
+            if class_at(self.words, at) == Class::Name
+                && let Some((reserved, _)) = reserved_like(bytes_at(self.words, at))
+            {
+                return Some(reserved);
+            }
+        }
+        None
+    }
+
+    /// What is wrong: the word that is met, and what may stand in its place. Behind the last word none is.
+    fn wrong(&self) -> (&'static str, &'static str) {
+        let leaving = self.leaving;
+        let is_over = leaving.wanted.is_empty();
+        let said = said_of(leaving.wanted.as_bytes());
+        let wanted = if is_over {
+            "more"
+        } else if said.is_empty() {
+            "another word"
+        } else {
+            said
+        };
+        match class_at(self.words, leaving.at) {
+            Class::End => ("the line ends where @2 must stand", wanted),
+            met if !leaving.over.is_empty() && (is_over || is_operator(met)) => {
+                ("`@1` after @2", said_of(leaving.over))
+            }
+            _ if is_over => ("`@1` where the line must end", ""),
+            _ => ("`@1` where @2 must stand", wanted),
+        }
+    }
+
+    /// How it is mended.
+    fn advice(&self) -> (&'static str, Piece, Piece) {
+        let (line, at) = (self.line, self.leaving.at);
+        if let Some(reserved) = self.small_letters() {
+            return (IN_CAPITALS, Piece::Text(reserved), Nothing);
+        }
+        let hint = self.hint();
+        if hint.is_empty()
+            && self.leaving.wanted == "new.name"
+            && class_of(bytes_at(self.words, at)) != Class::Name
+        {
+            return (
+                "`@1` is a reserved word: use another name",
+                Nothing,
+                Nothing,
+            );
+        }
+        if hint.starts_with("operators have") && self.joins_single_operands() {
+            return (
+                "operators have no precedence: write @3",
+                Piece::Bracketed(line, at),
+                Nothing,
+            );
+        }
+        if hint.starts_with("put brackets round a sign") && at > 0 {
+            return (
+                "put brackets round a sign behind an operator: `@3 (-@4)`",
+                Piece::Short(line, at - 1),
+                Piece::Short(line, at.saturating_add(1)),
+            );
+        }
+        (hint, Nothing, Nothing)
+    }
+
+    /// What is told of this place.
+    pub(crate) fn told(&self) -> Told {
+        let (line, at) = (self.line, self.leaving.at);
+        let (wrong, part) = self.wrong();
+        let (hint, one, other) = self.advice();
+        Told {
+            line,
+            at,
+            wrong,
+            hint,
+            pieces: [Piece::Short(line, at), Piece::Text(part), one, other],
+        }
+    }
 }
+
+/// What to do about a reserved word in small letters, which is the third piece.
+pub(crate) const IN_CAPITALS: &str = "write reserved words in capitals: @3";

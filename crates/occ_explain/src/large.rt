@@ -1,75 +1,49 @@
 //! Programs that are too large: which limit they pass, and where.
 
 use crate::class::Class;
-use crate::context::start_of;
+use crate::context::{Start, start_of};
 use crate::finding::index_of;
-use crate::grammar::Part;
-use crate::kinds::number_of;
 use crate::scan::{Text, Word};
 use crate::scope::{Kind, behind_bracket, declaration_of, index_at, spec_at};
-use crate::sentence::{Piece, Told, four, plain, two};
-use crate::walk::class_at;
+use crate::sentence::{Nothing, Piece, Told};
+use crate::shapes::number_of;
+use crate::walk::{bytes_at, class_at};
 use std::alloc::{AllocError, Global};
 
 /// What is counted: at least so many, and the line that adds most of them.
 #[derive(Clone, Copy)]
 struct Count {
-    least: u64,
-    most: u64,
+    least: usize,
+    most: usize,
     line: usize,
 }
 
-/// The counts of the body of a PROC, which begins in this line.
+/// The counts of the body of a PROC, which begins in this line: of cells, channels, processes and nodes.
 #[derive(Clone, Copy)]
 struct Tally {
     head: usize,
-    cells: Count,
-    channels: Count,
-    processes: Count,
-    nodes: Count,
+    counts: [Count; 4],
 }
 
 /// A line that stands round others: how far to the right, how often what stands under it is unfolded, and in which PROC.
 #[derive(Clone, Copy)]
 struct Round {
     indent: usize,
-    times: u64,
+    times: usize,
     tally: usize,
     is_par: bool,
 }
 
-const NOTHING: Count = Count {
-    least: 0,
-    most: 0,
-    line: 0,
-};
-
-impl Count {
-    /// So many more, in this line.
-    fn and(self, more: u64, line: usize) -> Count {
-        let (most, line) = if more > self.most {
-            (more, line)
-        } else {
-            (self.most, self.line)
-        };
-        Count {
-            least: self.least.saturating_add(more),
-            most,
-            line,
-        }
-    }
-
-    /// What another body has, so many times.
-    fn and_times(self, other: Count, times: u64) -> Count {
-        let (most, line) = if other.most.saturating_mul(times) > self.most {
-            (other.most.saturating_mul(times), other.line)
-        } else {
-            (self.most, self.line)
-        };
-        Count {
-            least: self.least.saturating_add(other.least.saturating_mul(times)),
-            most,
-            line,
+impl Tally {
+    /// What is counted in another body, so many times.
+    fn add(&mut self, number: usize, other: Count, times: usize) {
+        if let Some(count) = self.counts.as_mut_slice().get_mut(number) {
+            if other.most.saturating_mul(times) > count.most {
+                count.most = other.most.saturating_mul(times);
+                count.line = other.line;
+            }
+            let more = other.least.saturating_mul(times);
+            count.least = count.least.saturating_add(more);
         }
     }
 }
@@ -78,7 +52,7 @@ impl Count {
 const MOST_NAMES: u32 = 8;
 
 /// The number that stands alone at a place, or is named by VAL there.
-fn number_at(text: &Text<'_>, index: usize, at: usize) -> Option<u64> {
+fn number_at(text: &Text<'_>, index: usize, at: usize) -> Option<usize> {
     let (mut index, mut at) = (index, at);
     for _ in 0..MOST_NAMES {
         let words = text.words_at(index);
@@ -108,10 +82,10 @@ fn number_at(text: &Text<'_>, index: usize, at: usize) -> Option<u64> {
 }
 
 /// How many components a declared name has, as far as its sizes are known.
-fn components(text: &Text<'_>, index: usize) -> u64 {
+fn components(text: &Text<'_>, index: usize) -> usize {
     let words = text.words_at(index);
     let mut at = spec_at(words, 0).from;
-    let mut product: u64 = 1;
+    let mut product: usize = 1;
     for _ in 0..4 {
         if class_at(words, at) != Class::OpenBracket {
             return product;
@@ -123,8 +97,8 @@ fn components(text: &Text<'_>, index: usize) -> u64 {
 }
 
 /// How many names a declaration has.
-fn name_count(words: &[Word<'_>]) -> u64 {
-    let mut count: u64 = 0;
+fn name_count(words: &[Word<'_>]) -> usize {
+    let mut count: usize = 0;
     for i in spec_at(words, 0).to..words.len() {
         if words[i].class == Class::Name {
             count = count.saturating_add(1);
@@ -143,7 +117,7 @@ fn declares(words: &[Word<'_>]) -> bool {
 }
 
 /// How many nodes a line has at least.
-fn least_nodes(words: &[Word<'_>]) -> u64 {
+fn least_nodes(words: &[Word<'_>]) -> usize {
     if index_of(words, Class::Assign) < words.len() {
         return 3;
     }
@@ -153,9 +127,9 @@ fn least_nodes(words: &[Word<'_>]) -> u64 {
 }
 
 /// How often what stands under a line is unfolded: a replicated PAR has a copy for each value of its index.
-fn copies(text: &Text<'_>, index: usize) -> u64 {
+fn copies(text: &Text<'_>, index: usize) -> usize {
     let words = text.words_at(index);
-    if class_at(words, 0) != Class::Par || index_at(words).is_none() {
+    if class_at(words, 0) != Class::Par || index_at(words) == usize::MAX {
         return 1;
     }
     let count = index_of(words, Class::For).saturating_add(1);
@@ -177,43 +151,37 @@ fn added(text: &Text<'_>, tallies: &[Tally], index: usize, round: Round, before:
     let words = text.words_at(index);
     let times = round.times;
     let mut tally = before;
-    if declares(words) {
-        let names = name_count(words).saturating_mul(components(text, index));
-        let more = names.saturating_mul(times);
-        if spec_at(words, 0).kind == Kind::Channel {
-            tally.channels = tally.channels.and(more, index);
-        } else {
-            tally.cells = tally.cells.and(more, index);
+    let one = Count {
+        least: 1,
+        most: 1,
+        line: index,
+    };
+    match class_at(words, 0) {
+        _ if declares(words) => {
+            let names = name_count(words).saturating_mul(components(text, index));
+            let is_channel = spec_at(words, 0).kind == Kind::Channel;
+            let number = if is_channel { 1 } else { 0 };
+            tally.add(number, one, names.saturating_mul(times));
+            return tally;
         }
-        return tally;
+        Class::Val | Class::Colon | Class::Proc | Class::Protocol => return tally,
+        Class::Par if index_at(words) < words.len() => {
+            tally.add(2, one, times.saturating_mul(copies(text, index)));
+        }
+        _ => {}
     }
-    if matches!(
-        class_at(words, 0),
-        Class::Val | Class::Colon | Class::Proc | Class::Protocol
-    ) {
-        return tally;
-    }
-    tally.nodes = tally
-        .nodes
-        .and(least_nodes(words).saturating_mul(times), index);
+    tally.add(3, one, least_nodes(words).saturating_mul(times));
     if round.is_par {
-        tally.processes = tally.processes.and(times, index);
-    }
-    if class_at(words, 0) == Class::Par && index_at(words).is_some() {
-        tally.processes = tally
-            .processes
-            .and(times.saturating_mul(copies(text, index)), index);
+        tally.add(2, one, times);
     }
     if class_at(words, 0) == Class::Name
         && class_at(words, 1) == Class::OpenParen
-        && let Some(word) = words.first()
-        && let Some(found) = declaration_of(text, index, word.bytes)
+        && let Some(found) = declaration_of(text, index, bytes_at(words, 0))
         && let Some(body) = tally_of(tallies, found.line)
     {
-        tally.cells = tally.cells.and_times(body.cells, times);
-        tally.channels = tally.channels.and_times(body.channels, times);
-        tally.processes = tally.processes.and_times(body.processes, times);
-        tally.nodes = tally.nodes.and_times(body.nodes, times);
+        for number in 0..4 {
+            tally.add(number, body.counts[number], times);
+        }
     }
     tally
 }
@@ -231,7 +199,7 @@ fn round_of(text: &Text<'_>, index: usize, outer: Round, tallies: usize) -> Roun
         indent: text.indent_at(index),
         times,
         tally: if is_proc { tallies } else { outer.tally },
-        is_par: class_at(words, 0) == Class::Par && index_at(words).is_none(),
+        is_par: class_at(words, 0) == Class::Par && index_at(words) == usize::MAX,
     }
 }
 
@@ -272,10 +240,11 @@ fn main_tally(alloc: Global, text: &Text<'_>) -> Result<Option<Tally>, AllocErro
             }
             tallies.push(Tally {
                 head: index,
-                cells: NOTHING,
-                channels: NOTHING,
-                processes: NOTHING,
-                nodes: NOTHING,
+                counts: [Count {
+                    least: 0,
+                    most: 0,
+                    line: 0,
+                }; 4],
             })?;
         }
         rounds.push(round)?;
@@ -286,69 +255,43 @@ fn main_tally(alloc: Global, text: &Text<'_>) -> Result<Option<Tally>, AllocErro
     }
 }
 
-/// What is counted: so many, with those that no line makes, the most that are allowed, what they are, and how there are fewer of them.
-#[derive(Clone, Copy)]
-struct Limit {
-    count: Count,
-    more: u64,
-    most: u64,
-    says: &'static str,
-    hint: &'static str,
-}
-
-/// The limits, by their numbers.
-fn limit_of(tally: &Tally, number: u32) -> Limit {
-    let calls =
-        "each call, and each copy of a replicated PAR, counts its own: make the arrays smaller, or the copies fewer";
-    match number {
-        0 => Limit {
-            count: tally.cells,
-            more: 0,
-            most: 1_048_576,
-            says: "cells of variables and arrays",
-            hint: calls,
-        },
-        1 => Limit {
-            count: tally.channels,
-            more: 3,
-            most: 4096,
-            says: "channels",
-            hint: calls,
-        },
-        2 => Limit {
-            count: tally.processes,
-            more: 1,
-            most: 4096,
-            says: "processes",
-            hint: "each branch of a PAR is a process: make the count of a replicated PAR smaller",
-        },
-        _ => Limit {
-            count: tally.nodes,
-            more: 0,
-            most: 100_000,
-            says: "nodes of the unfolded program",
-            hint: "each call, and each copy of a replicated PAR, is unfolded where it stands: make the copies fewer, or loop within one",
-        },
-    }
-}
-
 /// The first count that passes its limit.
 fn passed(tally: &Tally) -> Option<Told> {
+    let calls =
+        "each call, and each copy of a replicated PAR, counts its own: make the arrays smaller, or the copies fewer";
+    // how many of these no line makes, how many are allowed, what they are, and how there are fewer of them
+    let limits = [
+        (0, 1_048_576, "cells of variables and arrays", calls),
+        (3, 4096, "channels", calls),
+        (
+            1,
+            4096,
+            "processes",
+            "each branch of a PAR is a process: make the count of a replicated PAR smaller",
+        ),
+        (
+            0,
+            100_000,
+            "nodes of the unfolded program",
+            "each call, and each copy of a replicated PAR, is unfolded where it stands: make the copies fewer, or loop within one",
+        ),
+    ];
     for number in 0..4 {
-        let limit = limit_of(tally, number);
-        let least = limit.count.least.saturating_add(limit.more);
-        if least > limit.most {
+        let (more, most, says, hint) = limits[number];
+        let count = tally.counts[number];
+        let least = count.least.saturating_add(more);
+        if least > most {
             return Some(Told {
-                line: limit.count.line,
+                line: count.line,
                 at: 0,
-                wrong: four(
-                    "at least @ @, of which line @ makes most; @ are allowed",
-                    Piece::Number(least),
-                    Piece::Text(limit.says),
-                    Piece::Line(limit.count.line),
-                    Piece::Number(limit.most),
-                ),
-                hint: plain(limit.hint),
+                wrong: "at least @1 @2, of which line @3 makes most; @4 are allowed",
+                hint,
+                pieces: [
+                    Piece::Count(least),
+                    Piece::Text(says),
+                    Piece::Line(count.line),
+                    Piece::Count(most),
+                ],
             });
         }
     }
@@ -356,10 +299,10 @@ fn passed(tally: &Tally) -> Option<Told> {
 }
 
 /// How many levels stand round a line: those of the lines that it stands under, and of what is declared before an arm or a choice.
-fn levels_round(text: &Text<'_>, index: usize) -> u64 {
+fn levels_round(text: &Text<'_>, index: usize) -> usize {
     let mut level = text.indent_at(index);
-    let mut is_open = matches!(start_of(text, index), Part::Arm | Part::Choice);
-    let mut count: u64 = 0;
+    let mut is_open = matches!(start_of(text, index), Start::Arm | Start::Choice);
+    let mut count: usize = 0;
     for i in (0..index).rev() {
         // nothing stands round a line at the left margin
         if level == 0 {
@@ -369,7 +312,7 @@ fn levels_round(text: &Text<'_>, index: usize) -> u64 {
         let words = text.words_at(i);
         if indent < level {
             level = indent;
-            is_open = matches!(start_of(text, i), Part::Arm | Part::Choice);
+            is_open = matches!(start_of(text, i), Start::Arm | Start::Choice);
             if class_at(words, 0) != Class::Proc {
                 count = count.saturating_add(1);
             }
@@ -383,35 +326,28 @@ fn levels_round(text: &Text<'_>, index: usize) -> u64 {
     count
 }
 
-/// How many operands AND or OR join in a line.
-fn joined_operands(words: &[Word<'_>]) -> u64 {
-    let mut count: u64 = 0;
-    for word in words {
-        if matches!(word.class, Class::And | Class::Or) {
-            count = count.saturating_add(1);
-        }
-    }
-    count
-}
-
 /// How deep a node may stand.
-const MOST_LEVELS: u64 = 200;
+const MOST_LEVELS: usize = 200;
 
 /// A line that stands too deep, or holds too long a chain.
 fn depth_finding(text: &Text<'_>) -> Option<Told> {
     for index in 0..text.lines.len() {
-        let chain = joined_operands(text.words_at(index));
-        let levels = levels_round(text, index);
-        let (count, says, hint) = if chain > MOST_LEVELS {
+        let mut chain: usize = 0;
+        for word in text.words_at(index) {
+            if matches!(word.class, Class::And | Class::Or) {
+                chain = chain.saturating_add(1);
+            }
+        }
+        let (count, wrong, hint) = if chain > MOST_LEVELS {
             (
                 chain,
-                "@ times AND or OR in one line, and each is a level deeper; @ levels are allowed",
+                "@1 times AND or OR in one line, and each is a level deeper; @2 levels are allowed",
                 "split the expression, and keep its parts in variables",
             )
         } else {
             (
-                levels,
-                "this line stands @ levels deep; @ are allowed",
+                levels_round(text, index),
+                "this line stands @1 levels deep; @2 are allowed",
                 "each name that is declared before an arm or a choice is a level, and so is each line above it",
             )
         };
@@ -419,8 +355,14 @@ fn depth_finding(text: &Text<'_>) -> Option<Told> {
             return Some(Told {
                 line: index,
                 at: 0,
-                wrong: two(says, Piece::Number(count), Piece::Number(MOST_LEVELS)),
-                hint: plain(hint),
+                wrong,
+                hint,
+                pieces: [
+                    Piece::Count(count),
+                    Piece::Count(MOST_LEVELS),
+                    Nothing,
+                    Nothing,
+                ],
             });
         }
     }

@@ -24,13 +24,14 @@ mod names;
 mod odd;
 mod place;
 pub mod refusal;
-mod saying;
 mod scan;
 mod scope;
 mod sentence;
+mod shapes;
 mod telling;
 pub mod text;
 mod types;
+mod uses;
 mod walk;
 
 pub use explaining::{Explanation, explain};

@@ -1,19 +1,17 @@
 //! Messages that do not fit their channel.
 
 use crate::class::Class;
-use crate::context::{parent_of, start_of};
+use crate::context::{Start, parent_of, start_of};
 use crate::finding::{index_of, sign_of};
-use crate::grammar::Part;
 use crate::mismatch::conversion;
 use crate::scan::{Text, Word};
 use crate::scope::{Declared, Kind, behind_sizes, declaration_of};
-use crate::sentence::{Piece, Sentence, Told, four, one, plain, three, two, word};
-use crate::telling::piece_text;
+use crate::sentence::{Nothing, Piece, Told};
+use crate::shapes::{Shape, are_alike, shape_of};
 use crate::types::{
-    Primitive, Type, expression_end, operand_begin, operand_end, spelled_type, type_at,
+    Primitive, Typed, expression_end, operand_begin, operand_end, spelled_type, typed_at,
 };
 use crate::walk::{bytes_at, class_at};
-use std::alloc::{AllocError, Global};
 
 /// A message: the line that sends or takes it, where its first item stands, and the channel.
 #[derive(Clone, Copy)]
@@ -24,43 +22,18 @@ struct Message {
     channel: Declared,
 }
 
-/// The parts of messages: the line in which they stand, and where the first one does.
+/// The parts of messages: the line in which they stand, from one place up to another, and how many they are.
 #[derive(Clone, Copy)]
 struct Parts {
     line: usize,
     at: usize,
     count: usize,
-    is_protocol: bool,
-}
-
-/// The channel that is named before the sign of a line.
-fn channel_of(text: &Text<'_>, index: usize) -> Option<Declared> {
-    let words = text.words_at(index);
-    let sign = sign_of(words);
-    if sign == words.len() {
-        return None;
-    }
-    let name = words.get(operand_begin(words, sign))?;
-    let found = declaration_of(text, index, name.bytes)?;
-    if found.spec.kind == Kind::Channel {
-        Some(found)
-    } else {
-        None
-    }
-}
-
-/// The name of a channel, as it is declared.
-fn channel_name(message: &Message) -> Piece {
-    Piece::Word(message.channel.line, message.channel.at)
 }
 
 /// The line that declares the protocol of a channel, where that has a name.
 fn protocol_of(text: &Text<'_>, channel: &Declared) -> Option<usize> {
     let words = text.words_at(channel.line);
-    if class_at(words, channel.spec.of) != Class::Name {
-        return None;
-    }
-    let found = declaration_of(text, channel.line, words.get(channel.spec.of)?.bytes)?;
+    let found = declaration_of(text, channel.line, bytes_at(words, channel.spec.of))?;
     if found.spec.kind == Kind::Protocol {
         Some(found.line)
     } else {
@@ -68,19 +41,13 @@ fn protocol_of(text: &Text<'_>, channel: &Declared) -> Option<usize> {
     }
 }
 
-/// Whether the protocol in this line has tags.
-fn has_tags(text: &Text<'_>, protocol: usize) -> bool {
-    let words = text.words_at(protocol);
-    index_of(words, Class::Is) == words.len()
-}
-
 /// How many expressions or types stand from a place on, with a semicolon between two.
 fn count_from(words: &[Word<'_>], at: usize) -> usize {
-    if at >= words.len() {
-        return 0;
-    }
-    let mut count: usize = 1;
+    let mut count: usize = 0;
     for i in at..words.len() {
+        if i == at {
+            count = count.saturating_add(1);
+        }
         if words[i].class == Class::Semicolon {
             count = count.saturating_add(1);
         }
@@ -93,7 +60,7 @@ fn item_at(words: &[Word<'_>], at: usize, number: usize) -> usize {
     let mut left = number;
     for i in at..words.len() {
         if left == 0 {
-            return if number == 0 { at } else { i };
+            return i;
         }
         if words[i].class == Class::Semicolon {
             left = left.saturating_sub(1);
@@ -109,7 +76,7 @@ fn tag_line(text: &Text<'_>, protocol: usize, tag: &[u8]) -> Option<usize> {
         if text.indent_at(i) <= indent {
             return None;
         }
-        if text.words_at(i).first()?.bytes == tag {
+        if bytes_at(text.words_at(i), 0) == tag {
             return Some(i);
         }
     }
@@ -119,216 +86,172 @@ fn tag_line(text: &Text<'_>, protocol: usize, tag: &[u8]) -> Option<usize> {
 /// The message of a line: of an output, an input, or a variant below one.
 fn message_of(text: &Text<'_>, index: usize) -> Option<Message> {
     let words = text.words_at(index);
-    let sign = sign_of(words);
-    if sign < words.len() {
-        return Some(Message {
-            line: index,
-            at: sign.saturating_add(1),
-            is_input: class_at(words, sign) == Class::Question,
-            channel: channel_of(text, index)?,
-        });
-    }
-    if start_of(text, index) != Part::Variant {
+    let own = sign_of(words);
+    let (line, at) = if own < words.len() {
+        (index, own.saturating_add(1))
+    } else if let Start::Variant = start_of(text, index) {
+        (parent_of(text, index)?, 0)
+    } else {
+        return None;
+    };
+    let naming = text.words_at(line);
+    let sign = sign_of(naming);
+    let channel = declaration_of(text, line, bytes_at(naming, operand_begin(naming, sign)))?;
+    if sign == naming.len() || channel.spec.kind != Kind::Channel {
         return None;
     }
     Some(Message {
         line: index,
-        at: 0,
-        is_input: true,
-        channel: channel_of(text, parent_of(text, index)?)?,
+        at,
+        is_input: at == 0 || class_at(words, own) == Class::Question,
+        channel,
     })
 }
 
-/// The parts of a message without a tag.
-fn plain_parts(text: &Text<'_>, message: &Message) -> Parts {
-    match protocol_of(text, &message.channel) {
-        Some(line) => {
-            let words = text.words_at(line);
-            let at = index_of(words, Class::Is).saturating_add(1);
-            Parts {
-                line,
-                at,
-                count: count_from(words, at),
-                is_protocol: true,
-            }
-        }
-        None => Parts {
-            line: message.channel.line,
-            at: message.channel.spec.of,
-            count: 1,
-            is_protocol: false,
-        },
-    }
-}
-
 /// What is carried in the place of an item.
-fn carried(text: &Text<'_>, message: &Message, parts: &Parts, number: usize) -> Piece {
+fn carried(text: &Text<'_>, message: &Message, parts: &Parts, at: usize) -> Piece {
     let words = text.words_at(parts.line);
-    let at = item_at(words, parts.at, number);
-    let end = if parts.is_protocol {
-        part_end(words, at)
-    } else {
-        message.channel.spec.to
-    };
-    Piece::Words(parts.line, at, end)
-}
-
-/// The place where a part of a protocol ends.
-fn part_end(words: &[Word<'_>], at: usize) -> usize {
+    if parts.line == message.channel.line {
+        return Piece::Words(parts.line, at, message.channel.spec.to);
+    }
     for i in at..words.len() {
         if matches!(words[i].class, Class::Colon | Class::Semicolon) {
-            return i;
+            return Piece::Words(parts.line, at, i);
         }
     }
-    words.len()
-}
-
-/// Another number of items than the protocol has parts.
-fn unequal(text: &Text<'_>, message: &Message, parts: &Parts, items: usize) -> Told {
-    let is_tagged = class_at(text.words_at(parts.line), 0) == Class::Name;
-    let says = if is_tagged {
-        "a message on `@` has @ behind its tag, but this line has @"
-    } else {
-        "a message on `@` has @, but this line has @"
-    };
-    Told {
-        line: message.line,
-        at: message.at,
-        wrong: three(
-            says,
-            channel_name(message),
-            Piece::Counted(parts.count, "part"),
-            Piece::Counted(items, "item"),
-        ),
-        hint: plain("all parts of a message go together, with semicolons between them"),
-    }
+    Piece::Words(parts.line, at, words.len())
 }
 
 /// How an item becomes one of the type that is wanted.
-fn item_hint(text: &Text<'_>, message: &Message, at: usize, found: Type, wanted: Type) -> Sentence {
+fn item_hint(
+    words: &[Word<'_>],
+    message: &Message,
+    item: Typed,
+    sizes: usize,
+    to: Primitive,
+) -> &'static str {
     if message.is_input {
-        return plain("input into a variable of the type that the channel carries");
+        "input into a variable of the type that the channel carries"
+    } else if sizes > 0 {
+        ""
+    } else if to == Primitive::Byte && class_at(words, item.from) == Class::Text {
+        "send a string byte by byte, in a replicated SEQ; one letter is written 'a'"
+    } else {
+        conversion(words, item, to)
     }
-    let is_text = class_at(text.words_at(message.line), at) == Class::Text;
-    match (wanted.sizes, wanted.primitive) {
-        (0, Primitive::Byte) if is_text => {
-            plain("send a string byte by byte, in a replicated SEQ; one letter is written 'a'")
-        }
-        (0, to) => conversion(text, message.line, at, found, to),
-        _ => plain(""),
-    }
-}
-
-/// Whether a type is written as a part spells it, or has no sizes that are written.
-fn is_spelled(
-    alloc: Global,
-    text: &Text<'_>,
-    kind: Piece,
-    part: Piece,
-) -> Result<bool, AllocError> {
-    let kind = piece_text(alloc, text, kind)?;
-    let spelled = piece_text(alloc, text, part)?;
-    let is_same = kind.len() == spelled.len().saturating_add(2)
-        && kind.ends_with(spelled.as_slice());
-    Ok(is_same || !kind.starts_with(b"a ["))
 }
 
 /// An item of another type than its part.
-fn item_finding(
-    alloc: Global,
-    text: &Text<'_>,
-    message: &Message,
-    parts: &Parts,
-    number: usize,
-) -> Result<Option<Told>, AllocError> {
+fn item_finding(text: &Text<'_>, message: &Message, parts: &Parts, number: usize) -> Option<Told> {
     let words = text.words_at(message.line);
     let at = item_at(words, message.at, number);
     let other = text.words_at(parts.line);
     let part = item_at(other, parts.at, number);
-    let (Some(wanted), Some(found)) = (spelled_type(other, part), type_at(text, message.line, at))
-    else {
-        return Ok(None);
-    };
+    let wanted = spelled_type(other, part)?;
+    let item = typed_at(text, message.line, at, false)?;
     let is_counted = class_at(other, operand_end(other, part)) == Class::DoubleColon;
     let has_count = class_at(words, expression_end(words, at)) == Class::DoubleColon;
-    let (name, place) = (
-        channel_name(message),
-        Piece::Count(number.saturating_add(1)),
-    );
-    let carried = carried(text, message, parts, number);
+    let carried = carried(text, message, parts, part);
     let is_alone = parts.count < 2;
-    if is_counted != has_count {
-        return Ok(Some(Told {
-            line: message.line,
-            at,
-            wrong: if is_alone {
-                two("`@` carries @", name, carried)
+    let place = if is_alone {
+        channel_name(message)
+    } else {
+        Piece::Count(number.saturating_add(1))
+    };
+    let (wrong, hint) = if is_counted != has_count {
+        (
+            if is_alone {
+                "`@3` carries @4"
             } else {
-                two("part @ of the message is @", place, carried)
+                "part @3 of the message is @4"
             },
-            hint: plain(if is_counted {
+            if is_counted {
                 "write the count and the array: `n::a`"
             } else {
                 "write no count here"
-            }),
-        }));
-    }
-    let kind = Piece::Typed(message.line, at, found);
-    let spelled = Piece::Words(parts.line, part, behind_type(other, part));
-    if found == wanted && (found.sizes == 0 || is_spelled(alloc, text, kind, spelled)?) {
-        return Ok(None);
-    }
-    let said = Piece::Words(message.line, at, expression_end(words, at));
-    Ok(Some(Told {
+            },
+        )
+    } else {
+        let spelled = Shape::Spelled(
+            parts.line,
+            part,
+            behind_sizes(other, part).0.saturating_add(1),
+        );
+        let is_spelled = match shape_of(text, item) {
+            Shape::Called => true,
+            shape => are_alike(text, shape, spelled),
+        };
+        if item.found == wanted && is_spelled {
+            return None;
+        }
+        (
+            if is_alone {
+                "`@1` is @2, but `@3` carries @4"
+            } else {
+                "`@1` is @2, but part @3 of the message is @4"
+            },
+            item_hint(words, message, item, wanted.sizes, wanted.primitive),
+        )
+    };
+    Some(Told {
         line: message.line,
         at,
-        wrong: if is_alone {
-            four("`@` is @, but `@` carries @", said, kind, name, carried)
-        } else {
-            four(
-                "`@` is @, but part @ of the message is @",
-                said,
-                kind,
-                place,
-                carried,
-            )
-        },
-        hint: item_hint(text, message, at, found, wanted),
-    }))
+        wrong,
+        hint,
+        pieces: [Piece::Said(item), Piece::Typed(item), place, carried],
+    })
 }
 
-/// The place behind a type that is spelled here.
-fn behind_type(words: &[Word<'_>], at: usize) -> usize {
-    behind_sizes(words, at).0.saturating_add(1)
+/// The name of a channel, as it is declared.
+fn channel_name(message: &Message) -> Piece {
+    Piece::Word(message.channel.line, message.channel.at)
 }
 
 /// The items of a message against the parts of its protocol.
-fn compared(
-    alloc: Global,
-    text: &Text<'_>,
-    message: &Message,
-    parts: &Parts,
-) -> Result<Option<Told>, AllocError> {
+fn compared(text: &Text<'_>, message: &Message, parts: &Parts) -> Option<Told> {
     let items = count_from(text.words_at(message.line), message.at);
     if items != parts.count {
-        return Ok(Some(unequal(text, message, parts, items)));
+        let is_tagged = class_at(text.words_at(parts.line), 0) == Class::Name;
+        return Some(Told {
+            line: message.line,
+            at: message.at,
+            wrong: if is_tagged {
+                "a message on `@1` has @2 behind its tag, but this line has @3"
+            } else {
+                "a message on `@1` has @2, but this line has @3"
+            },
+            hint: "all parts of a message go together, with semicolons between them",
+            pieces: [
+                channel_name(message),
+                Piece::Counted(parts.count, "part"),
+                Piece::Counted(items, "item"),
+                Nothing,
+            ],
+        });
     }
     for number in 0..items {
-        let found = item_finding(alloc, text, message, parts, number)?;
+        let found = item_finding(text, message, parts, number);
         if found.is_some() {
-            return Ok(found);
+            return found;
         }
     }
-    Ok(None)
+    None
 }
 
-/// A finding about the channel of a message.
-fn about_channel(message: &Message, says: &'static str, hint: &'static str) -> Told {
+/// A finding about the channel of a message, at the place of its first item or its tag.
+fn about_channel(
+    message: &Message,
+    at: usize,
+    wrong: &'static str,
+    hint: &'static str,
+    piece: Piece,
+) -> Told {
     Told {
         line: message.line,
-        at: message.at,
-        wrong: one(says, channel_name(message)),
-        hint: plain(hint),
+        at,
+        wrong,
+        hint,
+        pieces: [channel_name(message), piece, Nothing, Nothing],
     }
 }
 
@@ -341,67 +264,64 @@ fn tag_at(words: &[Word<'_>], message: &Message) -> usize {
     }
 }
 
-/// A message on a channel whose protocol has tags.
-fn tagged(
-    alloc: Global,
-    text: &Text<'_>,
-    message: &Message,
-    protocol: usize,
-) -> Result<Option<Told>, AllocError> {
-    let words = text.words_at(message.line);
-    let at = tag_at(words, message);
-    if message.is_input && message.at > 0 && at == message.at {
-        return Ok(Some(about_channel(
-            message,
-            "`@` carries messages with tags, and this input has no CASE",
-            "write `? CASE`, and a tag behind it or variants below",
-        )));
-    }
-    let Some(line) = tag_line(text, protocol, bytes_at(words, at)) else {
-        return Ok(Some(Told {
-            line: message.line,
-            at,
-            wrong: one("a message on `@` begins with a tag", channel_name(message)),
-            hint: one("the tags of its protocol are @", Piece::Tags(protocol)),
-        }));
-    };
-    let parts = Parts {
-        line,
-        at: 2,
-        count: count_from(text.words_at(line), 2),
-        is_protocol: true,
-    };
-    let behind = Message {
-        line: message.line,
-        at: at.saturating_add(2),
-        is_input: message.is_input,
-        channel: message.channel,
-    };
-    compared(alloc, text, &behind, &parts)
-}
-
 /// What does not fit in a line that is refused for its message; nothing where the words do not tell.
-pub(crate) fn message_finding(
-    alloc: Global,
-    text: &Text<'_>,
-    index: usize,
-) -> Result<Option<Told>, AllocError> {
-    let Some(message) = message_of(text, index) else {
-        return Ok(None);
+pub(crate) fn message_finding(text: &Text<'_>, index: usize) -> Option<Told> {
+    let message = message_of(text, index)?;
+    let words = text.words_at(index);
+    let tag = tag_at(words, &message);
+    let protocol = protocol_of(text, &message.channel);
+    let channel = message.channel;
+    let (line, at) = match protocol {
+        Some(line) => (
+            line,
+            index_of(text.words_at(line), Class::Is).saturating_add(1),
+        ),
+        None => (channel.line, channel.spec.of),
     };
-    if let Some(protocol) = protocol_of(text, &message.channel)
-        && has_tags(text, protocol)
+    let declaring = text.words_at(line);
+    if let Some(protocol) = protocol
+        && at > declaring.len()
     {
-        return tagged(alloc, text, &message, protocol);
+        // the messages have tags
+        if message.is_input && message.at > 0 && tag == message.at {
+            return Some(about_channel(
+                &message,
+                tag,
+                "`@1` carries messages with tags, and this input has no CASE",
+                "write `? CASE`, and a tag behind it or variants below",
+                Nothing,
+            ));
+        }
+        let Some(line) = tag_line(text, protocol, bytes_at(words, tag)) else {
+            return Some(about_channel(
+                &message,
+                tag,
+                "a message on `@1` begins with a tag",
+                "the tags of its protocol are @2",
+                Piece::Tags(protocol),
+            ));
+        };
+        let count = count_from(text.words_at(line), 2);
+        let behind = Message {
+            at: tag.saturating_add(2),
+            ..message
+        };
+        return compared(text, &behind, &Parts { line, at: 2, count });
     }
-    if class_at(text.words_at(index), message.at) == Class::Case || message.at == 0 {
-        return Ok(Some(about_channel(
+    if tag > message.at || message.at == 0 {
+        return Some(about_channel(
             &message,
-            "`@` carries messages without tags, and CASE takes a tag",
+            message.at,
+            "`@1` carries messages without tags, and CASE takes a tag",
             "leave CASE out, and input into variables",
-        )));
+            Nothing,
+        ));
     }
-    compared(alloc, text, &message, &plain_parts(text, &message))
+    let count = match protocol {
+        Some(_) => count_from(declaring, at),
+        None => 1,
+    };
+    compared(text, &message, &Parts { line, at, count })
 }
 
 /// A tag that the protocol has not, or one that stands twice among the variants of an input.
@@ -411,15 +331,21 @@ pub(crate) fn tag_finding(text: &Text<'_>, index: usize) -> Option<Told> {
     let words = text.words_at(index);
     let at = tag_at(words, &message);
     let tag = words.get(at)?.bytes;
-    let says = if tag_line(text, protocol, tag).is_some() {
-        "`@` stands twice in this input"
+    let wrong = if tag_line(text, protocol, tag).is_some() {
+        "`@1` stands twice in this input"
     } else {
-        "`@` is no tag of the protocol"
+        "`@1` is no tag of the protocol"
     };
     Some(Told {
         line: index,
         at,
-        wrong: one(says, word(index, at)),
-        hint: one("the tags are @", Piece::Tags(protocol)),
+        wrong,
+        hint: "the tags are @2",
+        pieces: [
+            Piece::Short(index, at),
+            Piece::Tags(protocol),
+            Nothing,
+            Nothing,
+        ],
     })
 }

@@ -1,36 +1,18 @@
 //! Types that do not fit: of operands, of sides, of conditions and of subscripts.
 
 use crate::class::Class;
-use crate::context::{parent_of, start_of};
+use crate::context::{Start, parent_of, start_of};
 use crate::finding::{index_of, sign_of};
-use crate::grammar::Part;
-use crate::kinds::number_of;
+use crate::hints::is_operator;
 use crate::scan::{Text, Word};
 use crate::scope::{Kind, behind_sizes, declaration_of, index_at};
-use crate::sentence::{Piece, Sentence, Told, four, one, plain, three, two, word};
-use crate::telling::are_alike;
+use crate::sentence::{Nothing, Piece, Told};
+use crate::shapes::{are_alike, number_of, shape_of};
 use crate::types::{
-    Primitive, Type, called, expression_end, operand_begin, operand_end, operand_type,
-    spelled_type, type_at,
+    Primitive, Type, Typed, called, expression_end, operand_begin, operand_end, spelled_type,
+    type_of, typed_at,
 };
 use crate::walk::{bytes_at, class_at};
-use std::alloc::{AllocError, Global};
-
-/// Words of a line, from one place up to another, and their type.
-#[derive(Clone, Copy)]
-struct Typed {
-    from: usize,
-    to: usize,
-    found: Type,
-}
-
-/// What may stand at a place of a line, and how that is said.
-#[derive(Clone, Copy)]
-struct Wanted {
-    at: usize,
-    takes: Takes,
-    says: &'static str,
-}
 
 /// Which single values may stand somewhere.
 #[derive(Clone, Copy, PartialEq)]
@@ -56,140 +38,111 @@ fn is_number(words: &[Word<'_>], at: usize) -> bool {
     class_at(words, at) == Class::Number && operand_end(words, at) == at.saturating_add(1)
 }
 
-/// How a value of another primitive type is made of the expression at a place, which has this type.
-pub(crate) fn conversion(
-    text: &Text<'_>,
-    index: usize,
-    at: usize,
-    found: Type,
-    to: Primitive,
-) -> Sentence {
-    let end = expression_end(text.words_at(index), at);
-    let typed = Typed {
-        from: at,
-        to: end,
-        found,
-    };
-    let is_operand = operand_end(text.words_at(index), at) >= end;
-    converted(text, index, typed, is_operand, to)
-}
-
-/// How a value of another primitive type is made of these words, which are an operand or a longer expression.
-fn converted(
-    text: &Text<'_>,
-    index: usize,
-    typed: Typed,
-    is_operand: bool,
-    to: Primitive,
-) -> Sentence {
+/// How a value of another primitive type is made of the words that are the first piece.
+pub(crate) fn conversion(words: &[Word<'_>], typed: Typed, to: Primitive) -> &'static str {
     if typed.found.sizes > 0 || typed.found.primitive == to {
-        return plain("");
+        return "";
     }
-    let is_literal = is_operand && is_number(text.words_at(index), typed.from);
-    let says = match to {
-        Primitive::Bool => "compare it, as in `@ <> 0`",
-        Primitive::Byte if is_literal => "write it with its type: `@ (BYTE)`",
-        Primitive::Byte if is_operand => "convert it: `BYTE @`",
-        Primitive::Byte => "convert it: `BYTE (@)`",
-        Primitive::Int if is_operand => "convert it: `INT @`",
-        Primitive::Int => "convert it: `INT (@)`",
-    };
-    one(says, said(index, typed))
+    let is_operand = operand_end(words, typed.from) >= typed.to;
+    match to {
+        Primitive::Bool => "compare it, as in `@1 <> 0`",
+        Primitive::Byte if is_operand && is_number(words, typed.from) => {
+            "write it with its type: `@1 (BYTE)`"
+        }
+        Primitive::Byte if is_operand => "convert it: `BYTE @1`",
+        Primitive::Byte => "convert it: `BYTE (@1)`",
+        Primitive::Int if is_operand => "convert it: `INT @1`",
+        Primitive::Int => "convert it: `INT (@1)`",
+    }
 }
 
-/// The expression at a place, where its type is known.
-fn typed_expression(text: &Text<'_>, index: usize, at: usize) -> Option<Typed> {
-    Some(Typed {
-        from: at,
-        to: expression_end(text.words_at(index), at),
-        found: type_at(text, index, at)?,
-    })
-}
-
-/// The operand at a place, where its type is known.
-fn typed_operand(text: &Text<'_>, index: usize, at: usize) -> Option<Typed> {
-    Some(Typed {
-        from: at,
-        to: operand_end(text.words_at(index), at),
-        found: operand_type(text, index, at)?,
-    })
-}
-
-/// Words of a line.
-fn said(index: usize, typed: Typed) -> Piece {
-    Piece::Words(index, typed.from, typed.to)
-}
-
-/// What type they have, with its sizes where they are a whole expression.
-fn kind_of(text: &Text<'_>, index: usize, typed: Typed) -> Piece {
-    if expression_end(text.words_at(index), typed.from) == typed.to {
-        Piece::Typed(index, typed.from, typed.found)
+/// What type words have, with its sizes where they are a whole expression.
+fn kind_of(text: &Text<'_>, typed: Typed) -> Piece {
+    if expression_end(text.words_at(typed.line), typed.from) == typed.to {
+        Piece::Typed(typed)
     } else {
         Piece::Text(called(typed.found))
     }
 }
 
 /// Words that have another type than is said behind.
-fn unfit(text: &Text<'_>, index: usize, typed: Typed, says: &'static str, hint: Sentence) -> Told {
+fn unfit(text: &Text<'_>, typed: Typed, says: &'static str, hint: &'static str) -> Told {
     Told {
-        line: index,
+        line: typed.line,
         at: typed.from,
-        wrong: three(
-            "`@` is @@",
-            said(index, typed),
-            kind_of(text, index, typed),
-            Piece::Text(says),
-        ),
+        wrong: "`@1` is @2@3",
         hint,
+        pieces: [
+            Piece::Said(typed),
+            kind_of(text, typed),
+            Piece::Text(says),
+            Nothing,
+        ],
     }
 }
 
 /// Words that do not fit to others before them.
-fn beside(text: &Text<'_>, index: usize, left: Typed, right: Typed, hint: Sentence) -> Told {
+fn beside(text: &Text<'_>, left: Typed, right: Typed, hint: &'static str, is_left: bool) -> Told {
+    // the first piece is what the hint speaks of
+    let (odd, other) = if is_left {
+        (left, right)
+    } else {
+        (right, left)
+    };
     Told {
-        line: index,
+        line: right.line,
         at: right.from,
-        wrong: four(
-            "`@` is @, but `@` is @",
-            said(index, left),
-            kind_of(text, index, left),
-            said(index, right),
-            kind_of(text, index, right),
-        ),
+        wrong: if is_left {
+            "`@1` is @2, but `@3` is @4"
+        } else {
+            "`@3` is @4, but `@1` is @2"
+        },
         hint,
+        pieces: [
+            Piece::Said(odd),
+            kind_of(text, odd),
+            Piece::Said(other),
+            kind_of(text, other),
+        ],
     }
 }
 
 /// An expression that has another type than is wanted at its place.
-fn unwanted(text: &Text<'_>, index: usize, wanted: Wanted) -> Option<Told> {
-    let typed = typed_expression(text, index, wanted.at)?;
-    if is_taken(typed.found, wanted.takes) {
+fn unwanted(
+    text: &Text<'_>,
+    index: usize,
+    at: usize,
+    takes: Takes,
+    says: &'static str,
+) -> Option<Told> {
+    let typed = typed_at(text, index, at, false)?;
+    if is_taken(typed.found, takes) {
         return None;
     }
-    let to = match wanted.takes {
-        Takes::Truth => Primitive::Bool,
-        _ => Primitive::Int,
+    let to = if takes == Takes::Truth {
+        Primitive::Bool
+    } else {
+        Primitive::Int
     };
-    let hint = conversion(text, index, wanted.at, typed.found, to);
-    Some(unfit(text, index, typed, wanted.says, hint))
+    let hint = conversion(text.words_at(index), typed, to);
+    Some(unfit(text, typed, says, hint))
 }
 
 /// Which operands an operator takes, and how that is said.
 fn operands_of(words: &[Word<'_>], at: usize) -> (Takes, Takes, &'static str) {
-    let bytes = bytes_at(words, at);
-    match bytes {
-        b"AND" | b"OR" => (
+    match bytes_at(words, at) {
+        [b'A', b'N', ..] | [b'O', ..] => (
             Takes::Truth,
             Takes::Truth,
             ", but AND and OR join values of BOOL",
         ),
-        b"AFTER" => (Takes::Int, Takes::Int, ", but AFTER compares two of INT"),
-        b"<<" | b">>" => (
+        [b'A', ..] => (Takes::Int, Takes::Int, ", but AFTER compares two of INT"),
+        [b'<', b'<'] | [b'>', b'>'] => (
             Takes::Number,
             Takes::Int,
             ", but a shift takes a number, and an INT for the count",
         ),
-        b"=" | b"<>" => (Takes::Any, Takes::Any, ", and arrays are not compared"),
+        [b'='] | [b'<', b'>'] => (Takes::Any, Takes::Any, ", and arrays are not compared"),
         _ => (
             Takes::Number,
             Takes::Number,
@@ -200,17 +153,9 @@ fn operands_of(words: &[Word<'_>], at: usize) -> (Takes, Takes, &'static str) {
 
 /// Whether the word at a place stands between two operands.
 fn is_between(words: &[Word<'_>], at: usize) -> bool {
-    let is_operator = matches!(
-        class_at(words, at),
-        Class::And | Class::Dyadic | Class::Equal | Class::Minus | Class::Or
-    );
-    let before = match at.checked_sub(1) {
-        Some(before) => class_at(words, before),
-        None => Class::End,
-    };
-    is_operator
+    is_operator(class_at(words, at))
         && matches!(
-            before,
+            class_at(words, at.wrapping_sub(1)),
             Class::ByteLiteral
                 | Class::CloseBracket
                 | Class::CloseParen
@@ -221,200 +166,116 @@ fn is_between(words: &[Word<'_>], at: usize) -> bool {
         )
 }
 
-/// Whether the sign of a replicator stands at this place.
-fn is_replicator(words: &[Word<'_>], at: usize) -> bool {
-    match index_at(words) {
-        Some(index) => at == index.saturating_add(1),
-        None => false,
-    }
-}
-
-/// One of two operands that an operator does not take.
-fn refused_operand(
-    text: &Text<'_>,
-    index: usize,
-    typed: Typed,
-    takes: Takes,
-    says: &'static str,
-) -> Told {
-    let hint = if typed.found.sizes > 0 {
-        plain("use its components one by one")
-    } else if takes == Takes::Int {
-        converted(text, index, typed, true, Primitive::Int)
-    } else {
-        plain("")
-    };
-    unfit(text, index, typed, says, hint)
-}
-
 /// Two operands of different types.
-fn different(text: &Text<'_>, index: usize, left: Typed, right: Typed) -> Told {
-    let words = text.words_at(index);
+fn different(text: &Text<'_>, left: Typed, right: Typed) -> Told {
+    let words = text.words_at(left.line);
     // a number is written with the other's type, and else the smaller type becomes an INT
-    let (odd, to) = match (left.found.primitive, right.found.primitive) {
+    let (is_left, to) = match (left.found.primitive, right.found.primitive) {
         (Primitive::Byte, Primitive::Int) if is_number(words, right.from) => (
-            right,
+            false,
             Primitive::Byte,
         ),
-        (Primitive::Int, Primitive::Byte) if is_number(words, left.from) => (left, Primitive::Byte),
-        (Primitive::Int, _) => (right, Primitive::Int),
-        _ => (left, right.found.primitive),
+        (Primitive::Int, Primitive::Byte) if is_number(words, left.from) => (true, Primitive::Byte),
+        (Primitive::Int, _) => (false, Primitive::Int),
+        (_, to) => (true, to),
     };
+    let odd = if is_left { left } else { right };
     let hint = if odd.found.primitive == Primitive::Byte && to == Primitive::Int {
-        one("convert it: `(INT @)`", said(index, odd))
+        "convert it: `(INT @1)`"
     } else if to == Primitive::Byte {
-        converted(text, index, odd, true, to)
+        conversion(words, odd, to)
     } else {
-        plain("")
+        ""
     };
-    beside(text, index, left, right, hint)
+    beside(text, left, right, hint, is_left)
 }
 
 /// An operator at a place whose operands do not fit it.
 fn operator_finding(text: &Text<'_>, index: usize, at: usize) -> Option<Told> {
     let words = text.words_at(index);
-    let left = typed_operand(text, index, operand_begin(words, at));
-    let right = typed_operand(text, index, at.saturating_add(1));
+    if !is_between(words, at) || index_at(words).saturating_add(1) == at {
+        return None;
+    }
+    let left = typed_at(text, index, operand_begin(words, at), true);
+    let right = typed_at(text, index, at.saturating_add(1), true);
     let (first, second, says) = operands_of(words, at);
-    if let Some(left) = left
-        && !is_taken(left.found, first)
-    {
-        return Some(refused_operand(text, index, left, first, says));
+    for (typed, takes) in [(left, first), (right, second)] {
+        if let Some(typed) = typed
+            && !is_taken(typed.found, takes)
+        {
+            let hint = if typed.found.sizes > 0 {
+                "use its components one by one"
+            } else if takes == Takes::Int {
+                conversion(words, typed, Primitive::Int)
+            } else {
+                ""
+            };
+            return Some(unfit(text, typed, says, hint));
+        }
     }
-    let right = right?;
-    if !is_taken(right.found, second) {
-        return Some(refused_operand(text, index, right, second, says));
-    }
-    let left = left?;
+    let (left, right) = (left?, right?);
     if first == second && left.found.primitive != right.found.primitive {
-        Some(different(text, index, left, right))
+        Some(different(text, left, right))
     } else {
         None
     }
 }
 
-/// The first operator of a line whose operands do not fit it.
-fn operators(text: &Text<'_>, index: usize) -> Option<Told> {
-    let words = text.words_at(index);
-    for at in 0..words.len() {
-        if is_between(words, at)
-            && !is_replicator(words, at)
-            && let Some(found) = operator_finding(text, index, at)
-        {
-            return Some(found);
-        }
-    }
-    None
-}
-
-/// Whether a subscript or a size begins behind this place.
-fn opens_subscript(words: &[Word<'_>], at: usize) -> bool {
-    class_at(words, at) == Class::OpenBracket
-        && class_at(words, at.saturating_add(1)) != Class::CloseBracket
-}
-
-/// An INT behind a place.
-fn int_behind(at: usize, says: &'static str) -> Wanted {
-    Wanted {
-        at: at.saturating_add(1),
-        takes: Takes::Int,
-        says,
-    }
-}
-
-/// What may stand at a place of a line, by the word there.
-fn wanted_behind(words: &[Word<'_>], at: usize) -> Option<Wanted> {
+/// What may stand behind a place of a line, by the word there, and how that is said.
+fn wanted_behind(words: &[Word<'_>], at: usize) -> Option<(Takes, &'static str)> {
+    let before = class_at(words, at.wrapping_sub(1));
     match class_at(words, at) {
-        Class::OpenBracket if opens_subscript(words, at) => {
-            Some(int_behind(at, ", but a subscript or a size is an INT"))
+        Class::OpenBracket if class_at(words, at.saturating_add(1)) != Class::CloseBracket => {
+            Some((Takes::Int, ", but a subscript or a size is an INT"))
         }
-        Class::Equal if is_replicator(words, at) => {
-            Some(int_behind(at, ", but the base of a replicator is an INT"))
+        Class::Equal if index_at(words).saturating_add(1) == at => {
+            Some((Takes::Int, ", but the base of a replicator is an INT"))
         }
-        Class::For => Some(int_behind(at, ", but the count of a replicator is an INT")),
-        Class::While => Some(Wanted {
-            at: at.saturating_add(1),
-            takes: Takes::Truth,
-            says: ", but the condition of a WHILE is a BOOL",
-        }),
-        Class::Case if at == 0 && words.len() > 1 => Some(Wanted {
-            at: 1,
-            takes: Takes::Number,
-            says: ", but a CASE selects by an INT or a BYTE",
-        }),
-        Class::Monadic | Class::Minus if !is_between(words, at) => wanted_monadic(words, at),
-        Class::Primitive if is_conversion(words, at) => Some(Wanted {
-            at: at.saturating_add(1),
-            takes: Takes::Any,
-            says: ", but a conversion takes a single value",
-        }),
+        Class::For => Some((Takes::Int, ", but the count of a replicator is an INT")),
+        Class::While => Some((Takes::Truth, ", but the condition of a WHILE is a BOOL")),
+        Class::Case if at == 0 && words.len() > 1 => {
+            Some((Takes::Number, ", but a CASE selects by an INT or a BYTE"))
+        }
+        Class::Monadic | Class::Minus if !is_between(words, at) => match bytes_at(words, at) {
+            [b'S', ..] => None,
+            [b'N', ..] => Some((Takes::Truth, ", but NOT takes a BOOL")),
+            _ => Some((Takes::Number, ", but the operator takes an INT or a BYTE")),
+        },
+        // a type that is no part of a declaration
+        Class::Primitive
+            if !matches!(
+                before,
+                Class::CloseBracket | Class::DoubleColon | Class::End | Class::Of | Class::Val
+            ) && !matches!(class_at(words, 0), Class::Proc | Class::Protocol) => {
+            Some((Takes::Any, ", but a conversion takes a single value"))
+        }
         _ => None,
     }
 }
 
-/// Whether a type that is no part of a declaration stands before an operand.
-fn is_conversion(words: &[Word<'_>], at: usize) -> bool {
-    let before = class_at(words, at.saturating_sub(1));
-    let is_declaring = matches!(
-        before,
-        Class::CloseBracket | Class::DoubleColon | Class::Of | Class::Val
-    );
-    at > 0 && !is_declaring && !matches!(class_at(words, 0), Class::Proc | Class::Protocol)
-}
-
-/// What an operator with a single operand takes.
-fn wanted_monadic(words: &[Word<'_>], at: usize) -> Option<Wanted> {
-    let bytes = words.get(at)?.bytes;
-    let (takes, says) = match bytes {
-        b"SIZE" => return None,
-        b"NOT" => (Takes::Truth, ", but NOT takes a BOOL"),
-        _ => (Takes::Number, ", but the operator takes an INT or a BYTE"),
-    };
-    Some(Wanted {
-        at: at.saturating_add(1),
-        takes,
-        says,
-    })
-}
-
-/// What may stand at the beginning of a line.
-fn wanted_first(text: &Text<'_>, index: usize) -> Option<Wanted> {
+/// An expression behind a place that has another type than is wanted there; at the first place also the one that begins the line.
+fn place_finding(text: &Text<'_>, index: usize, at: usize) -> Option<Told> {
     let words = text.words_at(index);
-    let first = class_at(words, 0);
-    let is_guarded = index_of(words, Class::Ampersand) < words.len();
-    match start_of(text, index) {
-        Part::Choice if first != Class::If && index_of(words, Class::Colon) == words.len() => {
-            Some(Wanted {
-                at: 0,
-                takes: Takes::Truth,
-                says: ", but a condition of an IF is a BOOL",
-            })
-        }
-        Part::Arm if is_guarded => Some(Wanted {
-            at: 0,
-            takes: Takes::Truth,
-            says: ", but the condition of a guard is a BOOL",
-        }),
-        _ => None,
-    }
-}
-
-/// The first place of a line at which an expression has another type than is wanted there.
-fn places(text: &Text<'_>, index: usize) -> Option<Told> {
-    let words = text.words_at(index);
-    if let Some(wanted) = wanted_first(text, index)
-        && let Some(found) = unwanted(text, index, wanted)
-    {
-        return Some(found);
-    }
-    for at in 0..words.len() {
-        if let Some(wanted) = wanted_behind(words, at)
-            && let Some(found) = unwanted(text, index, wanted)
+    if at == 0 {
+        let says = match start_of(text, index) {
+            Start::Choice
+                if class_at(words, 0) != Class::If
+                    && index_of(words, Class::Colon) == words.len() => {
+                ", but a condition of an IF is a BOOL"
+            }
+            Start::Arm if index_of(words, Class::Ampersand) < words.len() => {
+                ", but the condition of a guard is a BOOL"
+            }
+            _ => "",
+        };
+        if !says.is_empty()
+            && let Some(found) = unwanted(text, index, 0, Takes::Truth, says)
         {
             return Some(found);
         }
     }
-    None
+    let (takes, says) = wanted_behind(words, at)?;
+    unwanted(text, index, at.saturating_add(1), takes, says)
 }
 
 /// How many expressions stand between two places, with a comma between two.
@@ -430,64 +291,50 @@ pub(crate) fn expression_count(words: &[Word<'_>], from: usize, to: usize) -> us
     0
 }
 
-/// Two sides of an assignment, or a named value and its type.
-fn sides_finding(
-    alloc: Global,
-    text: &Text<'_>,
-    index: usize,
-    left: Typed,
-    right: Typed,
-) -> Result<Option<Told>, AllocError> {
-    let kind = Piece::Typed(index, left.from, left.found);
-    let other = Piece::Typed(index, right.from, right.found);
-    if left.found == right.found && are_alike(alloc, text, kind, other)? {
-        return Ok(None);
-    }
-    let hint = match (left.found.sizes, right.found.sizes) {
-        (0, 0) => conversion(text, index, right.from, right.found, left.found.primitive),
-        (0, _) => plain("an array goes into an array of its size"),
-        (_, 0) => plain("set the components one by one"),
-        _ => plain("both sides of an assignment have one size"),
-    };
-    Ok(Some(beside(text, index, left, right, hint)))
-}
-
 /// The sides of an assignment.
-fn sides(alloc: Global, text: &Text<'_>, index: usize) -> Result<Option<Told>, AllocError> {
+fn sides(text: &Text<'_>, index: usize) -> Option<Told> {
     let words = text.words_at(index);
     let sign = index_of(words, Class::Assign);
     if sign == words.len() {
-        return Ok(None);
+        return None;
     }
+    let (mut from, mut behind) = (0, sign.saturating_add(1));
     let targets = expression_count(words, 0, sign);
-    let values = expression_count(words, sign.saturating_add(1), words.len());
+    let values = expression_count(words, behind, words.len());
     if targets != values {
-        return Ok(Some(Told {
+        return Some(Told {
             line: index,
             at: sign,
-            wrong: two(
-                "`:=` has @ on its left and @ on its right",
+            wrong: "`:=` has @1 on its left and @2 on its right",
+            hint: "write as many values as variables, with commas between them",
+            pieces: [
                 Piece::Count(targets),
                 Piece::Count(values),
-            ),
-            hint: plain("write as many values as variables, with commas between them"),
-        }));
+                Nothing,
+                Nothing,
+            ],
+        });
     }
-    let (mut left, mut right) = (0, sign.saturating_add(1));
     for _ in 0..targets {
-        if let (Some(target), Some(value)) = (
-            typed_expression(text, index, left),
-            typed_expression(text, index, right),
-        ) {
-            let found = sides_finding(alloc, text, index, target, value)?;
-            if found.is_some() {
-                return Ok(found);
-            }
+        if let (Some(left), Some(right)) = (
+            typed_at(text, index, from, false),
+            typed_at(text, index, behind, false),
+        )
+            && (left.found != right.found
+                || !are_alike(text, shape_of(text, left), shape_of(text, right)))
+        {
+            let hint = match (left.found.sizes, right.found.sizes) {
+                (0, 0) => conversion(words, right, left.found.primitive),
+                (0, _) => "an array goes into an array of its size",
+                (_, 0) => "set the components one by one",
+                _ => "both sides of an assignment have one size",
+            };
+            return Some(beside(text, left, right, hint, false));
         }
-        left = expression_end(words, left).saturating_add(1);
-        right = expression_end(words, right).saturating_add(1);
+        from = expression_end(words, from).saturating_add(1);
+        behind = expression_end(words, behind).saturating_add(1);
     }
-    Ok(None)
+    None
 }
 
 /// A named value of another type than is given.
@@ -498,114 +345,101 @@ fn named_value(text: &Text<'_>, index: usize) -> Option<Told> {
         return None;
     }
     let given = spelled_type(words, 1)?;
-    let value = typed_expression(text, index, is.saturating_add(1))?;
+    let value = typed_at(text, index, is.saturating_add(1), false)?;
     if given == value.found {
         return None;
     }
-    let hint = if given.sizes == 0 {
-        conversion(text, index, value.from, value.found, given.primitive)
-    } else {
-        plain("")
-    };
     Some(Told {
         line: index,
         at: value.from,
-        wrong: four(
-            "`@` is @, but `@` is declared as @",
-            said(index, value),
-            kind_of(text, index, value),
-            word(index, is.saturating_sub(1)),
+        wrong: "`@1` is @2, but `@3` is declared as @4",
+        hint: if given.sizes == 0 {
+            conversion(words, value, given.primitive)
+        } else {
+            ""
+        },
+        pieces: [
+            Piece::Said(value),
+            kind_of(text, value),
+            Piece::Short(index, is.saturating_sub(1)),
             Piece::Text(called(given)),
-        ),
-        hint,
+        ],
     })
 }
 
-/// What a type takes, and the most that it does.
-fn range_of(words: &[Word<'_>], at: usize) -> (&'static str, u64) {
-    match bytes_at(words, at) {
-        b"BYTE" => ("a BYTE is 0 to 255", 255),
-        b"BOOL" => ("a BOOL is made of 0 or 1", 1),
-        _ => ("an INT is at most 2147483647", 2_147_483_647),
+/// A number at a place that is outside the type that stands behind it.
+fn outside(text: &Text<'_>, index: usize, at: usize) -> Option<Told> {
+    let words = text.words_at(index);
+    if class_at(words, at) != Class::Number || operand_end(words, at) != at.saturating_add(4) {
+        return None;
     }
+    let (range, most) = match bytes_at(words, at.saturating_add(2)) {
+        [b'I', ..] => ("an INT is at most 2147483647", 2_147_483_647),
+        [_, b'O', ..] => ("a BOOL is made of 0 or 1", 1),
+        _ => ("a BYTE is 0 to 255", 255),
+    };
+    if number_of(bytes_at(words, at))? <= most {
+        return None;
+    }
+    Some(Told {
+        line: index,
+        at,
+        wrong: "`@1` is too large for its type",
+        hint: range,
+        pieces: [Piece::Short(index, at), Nothing, Nothing, Nothing],
+    })
 }
 
-/// A number outside the type that stands behind it.
-fn outside(text: &Text<'_>, index: usize) -> Option<Told> {
+/// More subscripts behind a place than the array there has sizes.
+fn too_many(text: &Text<'_>, index: usize, at: usize) -> Option<Told> {
     let words = text.words_at(index);
-    for at in 0..words.len() {
-        let number = words[at];
-        if number.class != Class::Number || operand_end(words, at) != at.saturating_add(4) {
-            continue;
-        }
-        let (range, most) = range_of(words, at.saturating_add(2));
-        if let Some(value) = number_of(number.bytes)
-            && value > most
-        {
-            return Some(Told {
-                line: index,
-                at,
-                wrong: one("`@` is too large for its type", word(index, at)),
-                hint: plain(range),
-            });
-        }
+    let behind = at.saturating_add(1);
+    if class_at(words, at) != Class::Name || class_at(words, behind) != Class::OpenBracket {
+        return None;
     }
-    None
-}
-
-/// More subscripts than an array has sizes.
-fn too_many(text: &Text<'_>, index: usize) -> Option<Told> {
-    let words = text.words_at(index);
-    for at in 0..words.len() {
-        let name = words[at];
-        let behind = at.saturating_add(1);
-        if name.class == Class::Name
-            && class_at(words, behind) == Class::OpenBracket
-            && let Some(found) = declaration_of(text, index, name.bytes)
-        {
-            let (_, subscripts) = behind_sizes(words, behind);
-            if found.spec.of != usize::MAX && subscripts > found.spec.sizes {
-                return Some(Told {
-                    line: index,
-                    at: behind,
-                    wrong: four(
-                        "`@` is @, and stands under @ subscripts; it takes @",
-                        Piece::Word(index, at),
-                        Piece::Declared(found),
-                        Piece::Count(subscripts),
-                        Piece::Count(found.spec.sizes),
-                    ),
-                    hint: plain(""),
-                });
-            }
-        }
+    let found = declaration_of(text, index, bytes_at(words, at))?;
+    let (_, subscripts) = behind_sizes(words, behind);
+    if found.spec.of == usize::MAX || subscripts <= found.spec.sizes {
+        return None;
     }
-    None
+    Some(Told {
+        line: index,
+        at: behind,
+        wrong: "`@1` is @2, and stands under @3 subscripts; it takes @4",
+        hint: "",
+        pieces: [
+            Piece::Word(index, at),
+            Piece::Declared(found),
+            Piece::Count(subscripts),
+            Piece::Count(found.spec.sizes),
+        ],
+    })
 }
 
 /// A constant of an option that has another type than the value of its CASE.
 fn options(text: &Text<'_>, index: usize) -> Option<Told> {
     let parent = parent_of(text, index)?;
-    if start_of(text, index) != Part::Option {
+    let Start::Option = start_of(text, index) else {
         return None;
-    }
+    };
     let words = text.words_at(index);
-    let selector = type_at(text, parent, 1)?;
+    let selector = type_of(text, parent, 1, false)?;
     let mut at = 0;
     for _ in 0..words.len() {
-        if let Some(option) = typed_expression(text, index, at)
+        if let Some(option) = typed_at(text, index, at, false)
             && option.found != selector
         {
             return Some(Told {
                 line: index,
                 at,
-                wrong: three(
-                    "`@` is @, but the CASE selects by @",
-                    said(index, option),
-                    kind_of(text, index, option),
+                wrong: "`@1` is @2, but the CASE selects by @3",
+                hint: conversion(words, option, selector.primitive),
+                pieces: [
+                    Piece::Said(option),
+                    kind_of(text, option),
                     Piece::Text(called(selector)),
-                ),
-                hint: conversion(text, index, at, option.found, selector.primitive),
+                    Nothing,
+                ],
             });
         }
         at = expression_end(words, at).saturating_add(1);
@@ -626,35 +460,36 @@ fn channels(text: &Text<'_>, index: usize) -> Option<Told> {
     Some(Told {
         line: index,
         at,
-        wrong: two(
-            "`@` is @, and a message goes over one of them",
-            word(index, at),
+        wrong: "`@1` is @2, and a message goes over one of them",
+        hint: "write a subscript for each size: `@1[0]`",
+        pieces: [
+            Piece::Short(index, at),
             Piece::Declared(found),
-        ),
-        hint: one("write a subscript for each size: `@[0]`", word(index, at)),
+            Nothing,
+            Nothing,
+        ],
     })
 }
 
 /// What does not fit in a line that is refused for its types; nothing where the words do not tell.
-pub(crate) fn mismatch(
-    alloc: Global,
-    text: &Text<'_>,
-    index: usize,
-) -> Result<Option<Told>, AllocError> {
+pub(crate) fn mismatch(text: &Text<'_>, index: usize) -> Option<Told> {
     for look in 0..8 {
-        let found = match look {
-            0 => operators(text, index),
-            1 => places(text, index),
-            2 => sides(alloc, text, index)?,
-            3 => named_value(text, index),
-            4 => outside(text, index),
-            5 => too_many(text, index),
-            6 => channels(text, index),
-            _ => options(text, index),
-        };
-        if found.is_some() {
-            return Ok(found);
+        for at in 0..text.words_at(index).len() {
+            let found = match look {
+                0 => operator_finding(text, index, at),
+                1 => place_finding(text, index, at),
+                4 => outside(text, index, at),
+                5 => too_many(text, index, at),
+                _ if at > 0 => break,
+                2 => sides(text, index),
+                3 => named_value(text, index),
+                6 => channels(text, index),
+                _ => options(text, index),
+            };
+            if found.is_some() {
+                return found;
+            }
         }
     }
-    Ok(None)
+    None
 }

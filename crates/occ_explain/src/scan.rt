@@ -60,26 +60,22 @@ impl<'a> Text<'a> {
     }
 }
 
-/// Whether a line whose last word is of this class goes on.
-fn leads_on(class: Class) -> bool {
-    matches!(
-        class,
-        Class::And
-            | Class::Assign
-            | Class::Comma
-            | Class::Dyadic
-            | Class::Equal
-            | Class::For
-            | Class::Is
-            | Class::Minus
-            | Class::Or
-            | Class::Semicolon
-    )
-}
-
+/// Whether a line with these words goes on in the next one.
 fn goes_on(words: &[Word<'_>]) -> bool {
     match words.last() {
-        Some(word) => leads_on(word.class),
+        Some(word) => matches!(
+            word.class,
+            Class::And
+                | Class::Assign
+                | Class::Comma
+                | Class::Dyadic
+                | Class::Equal
+                | Class::For
+                | Class::Is
+                | Class::Minus
+                | Class::Or
+                | Class::Semicolon
+        ),
         None => false,
     }
 }

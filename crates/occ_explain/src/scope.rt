@@ -2,7 +2,7 @@
 
 use crate::class::Class;
 use crate::scan::{Text, Word};
-use crate::walk::class_at;
+use crate::walk::{bytes_at, class_at};
 
 /// What a name stands for.
 #[derive(Clone, Copy, PartialEq)]
@@ -74,17 +74,6 @@ pub(crate) fn behind_sizes(words: &[Word<'_>], at: usize) -> (usize, usize) {
     (place, 4)
 }
 
-/// The place behind what a channel carries.
-fn behind_carried(words: &[Word<'_>], at: usize) -> usize {
-    let (of, _) = behind_sizes(words, at);
-    let end = of.saturating_add(1);
-    if class_at(words, end) == Class::DoubleColon {
-        end.saturating_add(4)
-    } else {
-        end
-    }
-}
-
 /// What stands before a name, from this place on.
 pub(crate) fn spec_at(words: &[Word<'_>], at: usize) -> Spec {
     let is_value = class_at(words, at) == Class::Val;
@@ -98,7 +87,9 @@ pub(crate) fn spec_at(words: &[Word<'_>], at: usize) -> Spec {
     let (of, to) = match class_at(words, of) {
         Class::Chan => {
             let carried = of.saturating_add(2);
-            (carried, behind_carried(words, carried))
+            let end = behind_sizes(words, carried).0.saturating_add(1);
+            let is_counted = class_at(words, end) == Class::DoubleColon;
+            (carried, end.saturating_add(if is_counted { 4 } else { 0 }))
         }
         Class::Primitive => (of, of.saturating_add(1)),
         _ => (usize::MAX, of),
@@ -112,70 +103,47 @@ pub(crate) fn spec_at(words: &[Word<'_>], at: usize) -> Spec {
     }
 }
 
-/// The formal at this place, behind one with that spec.
-fn formal_at(words: &[Word<'_>], at: usize, before: Spec) -> Option<(usize, Spec)> {
-    let spec = if class_at(words, at) == Class::Name {
-        before
-    } else {
-        spec_at(words, at)
-    };
-    let at = if class_at(words, at) == Class::Name {
-        at
-    } else {
-        spec.to
-    };
-    if class_at(words, at) == Class::Name {
-        Some((at, spec))
-    } else {
-        None
-    }
-}
-
-/// The first formal of a PROC at which something holds: it has this name, or so many stand before it.
-fn formal_where(words: &[Word<'_>], name: Option<&[u8]>, number: usize) -> Option<(usize, Spec)> {
+/// The first formal of a PROC that has this name, or that has so many before it.
+pub(crate) fn formal_of(words: &[Word<'_>], name: &[u8], number: usize) -> Option<(usize, Spec)> {
     let mut at = 3;
     let mut spec = untyped(Kind::Variable);
     for count in 0..words.len() {
-        let (place, own) = formal_at(words, at, spec)?;
-        let is_sought = match name {
-            Some(name) => words.get(place)?.bytes == name,
-            None => count == number,
-        };
-        if is_sought {
-            return Some((place, own));
+        if class_at(words, at) != Class::Name {
+            spec = spec_at(words, at);
+            at = spec.to;
         }
-        at = place.saturating_add(2);
-        spec = own;
+        if class_at(words, at) != Class::Name {
+            return None;
+        }
+        if count == number || bytes_at(words, at) == name {
+            return Some((at, spec));
+        }
+        at = at.saturating_add(2);
     }
     None
-}
-
-/// The formal of a PROC that has so many before it.
-pub(crate) fn formal_numbered(words: &[Word<'_>], number: usize) -> Option<(usize, Spec)> {
-    formal_where(words, None, number)
 }
 
 /// How many formals a PROC has.
 pub(crate) fn formal_count(words: &[Word<'_>]) -> usize {
     for number in 0..words.len() {
-        if formal_numbered(words, number).is_none() {
+        if formal_of(words, b"", number).is_none() {
             return number;
         }
     }
     words.len()
 }
 
-/// The place of a line's index, where it has a replicator.
-pub(crate) fn index_at(words: &[Word<'_>]) -> Option<usize> {
+/// The place of a line's index, where it has a replicator; else no word's.
+pub(crate) fn index_at(words: &[Word<'_>]) -> usize {
     let at = match class_at(words, 0) {
         Class::Seq | Class::Par | Class::If | Class::Alt => 1,
         Class::Pri => 2,
-        _ => return None,
+        _ => return usize::MAX,
     };
     if class_at(words, at) == Class::Name {
-        Some(at)
+        at
     } else {
-        None
+        usize::MAX
     }
 }
 
@@ -209,13 +177,12 @@ fn declared_in(words: &[Word<'_>], name: &[u8]) -> Option<(usize, Spec)> {
 /// A name that is a formal of a PROC, or the index of a replicator.
 fn held_in(words: &[Word<'_>], name: &[u8]) -> Option<(usize, Spec)> {
     if class_at(words, 0) == Class::Proc {
-        return formal_where(words, Some(name), 0);
+        return formal_of(words, name, usize::MAX);
     }
-    let at = index_at(words)?;
-    if words.get(at)?.bytes == name {
-        Some((at, untyped(Kind::Index)))
-    } else {
-        None
+    let at = index_at(words);
+    match words.get(at) {
+        Some(word) if word.bytes == name => Some((at, untyped(Kind::Index))),
+        _ => None,
     }
 }
 
@@ -227,17 +194,13 @@ pub(crate) fn declaration_of(text: &Text<'_>, index: usize, name: &[u8]) -> Opti
     for i in (0..index).rev() {
         let indent = text.indent_at(i);
         let words = text.words_at(i);
-        let found = if indent < level {
+        let is_round = indent < level;
+        is_open = is_round || is_open && (indent > level || is_declaration(words));
+        let found = if is_round {
             level = indent;
-            is_open = true;
             held_in(words, name)
-        } else if indent == level && is_open {
-            is_open = is_declaration(words);
-            if is_open {
-                declared_in(words, name)
-            } else {
-                None
-            }
+        } else if is_open && indent == level {
+            declared_in(words, name)
         } else {
             None
         };

@@ -1,16 +1,13 @@
 //! What is told of a refusal, before it is written: a place and two sentences, whose marks stand for parts of the text.
 
 use crate::scope::Declared;
-use crate::types::Type;
+use crate::types::Typed;
 
 /// What is written in place of a mark. Lines and places are indices: of a line in the text, and of a word in its line.
 #[derive(Clone, Copy)]
 pub(crate) enum Piece {
     Nothing,
     Text(&'static str),
-    /// A reserved word.
-    Reserved(&'static [u8]),
-    Number(u64),
     Count(usize),
     /// So many of what is named: `1 part`, `2 parts`.
     Counted(usize, &'static str),
@@ -18,16 +15,22 @@ pub(crate) enum Piece {
     Line(usize),
     /// A word, whole.
     Word(usize, usize),
+    /// A word, as far as words are told.
+    Short(usize, usize),
     /// Words from one place up to another, as they stand in the text, each as far as words are told.
     Words(usize, usize, usize),
     /// The same, as far as one word is told.
     Brief(usize, usize, usize),
-    /// The same words with one space between two.
-    Spaced(usize, usize, usize),
+    /// A whole line, behind its number.
+    Head(usize),
+    /// Both ways to put brackets round two operators, the second one at this place.
+    Bracketed(usize, usize),
     /// What a name is declared as, and in which line.
     Declared(Declared),
-    /// The type of the expression at a place.
-    Typed(usize, usize, Type),
+    /// The words of an expression.
+    Said(Typed),
+    /// The type of an expression.
+    Typed(Typed),
     /// What the names of a line are declared as.
     Types(usize),
     /// The tags of the protocol that a line declares.
@@ -36,58 +39,18 @@ pub(crate) enum Piece {
     Name,
     /// The name that is refused, without them.
     Base,
-    /// The calls that hand it on, behind these words.
-    Calls(&'static str),
+    /// Where the name is used besides this line.
+    Uses(usize),
 }
 
-/// A sentence, in which each `@` stands for a piece.
-#[derive(Clone, Copy)]
-pub(crate) struct Sentence {
-    pub(crate) says: &'static str,
-    pub(crate) pieces: [Piece; 4],
-}
+pub(crate) use Piece::Nothing;
 
-/// What is told of a refusal: at a word of a line, what is wrong there, and how it is mended.
+/// What is told of a refusal: at a word of a line, what is wrong there, and how it is mended. `@1` stands for the first piece.
 #[derive(Clone, Copy)]
 pub(crate) struct Told {
     pub(crate) line: usize,
     pub(crate) at: usize,
-    pub(crate) wrong: Sentence,
-    pub(crate) hint: Sentence,
-}
-
-/// A sentence without marks.
-pub(crate) fn plain(says: &'static str) -> Sentence {
-    four(
-        says,
-        Piece::Nothing,
-        Piece::Nothing,
-        Piece::Nothing,
-        Piece::Nothing,
-    )
-}
-
-/// A sentence with one mark.
-pub(crate) fn one(says: &'static str, a: Piece) -> Sentence {
-    four(says, a, Piece::Nothing, Piece::Nothing, Piece::Nothing)
-}
-
-pub(crate) fn two(says: &'static str, a: Piece, b: Piece) -> Sentence {
-    four(says, a, b, Piece::Nothing, Piece::Nothing)
-}
-
-pub(crate) fn three(says: &'static str, a: Piece, b: Piece, c: Piece) -> Sentence {
-    four(says, a, b, c, Piece::Nothing)
-}
-
-pub(crate) fn four(says: &'static str, a: Piece, b: Piece, c: Piece, d: Piece) -> Sentence {
-    Sentence {
-        says,
-        pieces: [a, b, c, d],
-    }
-}
-
-/// A word of a line, as far as words are told.
-pub(crate) fn word(line: usize, at: usize) -> Piece {
-    Piece::Words(line, at, at.saturating_add(1))
+    pub(crate) wrong: &'static str,
+    pub(crate) hint: &'static str,
+    pub(crate) pieces: [Piece; 4],
 }

@@ -19,47 +19,25 @@ pub(crate) struct Type {
     pub(crate) sizes: usize,
 }
 
-/// What a type is asked of: an expression at this place of a line under so many subscripts, or its first operand alone.
+/// Words of a line, from one place up to another, and their type.
 #[derive(Clone, Copy)]
-struct Asked {
-    line: usize,
-    at: usize,
-    subscripts: usize,
-    is_alone: bool,
-}
-
-/// What is found out in one step: a type, which may stay unknown, or what has the same type.
-#[derive(Clone, Copy)]
-enum Step {
-    Is(Option<Type>),
-    As(Asked),
+pub(crate) struct Typed {
+    pub(crate) line: usize,
+    pub(crate) from: usize,
+    pub(crate) to: usize,
+    pub(crate) found: Type,
 }
 
 /// The most steps from an expression to one that shows its type.
 const MOST_STEPS: u32 = 64;
 
-fn single(primitive: Primitive) -> Step {
-    Step::Is(Some(Type {
-        primitive,
-        sizes: 0,
-    }))
-}
-
 /// The primitive type that a word spells.
 fn primitive_of(words: &[Word<'_>], at: usize) -> Option<Primitive> {
-    match bytes_at(words, at) {
-        b"BOOL" => Some(Primitive::Bool),
-        b"BYTE" => Some(Primitive::Byte),
-        b"INT" => Some(Primitive::Int),
+    match (class_at(words, at), bytes_at(words, at)) {
+        (Class::Primitive, [b'I', ..]) => Some(Primitive::Int),
+        (Class::Primitive, [_, b'O', ..]) => Some(Primitive::Bool),
+        (Class::Primitive, _) => Some(Primitive::Byte),
         _ => None,
-    }
-}
-
-/// A type with so many sizes, under so many subscripts.
-fn under(primitive: Option<Primitive>, sizes: usize, subscripts: usize) -> Step {
-    match (primitive, sizes.checked_sub(subscripts)) {
-        (Some(primitive), Some(sizes)) => Step::Is(Some(Type { primitive, sizes })),
-        _ => Step::Is(None),
     }
 }
 
@@ -109,134 +87,94 @@ fn is_operand(class: Class) -> bool {
 pub(crate) fn gives_truth(words: &[Word<'_>], at: usize) -> bool {
     match class_at(words, at) {
         Class::And | Class::Equal | Class::Or => true,
-        Class::Dyadic => {
-            let bytes = bytes_at(words, at);
-            matches!(bytes, b"<>" | b"<" | b">" | b"<=" | b">=" | b"AFTER")
-        }
+        Class::Dyadic => matches!(
+            bytes_at(words, at),
+            [b'A', ..] | [b'<' | b'>'] | [b'<' | b'>', b'='] | [b'<', b'>']
+        ),
         _ => false,
     }
 }
 
-/// The type of a literal.
-fn literal(words: &[Word<'_>], asked: Asked, primitive: Primitive) -> Step {
-    if has_type(words, asked.at) {
-        under(
-            primitive_of(words, asked.at.saturating_add(2)),
-            0,
-            asked.subscripts,
-        )
+/// The primitive type of a literal.
+fn literal(words: &[Word<'_>], at: usize, primitive: Primitive) -> Option<Primitive> {
+    if has_type(words, at) {
+        primitive_of(words, at.saturating_add(2))
     } else {
-        under(Some(primitive), 0, asked.subscripts)
+        Some(primitive)
     }
 }
 
-/// The type of a declared name.
-fn named(text: &Text<'_>, asked: Asked, name: &[u8], subscripts: usize) -> Step {
-    let Some(found) = declaration_of(text, asked.line, name) else {
-        return Step::Is(None);
-    };
-    let words = text.words_at(found.line);
-    match found.spec.kind {
-        Kind::Index => under(Some(Primitive::Int), 0, subscripts),
-        Kind::Value if found.spec.of >= words.len() => Step::As(Asked {
-            line: found.line,
-            at: found.at.saturating_add(2),
-            subscripts,
-            is_alone: false,
-        }),
-        Kind::Value | Kind::Variable => {
-            under(
-                primitive_of(words, found.spec.of),
-                found.spec.sizes,
-                subscripts,
-            )
-        }
-        _ => Step::Is(None),
-    }
-}
-
-/// The type of what an operator stands before.
-fn behind(asked: Asked, is_alone: bool) -> Step {
-    Step::As(Asked {
-        at: asked.at.saturating_add(1),
-        is_alone,
-        line: asked.line,
-        subscripts: asked.subscripts,
-    })
-}
-
-fn one_step(text: &Text<'_>, asked: Asked) -> Step {
-    let words = text.words_at(asked.line);
-    let Some(word) = words.get(asked.at) else {
-        return Step::Is(None);
-    };
-    let end = operand_end(words, asked.at);
-    match word.class {
-        Class::Most => single(Primitive::Int),
-        Class::Primitive => Step::Is(primitive_of(words, asked.at).map(|primitive| Type {
-            primitive,
-            sizes: 0,
-        })),
-        Class::Monadic => match word.bytes {
-            b"NOT" => single(Primitive::Bool),
-            b"SIZE" => single(Primitive::Int),
-            _ => behind(asked, true),
-        },
-        Class::Minus => behind(asked, true),
-        _ if !asked.is_alone && gives_truth(words, end) => single(Primitive::Bool),
-        Class::OpenParen => behind(asked, false),
-        Class::ByteLiteral => literal(words, asked, Primitive::Byte),
-        Class::Number => literal(words, asked, Primitive::Int),
-        Class::Text => under(Some(Primitive::Byte), 1, asked.subscripts),
-        Class::Truth => under(Some(Primitive::Bool), 0, asked.subscripts),
-        Class::Name => {
-            let (_, count) = behind_sizes(words, asked.at.saturating_add(1));
-            named(
-                text,
-                asked,
-                word.bytes,
-                asked.subscripts.saturating_add(count),
-            )
-        }
-        _ => Step::Is(None),
-    }
-}
-
-fn found_type(text: &Text<'_>, asked: Asked) -> Option<Type> {
-    let mut asked = asked;
+/// The type of the expression at a place of a line, or of its first operand alone, where the words tell it.
+pub(crate) fn type_of(text: &Text<'_>, line: usize, at: usize, is_alone: bool) -> Option<Type> {
+    let (mut line, mut at, mut is_alone) = (line, at, is_alone);
+    let mut subscripts: usize = 0;
     for _ in 0..MOST_STEPS {
-        match one_step(text, asked) {
-            Step::Is(found) => return found,
-            Step::As(other) => asked = other,
-        }
+        let words = text.words_at(line);
+        let word = words.get(at)?;
+        let next = at.saturating_add(1);
+        // a primitive type, and how many sizes it has under no subscript
+        let (primitive, sizes) = match word.class {
+            Class::Most => (Some(Primitive::Int), subscripts),
+            Class::Primitive => (primitive_of(words, at), subscripts),
+            Class::Monadic if word.bytes.starts_with(b"N") => (Some(Primitive::Bool), subscripts),
+            Class::Monadic if word.bytes.starts_with(b"S") => (Some(Primitive::Int), subscripts),
+            Class::Monadic | Class::Minus => {
+                (at, is_alone) = (next, true);
+                continue;
+            }
+            _ if !is_alone && gives_truth(words, operand_end(words, at)) => {
+                (Some(Primitive::Bool), subscripts)
+            }
+            Class::OpenParen => {
+                (at, is_alone) = (next, false);
+                continue;
+            }
+            Class::ByteLiteral => (literal(words, at, Primitive::Byte), 0),
+            Class::Number => (literal(words, at, Primitive::Int), 0),
+            Class::Text => (Some(Primitive::Byte), 1),
+            Class::Truth => (Some(Primitive::Bool), 0),
+            Class::Name => {
+                let found = declaration_of(text, line, word.bytes)?;
+                subscripts = subscripts.saturating_add(behind_sizes(words, next).1);
+                let declaring = text.words_at(found.line);
+                match found.spec.kind {
+                    Kind::Index => (Some(Primitive::Int), 0),
+                    Kind::Value if found.spec.of >= declaring.len() => {
+                        line = found.line;
+                        (at, is_alone) = (found.at.saturating_add(2), false);
+                        continue;
+                    }
+                    Kind::Value | Kind::Variable => {
+                        (primitive_of(declaring, found.spec.of), found.spec.sizes)
+                    }
+                    _ => return None,
+                }
+            }
+            _ => return None,
+        };
+        return Some(Type {
+            primitive: primitive?,
+            sizes: sizes.checked_sub(subscripts)?,
+        });
     }
     None
 }
 
-/// The type of the expression at this place of a line, where the words tell it.
-pub(crate) fn type_at(text: &Text<'_>, line: usize, at: usize) -> Option<Type> {
-    found_type(
-        text,
-        Asked {
-            line,
-            at,
-            subscripts: 0,
-            is_alone: false,
-        },
-    )
-}
-
-/// The type of the operand at this place of a line, where the words tell it.
-pub(crate) fn operand_type(text: &Text<'_>, line: usize, at: usize) -> Option<Type> {
-    found_type(
-        text,
-        Asked {
-            line,
-            at,
-            subscripts: 0,
-            is_alone: true,
-        },
-    )
+/// The expression at a place, or the operand, where its type is known.
+pub(crate) fn typed_at(text: &Text<'_>, line: usize, from: usize, is_alone: bool) -> Option<Typed> {
+    let words = text.words_at(line);
+    let found = type_of(text, line, from, is_alone)?;
+    let to = if is_alone {
+        operand_end(words, from)
+    } else {
+        expression_end(words, from)
+    };
+    Some(Typed {
+        line,
+        from,
+        to,
+        found,
+    })
 }
 
 /// The type that is spelled at this place: sizes, and a primitive type.

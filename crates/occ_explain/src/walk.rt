@@ -1,17 +1,17 @@
 //! Where a line leaves the grammar.
 
 use crate::class::Class;
-use crate::grammar::{Part, row_of};
+use crate::grammar::{class_in, cut, made_of, said_of};
 use crate::scan::Word;
 use std::alloc::{AllocError, Global};
 
-/// Where a line leaves the grammar: how many words stand before, the part that is wanted there, none where the line has
+/// Where a line leaves the grammar: how many words stand before, the part or word that is wanted there, nothing where the line has
 /// to end, and the first part that was over there.
 #[derive(Clone, Copy)]
 pub(crate) struct Leaving {
     pub(crate) at: usize,
-    pub(crate) wanted: Option<Part>,
-    pub(crate) over: Option<Part>,
+    pub(crate) wanted: &'static str,
+    pub(crate) over: &'static [u8],
 }
 
 /// The class of a word; behind the last one the end's.
@@ -30,48 +30,48 @@ pub(crate) fn bytes_at<'a>(words: &[Word<'a>], at: usize) -> &'a [u8] {
     }
 }
 
-/// How many steps a line of so many words takes at most: each word has a part of its own, and is tried at few others.
-fn most_steps(words: usize) -> usize {
-    words.saturating_mul(16).saturating_add(64)
+/// The place of a word, from a place on; the number of words where it is none of them.
+pub(crate) fn word_from(words: &[Word<'_>], from: usize, bytes: &[u8]) -> usize {
+    for i in from..words.len() {
+        if words[i].bytes == bytes {
+            return i;
+        }
+    }
+    words.len()
 }
 
-/// Whether it tells something that such a part is over.
-fn is_told(part: Option<Part>) -> bool {
-    matches!(
-        part,
-        Some(Part::MoreAnd | Part::MoreOr | Part::Operator | Part::Whole)
-    )
-}
-
-/// Where a line that begins with this part leaves the grammar; none where it does not.
+/// Where a line that begins with this part leaves the grammar; none where it does not. Each word takes few steps.
 pub(crate) fn first_leaving(
     alloc: Global,
     words: &[Word<'_>],
-    start: Part,
+    start: &'static str,
 ) -> Result<Option<Leaving>, AllocError> {
-    let mut parts = Vec::new(alloc);
-    parts.push(start)?;
-    let mut at: usize = 0;
-    let mut over = None;
-    for _ in 0..most_steps(words.len()) {
+    let mut rows = Vec::new(alloc);
+    rows.push(start)?;
+    let (mut at, mut over) = (0, b"".as_slice());
+    for _ in 0..words.len().saturating_mul(32).saturating_add(128) {
         let class = class_at(words, at);
-        let wanted = parts.pop();
-        let row = match wanted {
-            Some(part) => row_of(part, class),
-            None if class == Class::End => return Ok(None),
-            None => None,
-        };
-        let Some(row) = row else {
-            return Ok(Some(Leaving { at, wanted, over }));
-        };
-        if !row.words.is_empty() {
-            at = at.saturating_add(1);
-            over = None;
-        } else if row.then.is_empty() && over.is_none() && is_told(wanted) {
-            over = wanted;
+        let (wanted, behind) = cut(rows.pop().unwrap_or(""));
+        if wanted.is_empty() && class == Class::End {
+            return Ok(None);
         }
-        for part in row.then.iter().rev() {
-            parts.push(*part)?;
+        if !behind.is_empty() {
+            rows.push(behind)?;
+        }
+        let word = class_in(wanted);
+        if word.is_none()
+            && let Some(then) = made_of(wanted, class)
+        {
+            if !then.is_empty() {
+                rows.push(then)?;
+            } else if over.is_empty() && !said_of(wanted.as_bytes()).is_empty() {
+                over = wanted.as_bytes();
+            }
+        } else if word == Some(class) {
+            at = at.saturating_add(1);
+            over = b"";
+        } else {
+            return Ok(Some(Leaving { at, wanted, over }));
         }
     }
     Ok(None)

@@ -1,3 +1,4 @@
+mod ChartsOfRuns
 mod Members
 mod Named
 mod NotedInputs

@@ -2,8 +2,6 @@
 -- Manual: nothing; this is (own).
 use Rattle.std.specs.Prelude.{List, None, Option, Some, Vec, [], length, min, option_map, suc, zero, ℕ, ◌++◌, ◌∷◌, ◌≡◌, ◌≤◌}
 use Rattle.std.specs.Str.Lines.{lines}
-use Rattle.occ_choices.specs.Plans.{choices_of}
-use Rattle.occ_choices.specs.declared.plan.Plan.{Plan}
 use Rattle.occ_machine.specs.Compiled.{Program}
 use Rattle.occ_net_replay.specs.declared.choice.Choice.{Choice}
 use Rattle.occ_play.specs.declared.fault.PlayFault.{PlayFault}
@@ -24,7 +22,7 @@ use Rattle.occ_explaining.specs.Files.{SourceFiles, place_told}
 use Rattle.occ_explain.specs.Places.{IsNear, IsPlace, line_numbered}
 use Rattle.occ_explain.specs.Explanations.{explained_text}
 use Rattle.occ_chart.specs.declared.part.Part.{Part}
-use Rattle.occ_charting.specs.Charting.{IsRunChart}
+use Rattle.occ_explaining.specs.Charting.{IsRunChart}
 use Rattle.occ_places.specs.Places.{Fits, Known, name_of}
 use Rattle.occ_steps.specs.Steps.{IsSteps}
 use Rattle.occ_report.specs.Reports.{IsCircleOf, IsReport}
@@ -107,17 +105,22 @@ TellsRefusal source files (Some refusal) (Some bytes) = IsExplained source files
 abbrev pub TellsFault : {A : Type 0} → (source : List ℕ) → SourceFiles → PlayFault → Option (Vec ℕ A) → Type 0
 TellsFault source files fault told = TellsRefusal source files (refusal_in fault) (option_map (λ v. v.items) told)
 
--- The report of the run of a source by these choices, by the code that it has for turns of these options. What it tells of places
--- fits that code and the logical lines of the source; who is at the ends of channels is told by what the program of the source uses.
-pub record ReportsOn (options : Options) (source keyboard : List ℕ) (list : List Choice) (bytes : List ℕ) : Type 0 where
-  pub program : Program
+-- What is known of a source: its code for turns of these options, a table that fits the code and the logical lines of the source, and the
+-- program that it unfolds to.
+pub record IsKnown (options : Options) (source : List ℕ) (program : Program) (known : List Known) (unfolded : UnfoldedProgram) : Type 0 where
   pub code : IsTextsCode options source program
   pub read : List LogicalLine
   pub reads : LinesOf source read
-  pub known : List Known
   pub fits : Fits program read known
-  pub unfolded : UnfoldedProgram
   pub unfolds : Unfolds source unfolded
+
+-- The report of the run of a source by these choices. What it tells of places is told by the table, and who is at the ends of channels by
+-- what the program of the source uses.
+pub record ReportsOn (options : Options) (source keyboard : List ℕ) (list : List Choice) (bytes : List ℕ) : Type 0 where
+  pub program : Program
+  pub known : List Known
+  pub unfolded : UnfoldedProgram
+  pub are : IsKnown options source program known unfolded
   pub report : IsReport (meaning unfolded) program keyboard list known bytes
 
 -- the names of the first so many processes, empty where they aren't known
@@ -125,33 +128,21 @@ abbrev pub first_names : List Known → ℕ → List (List ℕ)
 first_names known zero = []
 first_names known (suc n) = first_names known n ++ name_of known n ∷ []
 
--- The chart of the run of a source by these choices, whose columns have the names of a table that fits the code and the lines of the
--- source, and at whose foot stand processes that wait in a circle, where there are some.
+-- The chart of the run of a source by these choices, whose columns have the names of the table, and at whose foot stand processes that
+-- wait in a circle, where there are some.
 pub record IsNamedChart (options : Options) (source keyboard : List ℕ) (list : List Choice) (part : Part) (bytes : List ℕ) : Type 0 where
   pub program : Program
-  pub code : IsTextsCode options source program
-  pub read : List LogicalLine
-  pub reads : LinesOf source read
   pub known : List Known
-  pub fits : Fits program read known
-  pub names : List (List ℕ)
-  pub are : names ≡ first_names known (min (length program.bodies) 4294967295)
   pub unfolded : UnfoldedProgram
-  pub unfolds : Unfolds source unfolded
+  pub are : IsKnown options source program known unfolded
   pub circle : List ℕ
   pub waits : IsCircleOf (meaning unfolded) program keyboard list circle
-  pub chart : IsRunChart options source keyboard list part names circle bytes
+  pub chart : IsRunChart options source keyboard list part (first_names known (min (length program.bodies) 4294967295)) circle bytes
 
--- by the choices of a plan
-abbrev pub IsNamedChartBy : {A : Type 0} → Options → (source keyboard : List ℕ) → Plan → Part → Vec ℕ A → Type 0
-IsNamedChartBy options source keyboard plan part bytes = IsNamedChart options source keyboard (choices_of plan) part bytes.items
-
--- The turns of the run of a source by these choices. The lines at which processes stand fit the code and the lines of the source.
+-- The turns of the run of a source by these choices, with the lines of the table at which processes stand.
 pub record StepsOf (options : Options) (source keyboard : List ℕ) (list : List Choice) (bytes : List ℕ) : Type 0 where
   pub program : Program
-  pub code : IsTextsCode options source program
-  pub read : List LogicalLine
-  pub reads : LinesOf source read
   pub known : List Known
-  pub fits : Fits program read known
+  pub unfolded : UnfoldedProgram
+  pub are : IsKnown options source program known unfolded
   pub steps : IsSteps known program keyboard list bytes

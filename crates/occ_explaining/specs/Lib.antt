@@ -1,5 +1,9 @@
 pub mod Files
 pub mod Explaining
+pub mod Shown
 pub mod Typing
 pub mod Objects
 pub mod Unreached
+pub mod Traced
+pub mod Charting
+pub mod Studied

@@ -1,27 +1,34 @@
-//! What is told behind the first line of a refused text, and behind the ending of a run: [`explained_fault`] has the
-//! explanation of a refusal, [`refusal_object`] the same as an object of JSON, [`unreached_told`] the PROCs that no call reaches,
-//! [`report_of`] what each process stands at that is left, [`named_chart`] a chart with the names of the PROCs, and
-//! [`steps_of`] the turns of a run. [`may_input`] tells whether what is typed can change anything, and
-//! [`past_of`] whether choices name who is ready.
+//! What is told behind the first line of a refused text, and of a run: [`explained_fault`] has the explanation of a refusal,
+//! [`refusal_object`] the same as an object of JSON, [`unreached_told`] the PROCs that no call reaches. [`study`] reads a source once;
+//! by what it finds [`report_of`] tells what each process stands at that is left, [`chart_of`] draws a chart with the names of the PROCs,
+//! [`steps_of`] has the turns of a run, [`trace_of`] its trace for a file, [`run_texts`] what a page has of it that [`page_of`] makes, and [`past_of`] tells whether
+//! choices name who is ready. [`may_input`] tells whether what is typed can change anything.
 #![tactic(auto)]
 
 pub mod charted;
+mod feet;
 pub mod files;
 pub mod keyboard;
 pub mod objects;
+pub mod paged;
 pub mod past;
 mod refusal_names;
 pub mod refused;
 pub mod reported;
 pub mod stepped;
+pub mod studied;
+pub mod tracing;
 pub mod unreached;
 
-pub use charted::named_chart;
+pub use charted::chart_of;
 pub use files::{Files, beginnings};
 pub use keyboard::may_input;
 pub use objects::refusal_object;
+pub use paged::{page_of, run_texts};
 pub use past::past_of;
 pub use refused::explained_fault;
 pub use reported::report_of;
 pub use stepped::steps_of;
+pub use studied::{Studied, study};
+pub use tracing::{Form, trace_of};
 pub use unreached::unreached_told;

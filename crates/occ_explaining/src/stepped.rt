@@ -1,37 +1,25 @@
 //! The turns of the run of a source.
-ghost use Rattle.std.specs.Prelude.{IfErr, IfOk};
-ghost use Rattle.occ_explaining.specs.Explaining.{StepsOf};
-ghost use Rattle.occ_play.specs.Playing.{Refuses};
+ghost use Rattle.std.specs.Prelude.{IfOk};
+ghost use Rattle.occ_explaining.specs.Studied.{StepsBy};
 
-use crate::reported::{lines_of, tree_of};
+use crate::studied::Studied;
 use occ_net_replay::Choice;
-use occ_places::places_of;
-use occ_play::{Options, PlayFault, code_of};
 use occ_steps::steps;
-use std::alloc::Global;
+use std::alloc::{AllocError, Global};
 
 /// The line of each turn of the run of a source by these choices, with the lines of the source at which turns stop.
 ///
 /// # Errors
 ///
-/// As of `play_in`, but for `Write`.
-#[tactic(auto, using(crate::proofs::Refusing::refuses_text))]
+/// A refused growth.
 pub fn steps_of(
-    options: &Options,
+    studied: &Studied,
     alloc: Global,
-    source: &[u8],
     keyboard: &[u8],
     choices: &[Choice],
-) -> Result<Vec<u8>, PlayFault>
-    ensures told { IfOk result (λ bytes.
-        StepsOf options.now source.now keyboard.now choices.now bytes.items) }
-    ensures refused { IfErr result (Refuses options.now source.now) }
+) -> Result<Vec<u8>, AllocError>
+    ensures { IfOk result (StepsBy studied.now keyboard.now choices.now) }
 {
-    let code = code_of(options, alloc, source)?;
-    let lines = lines_of(alloc, source)?;
-    let tree = tree_of(alloc, source)?;
-    let read = lines.lines.as_slice();
-    let places = places_of(alloc, &tree, &code, read)?;
-    let bytes = steps(alloc, &code, &places, keyboard, choices)?;
+    let bytes = steps(alloc, &studied.code, &studied.places, keyboard, choices)?;
     Ok(bytes)
 }

@@ -5,7 +5,7 @@ ghost use Rattle.occ_explaining.specs.Unreached.{RefusesToTell, TellsUnreached, 
 ghost use Rattle.occ_reach.specs.Reach.{unchecked_head};
 
 use crate::files::{Files, place_told};
-use crate::reported::lines_of;
+use crate::studied::lines_of;
 use occ_files::printed_name;
 use occ_json::{Member, Value, object_line};
 use occ_play::PlayFault;

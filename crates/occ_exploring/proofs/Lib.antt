@@ -5,3 +5,4 @@ mod OfStepRuns
 mod AnyQuantum
 mod Among
 mod KeptRuns
+mod OfUses

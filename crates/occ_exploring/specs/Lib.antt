@@ -5,3 +5,4 @@ pub mod Statuses
 pub mod Alone
 pub mod AnyQuantum
 pub mod Within
+pub mod Using

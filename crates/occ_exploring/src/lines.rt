@@ -1,9 +1,10 @@
 //! Says what a search has found.
 ghost use Rattle.std.specs.Prelude.{◌≡◌, ◌≤◌, IfOk, OnOk, length};
-ghost use Rattle.occ_exploring.specs.Texts.{all_text, answer_line, answer_lines, answers_text, bound_text, so_many, error_text, exploration_text, held_text, lasting_text, left_text, said_of};
+ghost use Rattle.occ_exploring.specs.Texts.{all_text, answer_line, answer_lines, answers_text, bound_text, so_many, error_text, exploration_text, held_text, stop_kind_text, lasting_text, left_text, said_of};
 ghost use Rattle.occ_shown.specs.Answers.{AddsText};
 
 use crate::strings::write_string;
+use occ_ends::Kind;
 use occ_explore::{Answer, Asked, Exploration, Lasting, Verdict};
 use std::alloc::{AllocError, Global};
 
@@ -58,6 +59,37 @@ fn write_held(
     }
 }
 
+/// Of what kind a stop is, where that is told.
+fn kind_text(kind: Option<Kind>) -> &'static [u8]
+    ensures { result.now ≡ stop_kind_text kind }
+{
+    match kind {
+        None => b"",
+        Some(Kind::Circle) => b": circle",
+        Some(Kind::Halted) => b": halted",
+        Some(Kind::Unfinished) => b": unfinished",
+        Some(Kind::Idle) => b": idle",
+    }
+}
+
+/// The line of an answer: its number, its ending, what is then held, how many choices come to it, and the kind of its stop.
+///
+/// # Errors
+///
+/// A refused growth.
+pub fn answer_line(
+    alloc: Global,
+    asked: Asked,
+    number: usize,
+    answer: &Answer,
+) -> Result<Vec<u8>, AllocError>
+    ensures { IfOk result (λ line. line.items ≡ answer_line asked number answer.now) }
+{
+    let mut line = Vec::new(alloc);
+    write_answer(alloc, &mut line, asked, number, answer)?;
+    Ok(line)
+}
+
 pub(crate) fn write_answer(
     alloc: Global,
     out: &mut Vec<u8>,
@@ -72,6 +104,7 @@ pub(crate) fn write_answer(
     write_held(alloc, out, asked, answer)?;
     out.extend_from_slice(b" by ")?;
     write_counted(alloc, out, answer.choices.len(), b"choice")?;
+    out.extend_from_slice(kind_text(answer.kind))?;
     out.push(b'\n')?;
     Ok(())
 }

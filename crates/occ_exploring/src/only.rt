@@ -4,6 +4,7 @@ ghost use Rattle.occ_exploring.specs.Alone.{IsOnlyFor, IsUntoldFor, only_status,
 ghost use Rattle.occ_play.specs.Playing.{Refuses};
 
 use crate::lines::{write_answer, write_counted};
+use crate::using::uses_of;
 use occ_explore::{Answer, Asked};
 use occ_only_answer::only_answer;
 use occ_play::{Options, PlayFault, code_of};
@@ -31,7 +32,8 @@ pub fn only_answer_in(
     ensures refused { IfErr result (Refuses options.now source.now) }
 {
     let code = code_of(options, alloc, source)?;
-    let found = only_answer(alloc, &code, keyboard, most)?;
+    let uses = uses_of(alloc, source)?;
+    let found = only_answer(alloc, uses.as_slice(), &code, keyboard, most)?;
     Ok(found)
 }
 

@@ -24,7 +24,7 @@ pub struct Member<'a> {
 }
 
 /// A hexadecimal digit.
-fn hex_digit(value: u8) -> u8
+pub(crate) fn hex_digit(value: u8) -> u8
     requires { value < 16 }
     ensures { result ≡ hex_digit value }
 {

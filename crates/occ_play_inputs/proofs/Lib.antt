@@ -1,3 +1,4 @@
 mod Whole
 mod Joining
 mod EachPath
+mod SeedRows

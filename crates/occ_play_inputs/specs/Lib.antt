@@ -4,3 +4,5 @@ pub mod Modes
 pub mod Paths
 pub mod Searches
 pub mod Notices
+pub mod Seeds
+pub mod Numbers

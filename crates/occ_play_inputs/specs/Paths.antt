@@ -1,6 +1,6 @@
 -- Which paths of the words may be one.
 -- Manual: nothing; this is (own).
-use Rattle.std.specs.Prelude.{List, None, Option, Some, codes, ℕ, ◌≡◌, ◌≢◌, ◌⊎◌}
+use Rattle.std.specs.Prelude.{Bool, IsTrue, List, None, Option, Some, codes, ℕ, ◌≡◌, ◌≢◌, ◌⊎◌}
 use Rattle.std.specs.Borrow.{Bor}
 
 -- they do not both name one path
@@ -35,7 +35,15 @@ IsUnread typed file choices = Differ typed file × Differ typed choices
 abbrev pub HasOwnFile : (typed written drawn traced turns : Option (Bor (List ℕ))) → Type 0
 HasOwnFile typed written drawn traced turns = Differ typed written × Differ typed drawn × Differ typed traced × Differ typed turns
 
--- a further file of the source is not that of what was typed
+-- the page goes into no file that is read, and has one of its own
+abbrev pub IsPageApart : (page file choices written drawn traced turns typed : Option (Bor (List ℕ))) → Type 0
+IsPageApart page file choices written drawn traced turns typed =
+    IsUnread page file choices × HasOwnFile page written drawn traced turns × Differ page typed
+
+abbrev pub TellsPageApart : Bool → (page file choices written drawn traced turns typed : Option (Bor (List ℕ))) → Type 0
+TellsPageApart told page file choices written drawn traced turns typed = IsTrue told → IsPageApart page file choices written drawn traced turns typed
+
+-- a further file of the source is not that of what was typed, or of the page
 abbrev pub IsUntyped : (typed : Option (Bor (List ℕ))) → Bor (List ℕ) → Type 0
 IsUntyped typed path = Differ typed (Some path)
 

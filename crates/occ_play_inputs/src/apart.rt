@@ -1,7 +1,7 @@
 //! That a file which is written is none that is read, and not the other one.
 ghost use Rattle.std.specs.Prelude.{◌≡◌, All, IfErr, IsTrue};
 ghost use Rattle.occ_play_inputs.specs.declared.failure.Failure.{Failure};
-ghost use Rattle.occ_play_inputs.specs.Paths.{AreApart, AreTextsApart, Differ, HasOwnFile, IsNoneOf, IsUnread, IsUntyped, IsUnwritten};
+ghost use Rattle.occ_play_inputs.specs.Paths.{AreApart, AreTextsApart, Differ, HasOwnFile, IsNoneOf, TellsPageApart, IsUnread, IsUntyped, IsUnwritten};
 
 use crate::failure::Failure;
 use crate::words::Words;
@@ -131,6 +131,25 @@ pub(crate) fn has_own_file(
     differ(typed, written) && differ(typed, drawn) && differ(typed, traced) && differ(typed, turns)
 }
 
+/// Whether the path of the page is none that is read, but for further files of the source, and none of the others that are written.
+pub(crate) fn is_page_apart(
+    page: Option<&str>,
+    file: Option<&str>,
+    choices: Option<&str>,
+    written: Option<&str>,
+    drawn: Option<&str>,
+    traced: Option<&str>,
+    turns: Option<&str>,
+    typed: Option<&str>,
+) -> bool
+    ensures { TellsPageApart result page.entry file.entry choices.entry written.entry drawn.entry
+        traced.entry turns.entry typed.entry }
+{
+    is_unread(page, file, choices)
+        && has_own_file(page, written, drawn, traced, turns)
+        && differ(page, typed)
+}
+
 /// Whether what was typed goes into none of these further files of the source.
 pub(crate) fn are_untyped(paths: &[&str], typed: Option<&str>) -> bool
     ensures { IsTrue result → All (IsUntyped typed.entry) paths.now }
@@ -179,11 +198,22 @@ pub fn check_files<R: Files>(rt: &R, words: &Words<'_>) -> Result<(), Failure>
         || name_one(rt, words.typed, words.chart)
         || name_one(rt, words.typed, words.trace_to)
         || name_one(rt, words.typed, words.steps);
-    if met || writes_one(rt, words) {
+    if met || is_paged(rt, words) || writes_one(rt, words) {
         Err(Failure::Paths)
     } else {
         Ok(())
     }
+}
+
+/// Whether the page goes into a file that is read, or into another that is written, by whatever paths.
+fn is_paged<R: Files>(rt: &R, words: &Words<'_>) -> bool {
+    name_one(rt, words.page, words.file)
+        || name_one(rt, words.page, words.choices)
+        || name_one(rt, words.page, words.record)
+        || name_one(rt, words.page, words.chart)
+        || name_one(rt, words.page, words.trace_to)
+        || name_one(rt, words.page, words.steps)
+        || name_one(rt, words.page, words.typed)
 }
 
 /// Whether a file that is written is a further file of the source, by whatever paths.
@@ -195,6 +225,7 @@ fn writes_one<R: Files>(rt: &R, words: &Words<'_>) -> bool {
             || name_one(rt, words.chart, path)
             || name_one(rt, words.trace_to, path)
             || name_one(rt, words.steps, path)
+            || name_one(rt, words.page, path)
         {
             return true;
         }

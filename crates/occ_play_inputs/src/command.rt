@@ -37,7 +37,7 @@ struct Word {
 
 /// The words, in the order in which help tells of them.
 #[rattlefmt::skip]
-static WORDS: [Word; 25] = [
+static WORDS: [Word; 26] = [
     Word { name: "limit", form: Form::Value, value: "N", takes: ValueParser::Signed(0, MOST_TURNS as i64),
         needs: &[], apart: &[],
         help: "Ends the run after N turns, 0 to 10000000 [default: 1000000]" },
@@ -86,6 +86,9 @@ static WORDS: [Word; 25] = [
     Word { name: "steps", form: Form::Value, value: "FILE", takes: ValueParser::String,
         needs: &[], apart: &[],
         help: "Writes a line for each turn into FILE: who was ready, who took the turn, and where it stopped" },
+    Word { name: "page", form: Form::Value, value: "FILE", takes: ValueParser::String,
+        needs: &[], apart: &[],
+        help: "Writes a page for a browser into FILE, which goes turn by turn through the run, or through that of each answer of a search" },
     Word { name: "watch", form: Form::Flag, value: "", takes: ValueParser::String,
         needs: &[], apart: &[],
         help: "Prints each communication to standard error, as a second thread saw it" },
@@ -103,14 +106,14 @@ static WORDS: [Word; 25] = [
             "seed", "tries", "watch", "live", "typed"],
         help: "Tells the outcomes of all schedules: answers are endings with what the screen got, endings stand alone, full visits every state for its answers [default: answers]" },
     Word { name: "within", form: Form::Value, value: "SPEC", takes: ValueParser::String,
-        needs: &[], apart: &["json", "limit", "workers", "choices", "chart", "arrows", "last", "trace", "trace-to", "steps",
+        needs: &[], apart: &["json", "limit", "workers", "choices", "chart", "arrows", "last", "trace", "trace-to", "steps", "page",
             "seed", "tries", "watch", "live", "typed"],
         help: "Tells whether each outcome of the program is one of the program in SPEC; with --explore=endings it compares endings alone" },
     Word { name: "states", form: Form::Value, value: "N", takes: ValueParser::Signed(1, MOST_STATES as i64),
         needs: &[], apart: &[],
         help: "Lets the search visit at most N states, 1 to 10000000 [default: 1000000]" },
     Word { name: "check", form: Form::Flag, value: "", takes: ValueParser::String,
-        needs: &[], apart: &["limit", "workers", "choices", "chart", "arrows", "last", "trace", "trace-to", "steps", "seed", "tries", "watch",
+        needs: &[], apart: &["limit", "workers", "choices", "chart", "arrows", "last", "trace", "trace-to", "steps", "page", "seed", "tries", "watch",
             "live", "typed", "record", "explore", "within", "states"],
         help: "Says whether the source is refused, and plays nothing" },
     Word { name: "FILE", form: Form::Files, value: "", takes: ValueParser::String, needs: &[], apart: &[],
@@ -178,8 +181,12 @@ fn formed<'a>(arg: Arg<'a>, word: &Word) -> Arg<'a> {
 
 /// The word with its value.
 fn valued<'a>(arg: Arg<'a>, word: &Word) -> Arg<'a> {
-    let named = arg.long(word.name).value_name(word.value);
-    named.value_parser(word.takes)
+    taking(arg.long(word.name).value_name(word.value), word.takes)
+}
+
+/// The word whose value has to be this.
+fn taking<'a>(arg: Arg<'a>, takes: ValueParser<'a>) -> Arg<'a> {
+    arg.value_parser(takes)
 }
 
 /// The word with its value behind `=`, or none.

@@ -3,7 +3,7 @@ ghost use Rattle.std.specs.Prelude.{◌≡◌, ◌≢◌};
 ghost use Rattle.std.specs.IoError.{error_kind};
 ghost use Rattle.clap.specs.Values.{kind_of};
 ghost use Rattle.occ_files.specs.Reasons.{reason_of};
-ghost use Rattle.occ_play_inputs.specs.Failures.{TellsWrongWords, failure_status, read_failure, trouble};
+ghost use Rattle.occ_play_inputs.specs.Failures.{FailsToRead, FailsToWrite, TellsWrongWords, failure_status, read_failure, trouble};
 
 use clap::error::ErrorKind as WordsErrorKind;
 use occ_choices::ChoiceFault;
@@ -38,6 +38,8 @@ pub enum Stream {
     Trace,
     /// The file of the turns.
     Turns,
+    /// The file of the page.
+    Page,
     /// The file of what was typed.
     Typed,
 }
@@ -67,7 +69,7 @@ pub enum Failure {
     #[error("an argument is no UTF-8")]
     Arguments,
     /// A file that is to be written is one that is read, or another that is written.
-    #[error("--record, --typed, --chart, --trace-to and --steps each write into a file of their own")]
+    #[error("--record, --typed, --chart, --trace-to, --steps and --page each write into a file of their own")]
     Paths,
     /// A file or a stream could not be read.
     #[error("read failed")]
@@ -147,6 +149,7 @@ pub fn of_read(stream: Stream, error: io::Error) -> Failure
     ensures memory { error_kind error ≡ ErrorKind.OutOfMemory → result ≡ Failure.Memory }
     ensures other { error_kind error ≢ ErrorKind.OutOfMemory
         → result ≡ Failure.Read (trouble stream (reason_of error)) }
+    ensures failed { FailsToRead stream result }
 {
     match error.kind() {
         ErrorKind::OutOfMemory => Failure::Memory,
@@ -162,6 +165,7 @@ pub fn of_write(stream: Stream, error: io::Error) -> Failure
     ensures memory { error_kind error ≡ ErrorKind.OutOfMemory → result ≡ Failure.Memory }
     ensures other { error_kind error ≢ ErrorKind.OutOfMemory
         → result ≡ Failure.Write (trouble stream (reason_of error)) }
+    ensures failed { FailsToWrite stream result }
 {
     match error.kind() {
         ErrorKind::OutOfMemory => Failure::Memory,

@@ -8,10 +8,10 @@ ghost use Rattle.occ_play_inputs.specs.Notices.{notice_of};
 ghost use Rattle.occ_play_inputs.specs.declared.failure.Stream.TheVariants.{Keyboard, Specification};
 
 use crate::failure::{Failure, Stream, of_input, of_read};
+use crate::seeds::seeded_plan;
 use crate::words::Words;
 use occ_choices::{Plan, read_choices};
 use occ_files::{CountedReader, read_input};
-use occ_seeds::seeded_plan;
 use occ_sources::{add_text, last_line};
 use std::alloc::{AllocError, Global};
 use std::fs;
@@ -97,11 +97,7 @@ pub fn read_source<R: Files + Input>(
     ensures failed { IfErr result FailsToReadSource }
 {
     match words.file {
-        None => {
-            let mut source = empty_source(alloc);
-            read_behind(alloc, &mut source, Stream::Source, rt.reader())?;
-            Ok(source)
-        }
+        None => read_first(alloc, Stream::Source, rt.reader()),
         Some(path) => read_files(rt, alloc, path, words.more.as_slice()),
     }
 }
@@ -116,9 +112,27 @@ pub fn read_specification<R: Files>(rt: &R, alloc: Global, path: &str) -> Result
     ensures joined { IfOk result (IsJoin 1) }
     ensures failed { IfErr result (FailsToRead Specification) }
 {
+    read_file(rt, alloc, Stream::Specification, path)
+}
+
+/// The source of the file of this path alone.
+fn read_file<R: Files>(rt: &R, alloc: Global, stream: Stream, path: &str) -> Result<Joined, Failure>
+    ensures few { IfOk result (λ source. length source.bytes.items ≤ 1048577) }
+    ensures joined { IfOk result (IsJoin 1) }
+    ensures failed { IfErr result (FailsToRead stream) }
+{
+    let file = open(rt, stream, path)?;
+    read_first(alloc, stream, file)
+}
+
+/// The source of this file alone.
+fn read_first<S: Read + Drop>(alloc: Global, stream: Stream, file: S) -> Result<Joined, Failure>
+    ensures few { IfOk result (λ source. length source.bytes.items ≤ 1048577) }
+    ensures joined { IfOk result (IsJoin 1) }
+    ensures failed { IfErr result (FailsToRead stream) }
+{
     let mut source = empty_source(alloc);
-    let file = open(rt, Stream::Specification, path)?;
-    read_behind(alloc, &mut source, Stream::Specification, file)?;
+    read_behind(alloc, &mut source, stream, file)?;
     Ok(source)
 }
 
@@ -144,15 +158,30 @@ fn read_files<R: Files>(
     ensures joined { IfOk result (IsJoin (suc (length more.now))) }
     ensures failed { IfErr result FailsToReadSource }
 {
-    let mut source = empty_source(alloc);
-    let file = open(rt, Stream::Source, first)?;
-    read_behind(alloc, &mut source, Stream::Source, file)?;
+    let mut source = read_file(rt, alloc, Stream::Source, first)?;
     for place in 0..more.len() {
-        note_end(&mut source)?;
-        let file = open(rt, Stream::More(place), more[place])?;
-        read_behind(alloc, &mut source, Stream::More(place), file)?;
+        read_next(rt, alloc, &mut source, place, more[place])?;
     }
     Ok(source)
+}
+
+/// Reads one more file, and adds its text to those before it.
+fn read_next<R: Files>(
+    rt: &R,
+    alloc: Global,
+    source: &mut Joined,
+    place: usize,
+    path: &str,
+) -> Result<(), Failure>
+    requires { length source.old.bytes.items ≤ 1048577 }
+    ensures few { OnOk result (length source.new.bytes.items ≤ 1048577) }
+    ensures joined { OnOk result (PutsSome source.old source.new) }
+    ensures noted { OnOk result (NotesEnd source.old source.new) }
+    ensures failed { IfErr result FailsToReadSource }
+{
+    note_end(source)?;
+    let file = open(rt, Stream::More(place), path)?;
+    read_behind(alloc, source, Stream::More(place), file)
 }
 
 /// Notes the number of the last line, before another file.

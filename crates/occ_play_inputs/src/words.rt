@@ -1,24 +1,23 @@
 //! The words of the command line.
-ghost use Rattle.std.specs.Prelude.{◌≡◌, ◌≤◌, ◌<◌, All, IfOk, IsTrue, unwrap_or};
+ghost use Rattle.std.specs.Prelude.{◌≤◌, All};
 ghost use Rattle.std.specs.Option.{ForSome, option_copied};
 ghost use Rattle.occ_choices.specs.Crews.{IsCrew};
 ghost use Rattle.occ_code.specs.CodeOf.{IsQuantum};
 ghost use Rattle.occ_play_inputs.specs.Modes.{IsMode};
-ghost use Rattle.occ_play_inputs.specs.Paths.{AreApart, HasOwnFile, IsSourcePath, IsUnread, IsUntyped, IsUnwritten};
+ghost use Rattle.occ_play_inputs.specs.Paths.{AreApart, HasOwnFile, IsPageApart, IsUnread, IsUntyped, IsUnwritten};
 ghost use Rattle.occ_play_inputs.specs.Searches.{IsFull, IsSearch};
 
-use crate::apart::{are_apart, are_untyped, are_unwritten, has_own_file, is_unread};
 use crate::command::command;
+use crate::numbers::numbers_of;
+use crate::paths::{Paths, paths_of};
 use clap::error::ErrorKind;
 use clap::{ArgMatches, Command, Error};
-use occ_choices::is_crew;
-use occ_code::MOST_QUANTUM;
 use occ_explore::Asked;
 use occ_term::Errors;
 use std::alloc::{AllocError, Global};
 
 /// The version of the program, which `CHANGELOG.md` tells of.
-pub const VERSION: &str = "0.9.0";
+pub const VERSION: &str = "1.0.0";
 
 /// How many turns a run may take where no word says so.
 pub const DEFAULT_LIMIT: u32 = 1_000_000;
@@ -43,10 +42,6 @@ pub const DEFAULT_STATES: u32 = 1_000_000;
 
 /// The most states that a word may ask for.
 pub const MOST_STATES: u32 = 10_000_000;
-
-/// What is told where two words name one file.
-const ONE_FILE: &str =
-    "--record, --typed, --chart, --trace-to and --steps each write into a file of their own";
 
 /// What the words of the command line say.
 #[derive(Debug, Drop)]
@@ -97,6 +92,8 @@ pub struct Words<'a> {
     pub json: bool,
     /// The path of the file into which a line for each turn is written.
     pub steps: Option<&'a str>,
+    /// The path of the file into which a page that shows the run is written.
+    pub page: Option<&'a str>,
     /// What a search of all lists of choices tells; none where one run is played. Then `record` names files, one for each
     /// answer, and the limit, the workers, the choices, the trace, the turns and the chart say nothing.
     pub explore: Option<Asked>,
@@ -126,6 +123,28 @@ pub struct Words<'a> {
     ghost typed_unread: { IsUnread typed file choices },
     ghost typed_apart: { HasOwnFile typed «record» chart trace_to steps },
     ghost more_untyped: { All (IsUntyped typed) more.items },
+    ghost page_apart: { IsPageApart page file choices «record» chart trace_to steps typed },
+    ghost more_unpaged: { All (IsUntyped page) more.items },
+}
+
+/// The numbers of a run or a search, as [`Words`] has them.
+#[derive(Clone, Copy)]
+pub(crate) struct Numbers {
+    pub(crate) limit: u32,
+    pub(crate) quantum: u32,
+    pub(crate) workers: Option<u32>,
+    pub(crate) states: u32,
+    pub(crate) seed: Option<u32>,
+    pub(crate) tries: u32,
+    pub(crate) arrows: u32,
+    ghost limit_in_range: { limit ≤ 10000000 },
+    ghost quantum_in_range: { IsQuantum quantum },
+    ghost workers_in_range: { ForSome workers IsCrew },
+    ghost some_states: { 1 ≤ states },
+    ghost states_in_range: { states ≤ 10000000 },
+    ghost seed_in_range: { ForSome seed (λ n. n ≤ 1000000000) },
+    ghost some_tries: { 1 ≤ tries },
+    ghost tries_in_range: { tries ≤ 1000000 },
 }
 
 /// Reads the words, of which the first is the program's name.
@@ -161,26 +180,6 @@ fn more_of<'a>(alloc: Global, matches: &ArgMatches<'a>) -> Result<Vec<&'a str>, 
     }
 }
 
-/// Whether one of these paths is a hyphen.
-fn has_hyphen(paths: &[&str]) -> bool {
-    for path in paths {
-        if *path == "-" {
-            return true;
-        }
-    }
-    false
-}
-
-/// The path of the source's first file, where the words gave this one or none: a hyphen is standard input.
-fn file_of<'a>(given: Option<&'a str>) -> Option<&'a str>
-    ensures { IsSourcePath (option_copied given.entry) (option_copied result) }
-{
-    match given {
-        Some("-") => None,
-        given => given,
-    }
-}
-
 /// The error that tells this of the words.
 fn refused<'a>(command: &mut Command<'a>, told: &str) -> Error {
     match command.error(ErrorKind::ValueValidation, told) {
@@ -189,133 +188,63 @@ fn refused<'a>(command: &mut Command<'a>, told: &str) -> Error {
     }
 }
 
+/// What is told where a word stands without one that it needs.
+fn needed(matches: &ArgMatches<'_>) -> Option<&'static str> {
+    let searches = matches.get_str("explore").is_some() || matches.get_str("within").is_some();
+    if !searches && matches.get_one::<u32>("states").is_some() {
+        return Some("--states stands beside --explore or --within");
+    }
+    let tells = matches.get_str("trace-to").is_some() || matches.get_flag("check");
+    if !tells && matches.get_flag("json") {
+        return Some("--json stands beside --trace-to or --check");
+    }
+    None
+}
+
 /// What the words say that were found, or what is told where one of them says what it may not.
 fn words_of<'a>(matches: &ArgMatches<'a>, more: Vec<&'a str>) -> Result<Words<'a>, &'static str> {
-    let limit = limit_of(matches.get_one::<u32>("limit"));
-    let limit = number_in(limit, 0, MOST_TURNS, "the limit is 0 to 10000000 turns")?;
-    let quantum = quantum_of(matches.get_one::<u32>("quantum"));
-    let quantum = number_in(quantum, 1, MOST_QUANTUM, "the quantum is 1 to 65536")?;
-    let workers = matches.get_one::<u32>("workers");
-    if !are_workers(workers) {
-        return Err("the number of workers is 1 to 64");
+    if let Some(told) = needed(matches) {
+        return Err(told);
     }
-    let (explore, within) = (matches.get_str("explore"), matches.get_str("within"));
-    let states = matches.get_one::<u32>("states");
-    if states.is_some() && explore.is_none() && within.is_none() {
-        return Err("--states stands beside --explore or --within");
-    }
-    let states = states_of(states);
-    let states = number_in(states, 1, MOST_STATES, "the states are 1 to 10000000")?;
-    let seed = matches.get_one::<u32>("seed");
-    if !is_seed(seed) {
-        return Err("the seed is 0 to 1000000000");
-    }
-    let tries = tries_of(matches.get_one::<u32>("tries"));
-    let tries = number_in(tries, 1, MOST_TRIES, "the tries are 1 to 1000000")?;
-    let (file, choices) = (file_of(matches.get_str("FILE")), matches.get_str("choices"));
-    if has_hyphen(more.as_slice()) || file.is_none() && !more.is_empty() {
-        return Err("- is standard input as the source, and stands alone");
-    }
-    let (record, chart) = (matches.get_str("record"), matches.get_str("chart"));
-    let (trace_to, steps) = (matches.get_str("trace-to"), matches.get_str("steps"));
-    let typed = matches.get_str("typed");
-    if !are_apart(file, choices, record, chart, trace_to, steps)
-        || !are_unwritten(more.as_slice(), record, chart, trace_to, steps)
-    {
-        return Err(ONE_FILE);
-    }
-    if !is_unread(typed, file, choices)
-        || !has_own_file(typed, record, chart, trace_to, steps)
-        || !are_untyped(more.as_slice(), typed)
-    {
-        return Err(ONE_FILE);
-    }
-    let (json, check) = (matches.get_flag("json"), matches.get_flag("check"));
-    if json && !check && trace_to.is_none() {
-        return Err("--json stands beside --trace-to or --check");
-    }
-    Ok(Words {
-        limit,
-        quantum,
+    let numbers = numbers_of(matches)?;
+    let paths = paths_of(matches, more)?;
+    Ok(joined(matches, numbers, paths))
+}
+
+/// These numbers and paths, with what else the words say.
+fn joined<'a>(matches: &ArgMatches<'a>, numbers: Numbers, paths: Paths<'a>) -> Words<'a> {
+    let explore = matches.get_str("explore");
+    Words {
+        limit: numbers.limit,
+        quantum: numbers.quantum,
         errors: errors_of(matches.get_str("errors")),
-        workers,
+        workers: numbers.workers,
         trace: matches.get_flag("trace"),
         watch: matches.get_flag("watch"),
         live: matches.get_flag("live"),
         explain: matches.get_flag("explain"),
         plain: matches.get_flag("plain"),
         bold: false,
-        seed,
-        tries,
-        choices,
-        record,
-        typed,
-        chart,
-        arrows: arrows_of(matches.get_one::<u32>("arrows")),
+        seed: numbers.seed,
+        tries: numbers.tries,
+        choices: paths.choices,
+        record: paths.record,
+        typed: paths.typed,
+        chart: paths.chart,
+        arrows: numbers.arrows,
         last: matches.get_one::<u32>("last"),
-        trace_to,
-        json,
-        steps,
+        trace_to: paths.trace_to,
+        json: matches.get_flag("json"),
+        steps: paths.steps,
+        page: paths.page,
         explore: explore_of(explore),
         full: is_full(explore),
-        within,
-        states,
-        check,
-        file,
-        more,
-    })
-}
-
-/// This number, where it is none below the first and none above the second; else what is told then.
-fn number_in(number: u32, least: u32, most: u32, told: &'static str) -> Result<u32, &'static str>
-    ensures { IfOk result (λ n. (least ≤ n) × (n ≤ most)) }
-{
-    if number < least || number > most {
-        Err(told)
-    } else {
-        Ok(number)
+        within: matches.get_str("within"),
+        states: numbers.states,
+        check: matches.get_flag("check"),
+        file: paths.file,
+        more: paths.more,
     }
-}
-
-/// The limit, where the words gave this one or none.
-fn limit_of(given: Option<u32>) -> u32
-    ensures { result ≡ unwrap_or given 1000000 }
-{
-    given.unwrap_or(DEFAULT_LIMIT)
-}
-
-/// The quantum, where the words gave this one or none.
-fn quantum_of(given: Option<u32>) -> u32
-    ensures { result ≡ unwrap_or given 1 }
-{
-    given.unwrap_or(1)
-}
-
-/// Whether there may be so many workers; none are the program's own thread.
-fn are_workers(given: Option<u32>) -> bool
-    ensures { IsTrue result → ForSome given IsCrew }
-{
-    match given {
-        Some(workers) => is_crew(workers),
-        None => true,
-    }
-}
-
-/// Whether choices may be made from this number, where one is given.
-fn is_seed(given: Option<u32>) -> bool
-    ensures { IsTrue result → ForSome given (λ n. n ≤ 1000000000) }
-{
-    match given {
-        Some(seed) => seed <= MOST_SEED,
-        None => true,
-    }
-}
-
-/// How many seeds are tried, where the words gave this number or none.
-fn tries_of(given: Option<u32>) -> u32
-    ensures { result ≡ unwrap_or given 1 }
-{
-    given.unwrap_or(DEFAULT_TRIES)
 }
 
 /// What a fault does, where the words gave this name or none.
@@ -326,20 +255,6 @@ fn errors_of(given: Option<&str>) -> Errors
         Some("stop") => Errors::Stop,
         _ => Errors::Halt,
     }
-}
-
-/// How many communications a chart shows, where the words gave this number or none.
-fn arrows_of(given: Option<u32>) -> u32
-    ensures { result ≡ unwrap_or given 200 }
-{
-    given.unwrap_or(DEFAULT_ARROWS)
-}
-
-/// How many states a search may come to, where the words gave this number or none.
-fn states_of(given: Option<u32>) -> u32
-    ensures { result ≡ unwrap_or given 1000000 }
-{
-    given.unwrap_or(DEFAULT_STATES)
 }
 
 /// What a search tells, where the words gave this name; none where they ask for none.

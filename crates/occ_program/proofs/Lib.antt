@@ -3,5 +3,7 @@ mod LiveRuns
 mod Paths
 mod Recorded
 mod Statuses
+mod ToldPages
 mod Terminals
 mod Told
+mod Watched

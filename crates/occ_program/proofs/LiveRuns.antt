@@ -18,7 +18,7 @@ use Rattle.occ_program.specs.Coming.{CameToBy, IsStatusFor, IsStatusOf, IsTriedB
 use Rattle.occ_program.specs.Live.{LivesTo, RunsAlone, runs_live}
 use Rattle.occ_program.specs.Trying.{IsTriedPlanFor, by_seed}
 use Rattle.occ_program.proofs.Statuses.{refused_by}
-use Rattle.occ_seeds.specs.Seeds.{seeded}
+use Rattle.occ_play_inputs.specs.Seeds.{seeded}
 
 -- ---- which words are live
 

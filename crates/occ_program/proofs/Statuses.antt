@@ -25,7 +25,7 @@ use Rattle.occ_play.specs.Status.{ending_status, fault_status}
 use Rattle.occ_play_inputs.specs.Failures.{failure_status}
 use Rattle.occ_play_inputs.specs.declared.words.Words.{Words as Asked}
 use Rattle.occ_play.specs.declared.playing.Options.{Options}
-use Rattle.occ_watching.specs.Coming.{CameTo}
+use Rattle.occ_program.specs.Watched.{CameTo}
 use Rattle.occ_explore.specs.declared.exploration.Asked.{Asked as AskedFor}
 use Rattle.occ_explore.specs.declared.exploration.Exploration.{Exploration}
 use Rattle.occ_explore.specs.declared.exploration.Answer.{Answer}

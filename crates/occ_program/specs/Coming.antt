@@ -28,7 +28,7 @@ use Rattle.occ_exploring.specs.declared.within.Kept.{Kept}
 use Rattle.occ_exploring.specs.Statuses.{search_status}
 use Rattle.occ_shown.specs.Counting.{AppendsTo}
 use Rattle.occ_shown.specs.declared.counted.Counted.{Counted}
-use Rattle.occ_watching.specs.Coming.{CameByCrew, CameTo}
+use Rattle.occ_program.specs.Watched.{CameByCrew, CameTo}
 use Rattle.occ_program.specs.Trying.{IsTriedPlan, IsTriedPlanFor, IsTriedSeed}
 
 -- so many workers take the turns, where the words say so and name no file of choices; one, where the words say no more than that the run

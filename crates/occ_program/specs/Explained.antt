@@ -12,7 +12,7 @@ use Rattle.occ_files.specs.declared.reason.Reason.{Reason}
 use Rattle.occ_net_replay.specs.declared.choice.Choice.{Choice}
 use Rattle.occ_term.specs.Endings.{ending_text}
 use Rattle.occ_term.specs.declared.ending.Ending.{Ending}
-use Rattle.occ_term.specs.declared.ending.Ending.TheVariants.{Ended, Limit}
+use Rattle.occ_term.specs.declared.ending.Ending.TheVariants.{Ended, Stopped, StoppedBy, Fault, Limit}
 use Rattle.occ_play.specs.declared.fault.PlayFault.{PlayFault}
 use Rattle.occ_play.specs.declared.fault.PlayFault.TheVariants as play
 use Rattle.occ_play.specs.declared.playing.Played.{Played}
@@ -92,19 +92,32 @@ Explains words inputs reason (Err fault) text = TellsWhy words inputs reason fau
 
 -- ---- the answers of a search
 
--- none of these answers has this ending
-abbrev pub NoneEnds : List Answer → Ending → Type 0
-NoneEnds [] ending = ⊤
-NoneEnds (a ∷ others) ending = (a.ending ≢ ending) × NoneEnds others ending
+-- two answers have one ending, by stops of one kind
+pub record EndsLike (a like : Answer) : Type 0 where
+  pub ending : a.ending ≡ like.ending
+  pub kind : a.kind ≡ like.kind
 
--- one of them has
-abbrev pub SomeEnds : List Answer → Ending → Type 0
-SomeEnds [] ending = ⊥
-SomeEnds (a ∷ others) ending = (a.ending ≡ ending) ⊎ SomeEnds others ending
+-- none of these answers ends like it
+abbrev pub NoneEnds : List Answer → Answer → Type 0
+NoneEnds [] like = ⊤
+NoneEnds (a ∷ others) like = (EndsLike a like → ⊥) × NoneEnds others like
+
+-- one of them does
+abbrev pub SomeEnds : List Answer → Answer → Type 0
+SomeEnds [] like = ⊥
+SomeEnds (a ∷ others) like = EndsLike a like ⊎ SomeEnds others like
+
+-- a report of a stop begins with its kind
+abbrev pub below_ending : Ending → List ℕ
+below_ending Ended = codes ":\n"
+below_ending Stopped = codes ", "
+below_ending (StoppedBy fault) = codes ", "
+below_ending (Fault fault) = codes ":\n"
+below_ending Limit = codes ":\n"
 
 -- the number and the ending of an answer, above its report
 abbrev pub answer_head : ℕ → Ending → List ℕ
-answer_head number ending = decimal number ++ 32 ∷ ending_text ending ++ codes ":\n"
+answer_head number ending = decimal number ++ 32 ∷ ending_text ending ++ below_ending ending
 
 -- those, and the report by the answer's choices
 pub record IsReported (words : Words) (inputs : Inputs) (number : ℕ) (a : Answer) (text : List ℕ) : Type 0 where
@@ -112,11 +125,11 @@ pub record IsReported (words : Words) (inputs : Inputs) (number : ℕ) (a : Answ
   pub runs : ReportsRun words inputs a.choices.items report
   pub is : text ≡ answer_head number a.ending ++ report
 
--- What is told of an answer behind these: its report, where it has not ended and none of them has its ending; else nothing.
+-- What is told of an answer behind these: its report, where it has not ended and none of them ends like it; else nothing.
 abbrev pub TellsAnswer : Words → Inputs → (before : List Answer) → Answer → List ℕ → Type 0
 TellsAnswer words inputs before a text =
-    ((a.ending ≢ Ended) × NoneEnds before a.ending × IsReported words inputs (suc (length before)) a text)
-    ⊎ (((a.ending ≡ Ended) ⊎ SomeEnds before a.ending) × (text ≡ []))
+    ((a.ending ≢ Ended) × NoneEnds before a × IsReported words inputs (suc (length before)) a text)
+    ⊎ (((a.ending ≡ Ended) ⊎ SomeEnds before a) × (text ≡ []))
 
 -- of the answer at a place, from 0
 abbrev pub TellsAt : Words → Inputs → List Answer → ℕ → List ℕ → Type 0

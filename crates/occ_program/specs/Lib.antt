@@ -7,3 +7,4 @@ pub mod Explained
 pub mod Trying
 pub mod Terminals
 pub mod Looked
+pub mod Watched

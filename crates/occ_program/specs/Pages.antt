@@ -1,6 +1,6 @@
 -- Which files a run leaves.
 -- Manual: nothing; this is (own).
-use Rattle.std.specs.Prelude.{Bool, List, Some, None, Ok, Err, Option, Result, [], codes, false, suc, take, true, ℕ, ◌++◌, ◌∷◌, ◌≡◌, ◌⊎◌, ⊤}
+use Rattle.std.specs.Prelude.{Bool, List, Some, None, Ok, Err, Option, Result, Vec, [], codes, false, suc, take, true, ℕ, ◌++◌, ◌∷◌, ◌≡◌, ◌⊎◌, ⊤}
 use Rattle.std.specs.Fmt.{decimal}
 use Rattle.std.specs.Borrow.{Bor}
 use Rattle.std.specs.Option.{option_to_list}
@@ -10,24 +10,40 @@ use Rattle.occ_play.specs.declared.fault.PlayFault.{PlayFault}
 use Rattle.occ_chart.specs.declared.part.Part.{Part}
 use Rattle.occ_chart.specs.declared.part.Part.TheVariants.{First, Last}
 use Rattle.occ_explaining.specs.Explaining.{IsNamedChart, StepsOf}
+use Rattle.occ_explaining.specs.Shown.{IsShownRun, PageOf}
+use Rattle.occ_explaining.specs.Studied.{IsStudied}
+use Rattle.occ_explaining.specs.declared.studied.Studied.{Studied}
+use Rattle.occ_json.specs.declared.pages.RunTexts.{RunTexts}
 use Rattle.occ_net_replay.specs.declared.choice.Choice.{Choice}
+use Rattle.occ_play.specs.declared.playing.Options.{Options}
 use Rattle.occ_explore.specs.declared.exploration.Answer.{Answer}
+use Rattle.occ_explore.specs.declared.exploration.Asked.{Asked}
+use Rattle.occ_exploring.specs.Texts.{answer_line}
 use Rattle.occ_exploring.specs.Within.{outside_of}
 use Rattle.occ_exploring.specs.declared.within.Kept.{Kept}
 use Rattle.occ_files.specs.Leaving.{LeavesOne, LeavesAll, LeavesNothing, Written}
 use Rattle.occ_play_inputs.specs.declared.failure.Failure.{Failure}
 use Rattle.occ_play_inputs.specs.declared.inputs.Inputs.{Inputs}
 use Rattle.occ_play_inputs.specs.declared.words.Words.{Words}
-use Rattle.occ_program.specs.Coming.{RefusesSource, options_in}
+use Rattle.occ_play_inputs.specs.declared.failure.Stream.{Stream}
+use Rattle.occ_play_inputs.specs.declared.failure.Stream.TheVariants as streams
+use Rattle.occ_program.specs.Coming.{options_in}
 use Rattle.occ_program.specs.declared.page.Page.{Page}
-use Rattle.occ_tracing.specs.declared.tracing.Form.{Form}
-use Rattle.occ_tracing.specs.declared.tracing.Form.TheVariants.{Lines, Json}
-use Rattle.occ_tracing.specs.Traced.{IsTraced}
+use Rattle.occ_program.specs.declared.telling.Told.{Told}
+use Rattle.occ_program.specs.declared.telling.Told.TheVariants as told
+use Rattle.occ_explaining.specs.declared.tracing.Form.{Form}
+use Rattle.occ_explaining.specs.declared.tracing.Form.TheVariants.{Lines, Json}
+use Rattle.occ_explaining.specs.Traced.{IsTraced}
 
 -- none where no word names one or no run answered; else this text, and nothing else, at the path that the word names
 abbrev pub HasText : (List ℕ → Type 0) → Bor (List ℕ) → Option Page → Type 0
 HasText Is path None = ⊥
 HasText Is path (Some page) = (page.path.now ≡ path.now) × Is page.text.items
+
+-- such a text at this path, if there is one
+abbrev pub HasTextAt : (List ℕ → Type 0) → Option (Bor (List ℕ)) → Option Page → Type 0
+HasTextAt Is None page = page ≡ None
+HasTextAt Is (Some path) page = HasText Is path page
 
 -- such a text of the run
 abbrev pub HasPage : (Played → List ℕ → Type 0) → Option (Bor (List ℕ)) → Result Played PlayFault → Option Page → Type 0
@@ -43,52 +59,47 @@ Records path played page = HasPage (λ p text. text ≡ choice_text p.choices.it
 abbrev pub TypedPage : Words → Inputs → Result Played PlayFault → Option Page → Type 0
 TypedPage words inputs played page = HasPage (λ p text. text ≡ inputs.keyboard.items) words.typed played page
 
--- such a page, or the source was refused
-abbrev pub HasOrRefuses : (Option Page → Type 0) → Words → Inputs → Result (Option Page) PlayFault → Type 0
-HasOrRefuses Is words inputs (Ok page) = Is page
-HasOrRefuses Is words inputs (Err fault) = RefusesSource words inputs fault
+-- ---- what is told of a run by the choices that it used
 
 -- which communications are drawn, as the words say
 abbrev pub part_in : ℕ → Option ℕ → Part
 part_in most None = First most
 part_in most (Some n) = Last n
 
--- a chart of the run by those choices
-abbrev pub ChartsRun : Words → Inputs → Played → List ℕ → Type 0
-ChartsRun words inputs p text =
-    IsNamedChart (options_in words) inputs.source.items inputs.keyboard.items p.choices.items (part_in words.arrows words.last) text
-
-abbrev pub Charts : Words → Inputs → Result Played PlayFault → Option Page → Type 0
-Charts words inputs played page = HasPage (ChartsRun words inputs) words.chart played page
-
-abbrev pub Draws : Words → Inputs → Result Played PlayFault → Result (Option Page) PlayFault → Type 0
-Draws words inputs played drawn = HasOrRefuses (Charts words inputs played) words inputs drawn
-
--- the turns of the run by those choices
-abbrev pub StepsRun : Words → Inputs → Played → List ℕ → Type 0
-StepsRun words inputs p text = StepsOf (options_in words) inputs.source.items inputs.keyboard.items p.choices.items text
-
-abbrev pub StepsPage : Words → Inputs → Result Played PlayFault → Option Page → Type 0
-StepsPage words inputs played page = HasPage (StepsRun words inputs) words.steps played page
-
-abbrev pub TellsSteps : Words → Inputs → Result Played PlayFault → Result (Option Page) PlayFault → Type 0
-TellsSteps words inputs played told = HasOrRefuses (StepsPage words inputs played) words inputs told
-
 -- how a trace is written, as the words say
 abbrev pub form_in : Bool → Form
 form_in true = Json
 form_in false = Lines
 
--- the trace of the run by those choices
-abbrev pub TracesRun : Words → Inputs → Played → List ℕ → Type 0
-TracesRun words inputs p text =
-    IsTraced (options_in words) inputs.source.items inputs.keyboard.items p.choices.items (form_in words.json) text
+-- a page that shows the run by these choices, and no other one
+abbrev pub ShowsRun : Options → (source keyboard : List ℕ) → List Choice → List ℕ → Type 0
+ShowsRun options source keyboard list text = (r : RunTexts) × IsShownRun options source keyboard [] list r × PageOf options source (r ∷ []) text
 
-abbrev pub TracePage : Words → Inputs → Result Played PlayFault → Option Page → Type 0
-TracePage words inputs played page = HasPage (TracesRun words inputs) words.trace_to played page
+-- a chart of the run, its trace, its turns, or a page that shows it
+abbrev pub TellsRun : Told → Words → Inputs → Played → List ℕ → Type 0
+TellsRun told.Chart words inputs p text =
+    IsNamedChart (options_in words) inputs.source.items inputs.keyboard.items p.choices.items (part_in words.arrows words.last) text
+TellsRun told.Trace words inputs p text = IsTraced (options_in words) inputs.source.items inputs.keyboard.items p.choices.items (form_in words.json) text
+TellsRun told.Turns words inputs p text = StepsOf (options_in words) inputs.source.items inputs.keyboard.items p.choices.items text
+TellsRun told.Page words inputs p text = ShowsRun (options_in words) inputs.source.items inputs.keyboard.items p.choices.items text
 
-abbrev pub Traces : Words → Inputs → Result Played PlayFault → Result (Option Page) PlayFault → Type 0
-Traces words inputs played traced = HasOrRefuses (TracePage words inputs played) words inputs traced
+-- the path that the words name for it
+abbrev pub path_told : Told → Words → Option (Bor (List ℕ))
+path_told told.Chart words = words.chart
+path_told told.Trace words = words.trace_to
+path_told told.Turns words = words.steps
+path_told told.Page words = words.page
+
+-- what its file is called where writing it fails
+abbrev pub stream_told : Told → Stream
+stream_told told.Chart = streams.Chart
+stream_told told.Trace = streams.Trace
+stream_told told.Turns = streams.Turns
+stream_told told.Page = streams.Page
+
+-- that, at the path that the words name, if they do
+abbrev pub ToldPage : Told → Words → Inputs → Played → Option Page → Type 0
+ToldPage told words inputs p page = HasTextAt (TellsRun told words inputs p) (path_told told words) page
 
 -- ---- what is then in the folder
 
@@ -108,13 +119,23 @@ abbrev pub IsLeft : {F : Type 0} → (F → Option (List Written)) → (old new 
 IsLeft left old new Is (Ok done) = WritesPage Is (left old) (left new)
 IsLeft left old new Is (Err failure) = LeavesNothing (left old) (left new) ⊎ WritesPage Is (left old) (left new)
 
--- a refused source leaves none
-abbrev pub LeavesOrRefuses : {F : Type 0} → (F → Option (List Written)) → (old new : F) → (Option Page → Type 0) → Result (Result ⊤ PlayFault) Failure → Type 0
-LeavesOrRefuses left old new Is (Ok (Ok done)) = WritesPage Is (left old) (left new)
-LeavesOrRefuses left old new Is (Ok (Err fault)) = LeavesNothing (left old) (left new)
-LeavesOrRefuses left old new Is (Err failure) = LeavesNothing (left old) (left new) ⊎ WritesPage Is (left old) (left new)
-
 -- ---- the files of a search
+
+-- of each answer, from this number on: the line that is printed of it, and its run
+abbrev pub AreRunsOf : Words → Inputs → Asked → ℕ → List Answer → List RunTexts → Type 0
+AreRunsOf words inputs asked number [] rs = rs ≡ []
+AreRunsOf words inputs asked number (a ∷ others) [] = ⊥
+AreRunsOf words inputs asked number (a ∷ others) (r ∷ rs) =
+    IsShownRun (options_in words) inputs.source.items inputs.keyboard.items (answer_line asked number a) a.choices.items r × AreRunsOf words inputs asked (suc number) others rs
+
+-- a page that shows the runs of these answers
+abbrev pub ShowsAnswers : Words → Inputs → Asked → List Answer → List ℕ → Type 0
+ShowsAnswers words inputs asked answers text =
+    (rs : List RunTexts) × AreRunsOf words inputs asked 1 answers rs × PageOf (options_in words) inputs.source.items rs text
+
+-- at the path that the words name, if they do
+abbrev pub AnswersPage : Words → Inputs → Asked → List Answer → Option Page → Type 0
+AnswersPage words inputs asked answers page = HasTextAt (ShowsAnswers words inputs asked answers) words.page page
 
 -- the path of the choices of the answer with this number
 abbrev pub answer_path : List ℕ → ℕ → List ℕ
@@ -142,3 +163,9 @@ AreRecorded stem answers old new (Err failure) = (n : ℕ) × LeavesAll old new 
 -- that of the answer that is told to be none of the specification's
 abbrev pub RecordsOutside : Words → Kept → Option (List Written) → Option (List Written) → Result ⊤ Failure → Type 0
 RecordsOutside words kept old new result = AreRecorded words.record (option_to_list (outside_of kept)) old new result
+
+-- ---- private contracts alone cite what follows
+
+-- of whatever source it is that was read
+abbrev pub ShowsBy : {A : Type 0} → Studied → (source keyboard : List ℕ) → List Choice → Vec ℕ A → Type 0
+ShowsBy s source keyboard list text = (options : Options) → IsStudied options source s → ShowsRun options source keyboard list text.items

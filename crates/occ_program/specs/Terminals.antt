@@ -1,6 +1,6 @@
 -- What a terminal is given.
 -- Manual: nothing; this is (own).
-use Rattle.std.specs.Prelude.{Bool, List, codes, drop, false, get_or, length, not, take, ℕ, ◌&&◌, ◌++◌, ◌<◌, ◌∷◌, ◌≡◌, ◌≢◌, ◌⊎◌, ◌||◌}
+use Rattle.std.specs.Prelude.{Bool, List, codes, drop, get_or, length, not, take, ℕ, ◌&&◌, ◌++◌, ◌<◌, ◌∷◌, ◌≡◌, ◌≢◌, ◌⊎◌, ◌||◌}
 
 -- explanations are printed where the words ask for them, and on a terminal unless they decline
 abbrev pub explains : (asked declined terminal : Bool) → Bool

@@ -1,6 +1,6 @@
 -- Seeds that are tried one after the other.
 -- Manual: nothing; this is (own).
-use Rattle.std.specs.Prelude.{Bool, Err, IfErr, IfOk, IsFalse, IsTrue, List, None, Ok, Option, Result, Some, codes, false, ℕ, ⊤, ◌+◌, ◌++◌, ◌<◌, ◌≡◌, ◌≢◌, ◌⊎◌}
+use Rattle.std.specs.Prelude.{Bool, IfErr, IfOk, IsFalse, IsTrue, List, None, Ok, Option, Result, Some, codes, false, ℕ, ⊤, ◌+◌, ◌++◌, ◌<◌, ◌≡◌, ◌≢◌, ◌⊎◌}
 use Rattle.std.specs.Fmt.{decimal}
 use Rattle.occ_net_replay.specs.declared.choice.Choice.{Choice}
 use Rattle.occ_choices.specs.Plans.{choices_of}
@@ -11,7 +11,7 @@ use Rattle.occ_play.specs.declared.playing.Played.{Played}
 use Rattle.occ_play.specs.declared.fault.PlayFault.{PlayFault}
 use Rattle.occ_play.specs.Playing.{IsAnswer, Refuses}
 use Rattle.occ_play.specs.Status.{fault_status}
-use Rattle.occ_seeds.specs.Seeds.{seeded}
+use Rattle.occ_play_inputs.specs.Seeds.{seeded}
 
 -- a run of the source by these choices ends
 pub record RunEnds (options : Options) (source keyboard : List ℕ) (list : List Choice) : Type 0 where

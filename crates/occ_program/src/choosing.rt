@@ -4,7 +4,7 @@ ghost use Rattle.occ_program.specs.Explained.{TellsPast, past_text};
 
 use crate::explaining::print_text;
 use crate::program::options_of;
-use occ_explaining::past_of;
+use occ_explaining::{past_of, study};
 use occ_files::printed_name;
 use occ_net_replay::Choice;
 use occ_play::{PlayFault, Played};
@@ -40,14 +40,11 @@ fn told_past(
     ensures { IfSome result (λ text.
         TellsPast words.now inputs.now path.now played.now.choices.items text.items) }
 {
-    let found = past_of(
-        &options_of(words),
-        alloc,
-        inputs.source.as_slice(),
-        inputs.keyboard.as_slice(),
-        played.choices.as_slice(),
-    );
-    let Ok(Some(turn)) = found else {
+    let Ok(studied) = study(&options_of(words), alloc, inputs.source.as_slice()) else {
+        return None;
+    };
+    let (keyboard, choices) = (inputs.keyboard.as_slice(), played.choices.as_slice());
+    let Ok(Some(turn)) = past_of(&studied, alloc, keyboard, choices) else {
         return None;
     };
     if turn < 2 || counts_turns(played.choices.as_slice(), turn) {

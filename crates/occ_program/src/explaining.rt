@@ -4,12 +4,14 @@ ghost use Rattle.occ_play_inputs.specs.Failures.{trouble};
 ghost use Rattle.occ_play_inputs.specs.declared.failure.Stream.TheVariants.{Output};
 ghost use Rattle.occ_program.specs.Explained.{Explains, RefusesBytes, ReportsEnd, ReportsRun, TellsOf, TellsWhy, files_in, has_zero, limit_told, no_text, source_name, told_below};
 ghost use Rattle.occ_explaining.specs.Files.{files_of};
+ghost use Rattle.occ_explaining.specs.Studied.{IsStudied};
+ghost use Rattle.occ_program.specs.Coming.{options_in};
 ghost use Rattle.occ_program.specs.Troubles.{trouble_text};
 
 use crate::program::options_of;
 use crate::terminal::in_bold;
 use crate::troubles::{path_or, trouble_text};
-use occ_explaining::{Files, beginnings, explained_fault, report_of};
+use occ_explaining::{Files, Studied, beginnings, explained_fault, report_of, study};
 use occ_files::{Reason, printed_name};
 use occ_net_replay::Choice;
 use occ_play::{PlayFault, Played};
@@ -183,7 +185,8 @@ fn cut_report(
 ) -> Result<Vec<u8>, PlayFault>
     ensures { IfOk result (λ text. ReportsEnd words.now inputs.now played.now text.items) }
 {
-    let mut text = run_report(alloc, words, inputs, played.choices.as_slice())?;
+    let studied = study(&options_of(words), alloc, inputs.source.as_slice())?;
+    let mut text = run_report(alloc, words, inputs, &studied, played.choices.as_slice())?;
     let below = told_below(words.choices, played.ending);
     text.extend_from_slice(below.as_bytes())?;
     Ok(text)
@@ -216,17 +219,13 @@ pub(crate) fn run_report(
     alloc: Global,
     words: &Words<'_>,
     inputs: &Inputs,
+    studied: &Studied,
     choices: &[Choice],
-) -> Result<Vec<u8>, PlayFault>
+) -> Result<Vec<u8>, AllocError>
+    requires { IsStudied (options_in words.now) inputs.now.source.items studied.now }
     ensures { IfOk result (λ text. ReportsRun words.now inputs.now choices.now text.items) }
 {
-    let mut text = report_of(
-        &options_of(words),
-        alloc,
-        inputs.source.as_slice(),
-        inputs.keyboard.as_slice(),
-        choices,
-    )?;
+    let mut text = report_of(studied, alloc, inputs.keyboard.as_slice(), choices)?;
     let below = beginnings(alloc, &files_of(words, inputs.ends.as_slice()))?;
     text.extend_from_slice(below.as_slice())?;
     Ok(text)

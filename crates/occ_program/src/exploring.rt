@@ -14,6 +14,7 @@ ghost use Rattle.occ_shown.specs.Counting.{failures_of};
 
 use crate::counting::Counter;
 use crate::explaining::explain_fault;
+use crate::paging::show_answers;
 use crate::program::{options_of, tell};
 use crate::reading::read_inputs;
 use crate::reporting::explain_answers;
@@ -84,6 +85,15 @@ fn only_told<R: Files + Print + Eprint>(
     ensures { IfOk result (λ s. s ≡ only_status answer.now) }
 {
     tell_only(rt, alloc, words, asked, answer)?;
+    let mut folder = Disk::new(rt, alloc);
+    show_answers(
+        &mut folder,
+        alloc,
+        words,
+        asked,
+        inputs,
+        slice::from_ref(answer),
+    )?;
     explain_answers(rt, alloc, words, inputs, slice::from_ref(answer));
     Ok(status_of_only(answer))
 }
@@ -104,6 +114,7 @@ fn searched<R: Files + Print + Eprint>(
     let found = search(alloc, words, inputs, asked, &mut counter);
     counter.clear();
     tell_found(rt, alloc, words, asked, &found)?;
+    show_found(rt, alloc, words, asked, inputs, &found)?;
     explain_found(rt, alloc, words, inputs, &found);
     Ok(status_of_found(found))
 }
@@ -223,6 +234,25 @@ fn tell_found<R: Files + Print + Eprint>(
             tell(rt, fault);
             Ok(())
         }
+    }
+}
+
+/// Writes a page of the answers that are printed, where the words name a file for it.
+fn show_found<R: Files>(
+    rt: &R,
+    alloc: Global,
+    words: &Words<'_>,
+    asked: Asked,
+    inputs: &Inputs,
+    found: &Result<Exploration, PlayFault>,
+) -> Result<(), Failure> {
+    match found {
+        Ok(exploration) => {
+            let mut folder = Disk::new(rt, alloc);
+            let answers = first_answers(exploration.answers.as_slice());
+            show_answers(&mut folder, alloc, words, asked, inputs, answers)
+        }
+        Err(_) => Ok(()),
     }
 }
 

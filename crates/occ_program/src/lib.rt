@@ -5,24 +5,25 @@
 
 mod choosing;
 mod counting;
-mod drawing;
 pub mod exit;
 mod explaining;
 mod exploring;
 mod keeping;
 mod live;
 mod looking;
+mod looks;
 mod page;
+mod paging;
 pub mod program;
 mod reading;
 mod recording;
 mod reporting;
 mod seeding;
-mod stepping;
+mod telling;
 mod terminal;
-mod tracing;
 mod troubles;
 mod typing;
+mod watching;
 
 pub use exit::exit_code;
 pub use program::run;

@@ -8,7 +8,6 @@ ghost use Rattle.occ_play_inputs.specs.Failures.{failure_status};
 ghost use Rattle.occ_program.specs.Lines.{run_line};
 
 use crate::choosing::explain_choices;
-use crate::drawing::draw;
 use crate::explaining::explain;
 use crate::exploring::explore_words;
 use crate::keeping::keep_words;
@@ -17,11 +16,11 @@ use crate::looking::look_at_words;
 use crate::reading::read_inputs;
 use crate::recording::record;
 use crate::seeding::{seed_told, take_seed};
-use crate::stepping::step;
+use crate::telling::tell_files;
 use crate::terminal::{allows_bold, explains};
-use crate::tracing::trace;
 use crate::troubles::explain_failure;
 use crate::typing::leave_typed;
+use crate::watching::play_watching;
 use occ_files::{Disk, Folder, Noting, Reason, printed_name, reason_of};
 use occ_play::{
     FreeGate, Options, PlayFault, Played, RunFault, play_in, play_workers_in, status_of,
@@ -29,7 +28,6 @@ use occ_play::{
 use occ_play_inputs::failure::{of_arguments, of_words};
 use occ_play_inputs::{Failure, Inputs, Stream, Trouble, Words, read_words};
 use occ_shown::Counted;
-use occ_watching::play_watching;
 use std::alloc::Global;
 use std::io::{IsTerminal, Write};
 use std::rt::{Env, Files};
@@ -169,8 +167,8 @@ where
     }
 }
 
-/// Reads what the words name, plays it, live or not, records the used choices and what was typed, draws a chart and writes the trace
-/// and the turns where the words ask for that. The answer goes to standard output, and a fault's line to standard error.
+/// Reads what the words name, plays it, live or not, records the used choices and what was typed, draws a chart and writes the trace,
+/// the turns and the page where the words ask for that. The answer goes to standard output, and a fault's line to standard error.
 fn run_words<R: Files + Input + Print + Eprint + Threads + Wait + Sync>(
     rt: &R,
     alloc: Global,
@@ -232,8 +230,8 @@ pub(crate) fn finish<R: Files + Eprint>(
     Ok(told(rt, alloc, words, inputs, &came, reason))
 }
 
-/// Records the used choices and what was typed, draws a chart, and writes the trace and the turns, in this order, where the words ask
-/// for that. Where one of them fails, the next ones are not begun.
+/// Records the used choices and what was typed, draws a chart, and writes the trace, the turns and the page, in this order, where the
+/// words ask for that. Where one of them fails, the next ones are not begun.
 fn leave<F: Folder>(
     folder: &mut F,
     alloc: Global,
@@ -245,13 +243,7 @@ fn leave<F: Folder>(
 {
     record(folder, alloc, words, played)?;
     leave_typed(folder, alloc, words, inputs, played)?;
-    if let Err(fault) = draw(folder, alloc, words, inputs, played)? {
-        return Ok(Err(fault));
-    }
-    if let Err(fault) = trace(folder, alloc, words, inputs, played)? {
-        return Ok(Err(fault));
-    }
-    step(folder, alloc, words, inputs, played)
+    tell_files(folder, alloc, words, inputs, played)
 }
 
 /// Prints the line of a fault, and more where the words ask for it, and answers the exit status.

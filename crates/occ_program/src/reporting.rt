@@ -1,16 +1,20 @@
 //! Tells what each process stands at where an answer of a search has not ended.
 ghost use Rattle.std.specs.Prelude.{◌≡◌, ◌<◌, IfOk, IsFalse, IsTrue, ◌⊎◌, ◌≢◌, length};
 ghost use Rattle.occ_term.specs.declared.ending.Ending.TheVariants.{Ended};
-ghost use Rattle.occ_program.specs.Explained.{IsReported, NoneEnds, SomeEnds, TellsAnswers, TellsAt, answer_head};
+ghost use Rattle.occ_explaining.specs.Studied.{IsStudied};
+ghost use Rattle.occ_program.specs.Coming.{options_in};
+ghost use Rattle.occ_program.specs.Explained.{EndsLike, IsReported, NoneEnds, SomeEnds, TellsAnswers, TellsAt, answer_head, below_ending};
 
 use crate::explaining::{print_text, run_report};
+use crate::program::options_of;
+use occ_explaining::{Studied, study};
 use occ_exploring::Answer;
 use occ_play::{Ending, PlayFault};
 use occ_play_inputs::{Inputs, Words};
 use std::alloc::{AllocError, Global};
 
-/// Prints, where the words ask for it, the report of the first of these answers with each ending but that of a whole run. Where
-/// memory runs out for that, nothing is printed.
+/// Prints, where the words ask for it, the report of the first of these answers with each ending but that of a whole run, and of
+/// stops the first of each kind. Where memory runs out for that, nothing is printed.
 pub(crate) fn explain_answers<R: Eprint>(
     rt: &R,
     alloc: Global,
@@ -34,9 +38,10 @@ fn answers_told(
 ) -> Result<Vec<u8>, PlayFault>
     ensures { IfOk result (λ text. TellsAnswers words.now inputs.now answers.now text.items) }
 {
+    let studied = study(&options_of(words), alloc, inputs.source.as_slice())?;
     let mut text = Vec::new(alloc);
     for place in 0..answers.len() {
-        let part = told_at(alloc, words, inputs, answers, place)?;
+        let part = told_at(alloc, words, inputs, &studied, answers, place)?;
         text.extend_from_slice(part.as_slice())?;
     }
     Ok(text)
@@ -47,35 +52,45 @@ fn told_at(
     alloc: Global,
     words: &Words<'_>,
     inputs: &Inputs,
+    studied: &Studied,
     answers: &[Answer],
     place: usize,
-) -> Result<Vec<u8>, PlayFault>
-    requires { place < length answers.now }
+) -> Result<Vec<u8>, AllocError>
+    requires studied { IsStudied (options_in words.now) inputs.now.source.items studied.now }
+    requires place { place < length answers.now }
     ensures { IfOk result (λ text. TellsAt words.now inputs.now answers.now place text.items) }
 {
     let answer = &answers[place];
-    if is_new(&answers[..place], answer.ending) {
-        reported(alloc, words, inputs, place + 1, answer)
+    if is_new(&answers[..place], answer) {
+        reported(alloc, words, inputs, studied, place + 1, answer)
     } else {
         Ok(Vec::new(alloc))
     }
 }
 
-/// Whether this is the ending of no whole run, and of none of these answers.
-fn is_new(before: &[Answer], ending: Ending) -> bool
-    ensures new { IsTrue result → (ending ≢ Ended) × NoneEnds before.now ending }
-    ensures old { IsFalse result → (ending ≡ Ended) ⊎ SomeEnds before.now ending }
+/// Whether an answer is that of no whole run, and none of these ends like it.
+fn is_new(before: &[Answer], answer: &Answer) -> bool
+    ensures new { IsTrue result → (answer.now.ending ≢ Ended) × NoneEnds before.now answer.now }
+    ensures old { IsFalse result → (answer.now.ending ≡ Ended) ⊎ SomeEnds before.now answer.now }
 {
-    ending != Ending::Ended && none_ends(before, ending)
+    answer.ending != Ending::Ended && none_ends(before, answer)
 }
 
-/// Whether none of these answers has this ending.
-fn none_ends(answers: &[Answer], ending: Ending) -> bool
-    ensures none { IsTrue result → NoneEnds answers.now ending }
-    ensures some { IsFalse result → SomeEnds answers.now ending }
+/// Whether both have one ending, by stops of one kind.
+fn ends_like(answer: &Answer, like: &Answer) -> bool
+    ensures yes { IsTrue result → EndsLike answer.now like.now }
+    ensures no { IsFalse result → EndsLike answer.now like.now → ⊥ }
+{
+    answer.ending == like.ending && answer.kind == like.kind
+}
+
+/// Whether none of these answers ends like it.
+fn none_ends(answers: &[Answer], like: &Answer) -> bool
+    ensures none { IsTrue result → NoneEnds answers.now like.now }
+    ensures some { IsFalse result → SomeEnds answers.now like.now }
 {
     for answer in answers {
-        if answer.ending == ending {
+        if ends_like(answer, like) {
             return false;
         }
     }
@@ -87,21 +102,34 @@ fn reported(
     alloc: Global,
     words: &Words<'_>,
     inputs: &Inputs,
+    studied: &Studied,
     number: usize,
     answer: &Answer,
-) -> Result<Vec<u8>, PlayFault>
+) -> Result<Vec<u8>, AllocError>
+    requires { IsStudied (options_in words.now) inputs.now.source.items studied.now }
     ensures { IfOk result (λ text. IsReported words.now inputs.now number answer.now text.items) }
 {
     let mut text = answer_head(alloc, number, answer.ending)?;
-    let report = run_report(alloc, words, inputs, answer.choices.as_slice())?;
+    let report = run_report(alloc, words, inputs, studied, answer.choices.as_slice())?;
     text.extend_from_slice(report.as_slice())?;
     Ok(text)
+}
+
+/// What stands between an ending and its report: the report of a stop begins with its kind.
+fn below_ending(ending: Ending) -> &'static str
+    ensures { result.now ≡ below_ending ending }
+{
+    match ending {
+        Ending::Stopped | Ending::StoppedBy(_) => ", ",
+        Ending::Ended | Ending::Fault(_) | Ending::Limit => ":\n",
+    }
 }
 
 /// The number and the ending of an answer.
 fn answer_head(alloc: Global, number: usize, ending: Ending) -> Result<Vec<u8>, AllocError>
     ensures { IfOk result (λ head. head.items ≡ answer_head number ending) }
 {
-    let head = format!(in alloc; "{number} {ending}:\n")?;
+    let below = below_ending(ending);
+    let head = format!(in alloc; "{number} {ending}{below}")?;
     Ok(head.into_bytes())
 }

@@ -5,14 +5,13 @@ ghost use Rattle.occ_choices.specs.Plans.{choices_of};
 ghost use Rattle.occ_play_inputs.specs.Asked.{IsAskedBy, IsSeeded};
 ghost use Rattle.occ_program.specs.Coming.{IsTriedBy, IsTriedFrom, IsTriedIn, TriesFrom};
 ghost use Rattle.occ_program.specs.Trying.{IsTriedSeed, RefusesWith1, TellsEnd, TellsSeed, seed_line};
-ghost use Rattle.occ_seeds.specs.Seeds.{seeded};
+ghost use Rattle.occ_play_inputs.specs.Seeds.{seeded};
 ghost use Rattle.occ_shown.specs.Counting.{failures_of};
 
 use crate::program::options_of;
 use occ_choices::Plan;
 use occ_play::{Ending, Options, PlayFault, Played, play_in, status_of_fault};
-use occ_play_inputs::{Failure, Inputs, Words};
-use occ_seeds::seeded_plan;
+use occ_play_inputs::{Failure, Inputs, Words, seeded_plan};
 use occ_shown::Counted;
 use std::alloc::{AllocError, Global};
 use std::io::Write;

@@ -1,10 +1,10 @@
 -- The lines of processes, one after the other.
-use Rattle.std.proofs.Common.{◌≡◌, ◌∙◌, ◌++◌, ◌+◌, ℕ, List, [], length, map, suc, ap, sym, subst, append_assoc, arith}
-use Rattle.std.specs.Prelude.{slice_get, min}
+use Rattle.std.proofs.Common.{◌≡◌, ◌∙◌, ◌++◌, ◌∷◌, ◌+◌, ℕ, List, [], length, map, suc, ap, sym, subst, append_assoc, arith}
+use Rattle.std.specs.Prelude.{if◌then◌else◌, slice_get, min}
 use Rattle.occ_machine.specs.Compiled.{Program}
 use Rattle.occ_net_replay.specs.declared.choice.Choice.{Choice}
 use Rattle.occ_net_replay.specs.Replay.{Net}
-use Rattle.occ_net_tables.specs.Holding.{Holds}
+use Rattle.occ_net_tables.specs.Holding.{HeldBy, Holds}
 use Rattle.occ_net_tables.specs.Outcomes.{IsRan}
 use Rattle.occ_net_tables.specs.declared.running.Keep.TheVariants.{Given}
 use Rattle.occ_net_tables.specs.declared.running.Ran.{Ran}
@@ -14,10 +14,13 @@ use Rattle.occ_shown.specs.Answers.{names_of}
 use Rattle.occ_term.specs.Runs.{Names}
 use Rattle.occ_term.specs.Terms.{Term}
 use Rattle.occ_ends.specs.declared.ends.Ends.{Ends}
-use Rattle.occ_ends.specs.Ends.{AreEnds, IsCircle, next_noted}
+use Rattle.occ_ends.specs.declared.kinds.Left.{Left}
+use Rattle.occ_ends.specs.Ends.{AreEnds, Using, all_using}
+use Rattle.occ_ends.specs.Endless.{HeldIn}
+use Rattle.occ_ends.specs.Kinds.{IsRest}
 use Rattle.occ_net_replay.specs.Replay.{Tasks}
 use Rattle.occ_places.specs.Places.{Known}
-use Rattle.occ_report.specs.Reports.{IsCircleOf, IsReport, Noted, circle_text, report_head, task_lines, task_line, told_of}
+use Rattle.occ_report.specs.Reports.{IsCircleOf, IsReport, Noted, choosing_among, circle_text, kind_told, report_head, task_lines, task_line, told_of, task_chooses}
 
 -- a loop's step: the lines so far, and that of one more process
 pub lines_step : (names : Names) (readers writers : Noted) (known : List Known) (tasks : Tasks) (n : ℕ) (start before after : List ℕ)
@@ -29,24 +32,30 @@ lines_step names readers writers known tasks n start before after e f =
     ∙ append_assoc start (task_lines names readers writers known tasks n) (task_line names readers writers known n (slice_get tasks n))
     ∙ sym (ap (λ k. start ++ task_lines names readers writers known tasks k) next)
 
+-- a loop's step: those that choose so far, and one more process
+pub choosing_step : (tasks : Tasks) (n : ℕ) (others before after all : List ℕ) → after ≡ before ++ (if task_chooses (slice_get tasks n) then n ∷ [] else [])
+    → before ++ choosing_among tasks (n ∷ others) ≡ all → after ++ choosing_among tasks others ≡ all
+choosing_step tasks n others before after all e h =
+    ap (λ l. l ++ choosing_among tasks others) e ∙ append_assoc before (if task_chooses (slice_get tasks n) then n ∷ [] else []) (choosing_among tasks others) ∙ h
+
 -- what is written of the tables that a run leaves is its report
-pub report_is : (t : Term) (p : Program) (kb : List ℕ) (list : List Choice) (known : List Known) (r : Ran) (h : IsRan p kb list Given r)
+pub report_is : (us : List Using) (t : Term) (p : Program) (kb : List ℕ) (list : List Choice) (known : List Known) (r : Ran) (h : IsRan p kb list Given r)
     (trace : List Communication) (n : ℕ) → ((k : List ℕ) (net : Net) → Holds p k r.tables net → net.trace ≡ trace) → n ≡ length trace
-    → (start head bytes : List ℕ) (processes count : ℕ) → start ≡ [] → head ≡ start ++ report_head n r.ending → count ≡ min processes 4294967295
-    → (ends : Ends) → ((net : Net) → Holds p kb r.tables net → AreEnds t net.tasks (length p.channels) ends)
-    → (circle : List ℕ) → ((net : Net) → Holds p kb r.tables net → IsCircle (next_noted ends net.tasks) (min count 4294967294) circle)
+    → (start first head bytes : List ℕ) (processes count : ℕ) (left : Left) → start ≡ [] → first ≡ start ++ kind_told r.ending left → head ≡ first ++ report_head n r.ending → count ≡ min processes 4294967295
+    → us ≡ all_using t → (ends : Ends) → HeldBy r.tables (λ net. AreEnds us net.tasks (length p.channels) ends)
+    → HeldIn p r.tables (λ net. IsRest us p net.tasks left)
     → (middle : List ℕ) → ((q : Program) (k : List ℕ) (net : Net) → Holds q k r.tables net → middle ≡ head ++ task_lines (names_of p.channels) ends.readers.items ends.writers.items known net.tasks count)
-    → bytes ≡ middle ++ circle_text circle → processes ≡ length p.bodies → IsReport t p kb list known bytes
-report_is t p kb list known r h trace n shows counted start head bytes processes count none starts least ends are circle round middle lines last all =
-    let begins : head ≡ report_head n r.ending = rw none at starts in
+    → HeldBy r.tables (λ net. bytes ≡ middle ++ circle_text net.tasks left.circle.items) → processes ≡ length p.bodies → IsReport t p kb list known bytes
+report_is us t p kb list known r h trace n shows counted start first head bytes processes count left none begun starts least is ends are is_left middle lines last all =
+    let kind : first ≡ kind_told r.ending left = rw none at begun in
+    let begins : head ≡ kind_told r.ending left ++ report_head n r.ending = starts ∙ ap (λ l. l ++ report_head n r.ending) kind in
     let net = h.run.net in
     let many : length net.tasks ≡ length p.bodies = ap length h.run.holds.tasks ∙ h.run.holds.sized.tasks_are in
     let made : n ≡ length net.trace = counted ∙ sym (ap length (shows kb net h.run.holds)) in
     let told : count ≡ told_of net.tasks = least ∙ ap (λ m. min m 4294967295) (all ∙ sym many) in
-    let below : min count 4294967294 ≡ min (length net.tasks) 4294967294 = omega (arith, told) in
     let text = task_lines (names_of p.channels) ends.readers.items ends.writers.items known net.tasks count in
-    let whole : bytes ≡ report_head n r.ending ++ text ++ circle_text circle =
-    last ∙ ap (λ l. l ++ circle_text circle) (lines p kb net h.run.holds ∙ ap (λ l. l ++ text) begins) in
+    let whole : bytes ≡ kind_told r.ending left ++ report_head n r.ending ++ text ++ circle_text net.tasks left.circle.items =
+    last p kb net h.run.holds ∙ ap (λ l. l ++ circle_text net.tasks left.circle.items) (lines p kb net h.run.holds ∙ ap (λ l. l ++ text) begins) in
     record {
       used = h.given;
       net = net;
@@ -54,29 +63,22 @@ report_is t p kb list known r h trace n shows counted start head bytes processes
       begins = h.used;
       whole = h.whole;
       ends = ends;
-      are_ends = are net h.run.holds;
-      circle = circle;
-      is_circle = subst (λ k. IsCircle (next_noted ends net.tasks) k circle) below (round net h.run.holds);
+      are_ends = subst (λ l. AreEnds l net.tasks (length p.channels) ends) is (are p kb net h.run.holds);
+      left = left;
+      is_left = subst (λ l. IsRest l p net.tasks left) is (is_left kb net h.run.holds);
       is = rw (sym told, sym made, sym h.ending) whole;
     }
 
 -- of the tables that a run leaves
-pub circle_is : (t : Term) (p : Program) (kb : List ℕ) (list : List Choice) (r : Ran) (h : IsRan p kb list Given r) (processes count : ℕ) → count ≡ min processes 4294967295
-    → (ends : Ends) → ((net : Net) → Holds p kb r.tables net → AreEnds t net.tasks (length p.channels) ends)
-    → (circle : List ℕ) → ((net : Net) → Holds p kb r.tables net → IsCircle (next_noted ends net.tasks) (min count 4294967294) circle)
-    → processes ≡ length p.bodies → IsCircleOf t p kb list circle
-circle_is t p kb list r h processes count least ends are circle round all =
+pub circle_is : (us : List Using) (t : Term) (p : Program) (kb : List ℕ) (list : List Choice) (r : Ran) (h : IsRan p kb list Given r) (left : Left) → us ≡ all_using t
+    → HeldIn p r.tables (λ net. IsRest us p net.tasks left) → IsCircleOf t p kb list left.circle.items
+circle_is us t p kb list r h left is is_left =
     let net = h.run.net in
-    let many : length net.tasks ≡ length p.bodies = ap length h.run.holds.tasks ∙ h.run.holds.sized.tasks_are in
-    let told : count ≡ told_of net.tasks = least ∙ ap (λ m. min m 4294967295) (all ∙ sym many) in
-    let below : min count 4294967294 ≡ min (length net.tasks) 4294967294 = omega (arith, told) in
     record {
       used = h.given;
       net = net;
       replays = placed_replays p kb h.run.placed;
       begins = h.used;
       whole = h.whole;
-      ends = ends;
-      are_ends = are net h.run.holds;
-      is_circle = subst (λ k. IsCircle (next_noted ends net.tasks) k circle) below (round net h.run.holds);
+      is_circle = (subst (λ l. IsRest l p net.tasks left) is (is_left kb net h.run.holds)).circle;
     }

@@ -1,6 +1,6 @@
 -- What is told of each process that is left.
 -- Manual: nothing; this is (own).
-use Rattle.std.specs.Prelude.{List, None, Option, Some, [], codes, if◌then◌else◌, length, min, slice_get, zero, suc, ℕ, ◌++◌, ◌==◌, ◌≡◌, ◌∷◌, Vec, map, option_map}
+use Rattle.std.specs.Prelude.{Bool, List, None, Option, Some, [], codes, false, if◌then◌else◌, length, min, slice_get, true, zero, suc, ℕ, ◌++◌, ◌==◌, ◌≡◌, ◌∷◌, Vec, map, option_map}
 use Rattle.std.specs.Fmt.{decimal}
 use Rattle.occ_term.specs.Runs.{Names, tag_shown}
 use Rattle.occ_term.specs.Terms.{Term}
@@ -21,8 +21,12 @@ use Rattle.occ_net_replay.specs.Replay.{Net, Replays, Tasks, ending_of}
 use Rattle.occ_shown.specs.Answers.{AddsText, items_text, names_of}
 use Rattle.occ_net_tables.specs.Outcomes.{Begins}
 use Rattle.occ_ends.specs.declared.ends.Ends.{Ends}
-use Rattle.occ_ends.specs.Ends.{AreEnds, IsCircle, next_noted, all_using, noted_for}
-use Rattle.occ_places.specs.declared.stop.Kind.{Kind}
+use Rattle.occ_ends.specs.Ends.{AreEnds, IsCircle, all_using, noted_for}
+use Rattle.occ_ends.specs.Kinds.{IsRest, kind_of, others_among}
+use Rattle.occ_ends.specs.declared.kinds.Kind.{Kind}
+use Rattle.occ_ends.specs.declared.kinds.Kind.TheVariants as stops
+use Rattle.occ_ends.specs.declared.kinds.Left.{Left}
+use Rattle.occ_places.specs.declared.stop.Kind.{Kind as Place}
 use Rattle.occ_places.specs.declared.stop.Kind.TheVariants as kinds
 use Rattle.occ_places.specs.declared.stop.Stop.{Stop}
 use Rattle.occ_places.specs.Places.{Known, name_of, stop_of}
@@ -72,7 +76,7 @@ offer_text names readers c m =
     codes "offers " ++ items_text (tag_shown names c m.tag) m.items ++ codes " on " ++ names.channel_name c ++ reader_text (slice_get readers c)
 
 -- for what a process halted, by what stands in the source there
-abbrev pub halting_text : Kind → List ℕ
+abbrev pub halting_text : Place → List ℕ
 halting_text kinds.Stop = codes "halted by STOP"
 halting_text kinds.If = codes "halted, since no condition of the IF is TRUE"
 halting_text kinds.Case = codes "halted, since the CASE has no option for the value"
@@ -141,23 +145,89 @@ report_tail endings.Limit = codes ":\n"
 abbrev pub report_head : ℕ → Ending → List ℕ
 report_head n e = codes "after " ++ count_text n ++ report_tail e
 
--- processes each of which waits for the next, and the last one for the first
-abbrev pub circle_text : List ℕ → List ℕ
-circle_text [] = []
-circle_text (n ∷ ns) = codes "  in a circle, each waits for the next:" ++ branches_text (n ∷ ns) ++ codes "\n"
+-- the first of two texts where there is one process, else the second
+abbrev pub by_number : List ℕ → (one many : List ℕ) → List ℕ
+by_number [] one many = many
+by_number (n ∷ []) one many = one
+by_number (n ∷ m ∷ ns) one many = many
+
+abbrev pub those_line : (head : List ℕ) → List ℕ → (one many : List ℕ) → List ℕ
+those_line head ns one many = head ++ branches_text ns ++ by_number ns one many
+
+abbrev pub circling_line : List ℕ → List ℕ
+circling_line ns = those_line (codes "circle:") ns (codes " waits for itself\n") (codes " wait for one another\n")
+
+abbrev pub halted_line : List ℕ → List ℕ
+halted_line ns = those_line (codes "halted:") ns (codes " was halted\n") (codes " were halted\n")
+
+abbrev pub unfinished_line : List ℕ → List ℕ
+unfinished_line ns = those_line (codes "unfinished:") ns (codes " was not at its end\n") (codes " were not at their ends\n")
+
+-- what kind of stop it is, with the processes for which it is of that kind
+abbrev pub line_of_kind : Kind → Left → List ℕ
+line_of_kind stops.Circle left = circling_line left.circle.items
+line_of_kind stops.Halted left = halted_line left.halted.items
+line_of_kind stops.Unfinished left = unfinished_line left.unfinished.items
+line_of_kind stops.Idle left = codes "idle: who is left is endless, and waits for what has ended\n"
+
+abbrev pub kind_line : Left → List ℕ
+kind_line left = line_of_kind (kind_of left) left
+
+abbrev pub kind_told : Ending → Left → List ℕ
+kind_told endings.Ended left = []
+kind_told endings.Stopped left = kind_line left
+kind_told (endings.StoppedBy e) left = kind_line left
+kind_told (endings.Fault e) left = []
+kind_told endings.Limit left = []
+
+abbrev pub chooses : Wait → Bool
+chooses Ready = false
+chooses (Took arm indices m) = false
+chooses (Offers c m) = false
+chooses (Awaits c) = false
+chooses (Chooses pri arms) = true
+chooses (Joins ns) = false
+chooses Halted = false
+chooses Done = false
+chooses (Faulted e) = false
+
+abbrev pub task_chooses : Option (Option Task) → Bool
+task_chooses None = false
+task_chooses (Some None) = false
+task_chooses (Some (Some t)) = chooses t.wait
+
+-- those of these that choose
+abbrev pub choosing_among : Tasks → List ℕ → List ℕ
+choosing_among tasks [] = []
+choosing_among tasks (n ∷ ns) = (if task_chooses (slice_get tasks n) then n ∷ [] else []) ++ choosing_among tasks ns
+
+abbrev pub choosing_ones : List ℕ → List ℕ
+choosing_ones [] = []
+choosing_ones (n ∷ ns) = codes "," ++ branches_text (n ∷ ns) ++ by_number (n ∷ ns) (codes " by one of its arms") (codes " by one of their arms")
+
+-- processes each of which waits for the next, and the last one for the first; some of them by one of several arms
+abbrev pub ring_head : (choosing : List ℕ) → List ℕ
+ring_head choosing = codes "  in a circle, each waits for the next" ++ choosing_ones choosing ++ codes ":"
+
+abbrev pub ring_text : (choosing : List ℕ) → List ℕ → List ℕ
+ring_text choosing [] = []
+ring_text choosing (n ∷ ns) = ring_head choosing ++ branches_text (n ∷ ns) ++ codes "\n"
+
+abbrev pub circle_text : Tasks → List ℕ → List ℕ
+circle_text tasks ns = ring_text (choosing_among tasks ns) ns
 
 -- the processes that are told of: all but for those whose number would be 2 to the 32 less 1, of which a program has none
 abbrev pub told_of : Tasks → ℕ
 told_of tasks = min (length tasks) 4294967295
 
 -- of a state of a program's network, with who is at the ends of channels, and what is known of where its processes stand in the source
-abbrev pub network_report : Names → (readers writers : Noted) → List Known → (circle : List ℕ) → Net → Ending → List ℕ
-network_report names readers writers known circle net e =
-    report_head (length net.trace) e ++ task_lines names readers writers known net.tasks (told_of net.tasks) ++ circle_text circle
+abbrev pub network_report : Names → (readers writers : Noted) → List Known → Left → Net → Ending → List ℕ
+network_report names readers writers known left net e =
+    kind_told e left ++ report_head (length net.trace) e ++ task_lines names readers writers known net.tasks (told_of net.tasks) ++ circle_text net.tasks left.circle.items
 
--- The replay of the used choices, which are a beginning of the list, as a run of the list has it, and the report of its state: each
--- process that is left, who is at the other ends of its channels by what the program's term uses, and a circle of those that wait, where
--- there is one.
+-- The replay of the used choices, which are a beginning of the list, as a run of the list has it, and the report of its state: of what
+-- kind a stop is; each process that is left, who is at the other ends of its channels by what the program's term uses; and a circle of
+-- those that wait, where there is one.
 pub record IsReport (t : Term) (p : Program) (keyboard : List ℕ) (list : List Choice) (known : List Known) (bytes : List ℕ) : Type 0 where
   pub used : List Choice
   pub net : Net
@@ -165,10 +235,10 @@ pub record IsReport (t : Term) (p : Program) (keyboard : List ℕ) (list : List 
   pub begins : Begins used list
   pub whole : ending_of p.errors net ≡ None → used ≡ list
   pub ends : Ends
-  pub are_ends : AreEnds t net.tasks (length p.channels) ends
-  pub circle : List ℕ
-  pub is_circle : IsCircle (next_noted ends net.tasks) (min (length net.tasks) 4294967294) circle
-  pub is : bytes ≡ network_report (names_of p.channels) ends.readers.items ends.writers.items known circle net (or_limit (ending_of p.errors net))
+  pub are_ends : AreEnds (all_using t) net.tasks (length p.channels) ends
+  pub left : Left
+  pub is_left : IsRest (all_using t) p net.tasks left
+  pub is : bytes ≡ network_report (names_of p.channels) ends.readers.items ends.writers.items known left net (or_limit (ending_of p.errors net))
 
 -- Processes that wait in a circle in the state that the replay of the used choices comes to, where there are some.
 pub record IsCircleOf (t : Term) (p : Program) (keyboard : List ℕ) (list : List Choice) (circle : List ℕ) : Type 0 where
@@ -177,9 +247,7 @@ pub record IsCircleOf (t : Term) (p : Program) (keyboard : List ℕ) (list : Lis
   pub replays : Replays p keyboard used net
   pub begins : Begins used list
   pub whole : ending_of p.errors net ≡ None → used ≡ list
-  pub ends : Ends
-  pub are_ends : AreEnds t net.tasks (length p.channels) ends
-  pub is_circle : IsCircle (next_noted ends net.tasks) (min (length net.tasks) 4294967294) circle
+  pub is_circle : IsCircle (others_among (all_using t) (length p.channels) net.tasks) (length net.tasks) circle
 
 -- ---- of what code has; private contracts alone cite these, but for the last two
 
@@ -227,6 +295,18 @@ AddsTaskLine cs ends known tables n old new =
 abbrev pub AddsTaskLines : {A : Type 0} → List Channel → Sides → List Known → Tables → ℕ → (old new : Vec ℕ A) → Type 0
 AddsTaskLines cs ends known tables n old new =
     HeldBy tables (λ net. new.items ≡ old.items ++ task_lines (names_of cs) ends.readers.now ends.writers.now known net.tasks n)
+
+-- one more, where it chooses, of whatever network the tables hold
+abbrev pub AddsChoosing : {A : Type 0} → Tables → ℕ → (old new : Vec ℕ A) → Type 0
+AddsChoosing tables n old new = HeldBy tables (λ net. new.items ≡ old.items ++ (if task_chooses (slice_get net.tasks n) then n ∷ [] else []))
+
+-- those of these that choose, of whatever network the tables hold
+abbrev pub ListsChoosing : {A : Type 0} → Tables → List ℕ → Vec ℕ A → Type 0
+ListsChoosing tables ns choosing = HeldBy tables (λ net. choosing.items ≡ choosing_among net.tasks ns)
+
+-- the line of a circle, of whatever network the tables hold
+abbrev pub AddsCircle : {A : Type 0} → Tables → (circle : List ℕ) → (old new : Vec ℕ A) → Type 0
+AddsCircle tables circle old new = HeldBy tables (λ net. AddsText old new (circle_text net.tasks circle))
 
 -- by any term whose uses these are
 abbrev pub IsReportBy : {A : Type 0} → List ProcessUses → Program → List ℕ → Plan → List Known → Vec ℕ A → Type 0

@@ -3,9 +3,10 @@ ghost use Rattle.std.specs.Prelude.{◌≡◌, IfOk, OnOk};
 ghost use Rattle.occ_report.specs.Reports.{IsCircleBy, IsReportBy, count_text, report_head, report_tail};
 ghost use Rattle.occ_shown.specs.Answers.{AddsText};
 
+use crate::kinds::write_kind;
 use crate::standing::{Ends, write_circle, write_lines};
 use occ_choices::Plan;
-use occ_ends::{ProcessUses, circle, ends_of};
+use occ_ends::{Left, ProcessUses, ends_of, left_in};
 use occ_machine::Code;
 use occ_net_tables::{Keep, Ran, run_tables};
 use occ_places::Places;
@@ -51,9 +52,10 @@ fn write_head(
     out.extend_from_slice(tail(ending))
 }
 
-/// What the run of a plan comes to: after how many communications, and a line for each process that is left then, with its
-/// PROC and its line where they are known, with what it stands at, and who is at the other end of its channel; and last, where there
-/// are some, processes that wait for one another in a circle. `uses` has what each process of the program uses.
+/// What the run of a plan comes to: the kind of its stop, if it has stopped, with the processes for which it is of that kind; after how
+/// many communications; a line for each process that is left then, with its PROC and its line where they are known, with what it stands
+/// at, and who is at the other end of its channel; and last, where there are some, processes that wait for one another in a circle.
+/// `uses` has what each process of the program uses.
 ///
 /// # Errors
 ///
@@ -79,7 +81,7 @@ pub fn report(
     let count = processes.min(MOST_TOLD) as u32;
     let channels = code.channels();
     let found = ends_of(alloc, uses, &tables, channels.len())?;
-    let circle = circle(alloc, &found, &tables, count)?;
+    let left = left_in(alloc, uses, code, &tables)?;
     let reading = found.readers.as_slice();
     let writing = found.writers.as_slice();
     let ends = Ends {
@@ -87,10 +89,11 @@ pub fn report(
         writers: writing,
     };
     let mut out = Vec::new(alloc);
+    write_kind(alloc, &mut out, ending, &left)?;
     write_head(alloc, &mut out, communications, ending)?;
     write_lines(alloc, &mut out, channels, ends, places, &tables, count)?;
-    let members = circle.as_slice();
-    write_circle(alloc, &mut out, members)?;
+    let members = left.circle.as_slice();
+    write_circle(alloc, &mut out, &tables, members)?;
     Ok(out)
 }
 
@@ -114,10 +117,10 @@ pub fn circle_of(
         kept: _,
         tables,
     } = run_tables(alloc, code, keyboard, plan, Keep::Given)?;
-    let processes = code.len();
-    let count = processes.min(MOST_TOLD) as u32;
-    let channels = code.channels();
-    let found = ends_of(alloc, uses, &tables, channels.len())?;
-    let circle = circle(alloc, &found, &tables, count)?;
+    let Left {
+        circle,
+        halted: _,
+        unfinished: _,
+    } = left_in(alloc, uses, code, &tables)?;
     Ok(circle)
 }

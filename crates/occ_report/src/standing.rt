@@ -1,10 +1,12 @@
 //! What a process stands at, in bytes.
-ghost use Rattle.std.specs.Prelude.{◌≡◌, IfOk, OnOk, Some, codes};
+ghost use Rattle.std.specs.Prelude.{◌≡◌, IfOk, OnOk, Some, codes, slice_get};
+ghost use Rattle.occ_net_tables.specs.Holding.{HeldBy};
 ghost use Rattle.occ_term.specs.Endings.{ending_text};
 ghost use Rattle.occ_places.specs.Places.{name_of, stop_of};
 ghost use Rattle.occ_shown.specs.Answers.{AddsText, HasWords};
-ghost use Rattle.occ_report.specs.Reports.{arm_told, arms_told, awaited_told, branches_text, circle_text, halted_text, halting_text, line_told, name_text, offer_told, on_line, process_text, AddsLine, AddsOnLine, AddsTaskLine, AddsTaskLines, choosing_told, joining_text, reader_at, standing_told, writer_at};
+ghost use Rattle.occ_report.specs.Reports.{arm_told, arms_told, awaited_told, branches_text, choosing_ones, halted_text, halting_text, line_told, name_text, task_chooses, offer_told, on_line, process_text, AddsChoosing, AddsCircle, AddsLine, ListsChoosing, AddsOnLine, AddsTaskLine, AddsTaskLines, choosing_told, joining_text, reader_at, standing_told, writer_at, ring_head, ring_text};
 
+use crate::kinds::by_number;
 use occ_machine::{Arm, Wait};
 use occ_net_tables::Tables;
 use occ_places::{Kind, Places, Stop};
@@ -118,7 +120,11 @@ fn write_arms(
     Ok(())
 }
 
-fn write_branches(alloc: Global, out: &mut Vec<u8>, branches: &[u32]) -> Result<(), AllocError>
+pub(crate) fn write_branches(
+    alloc: Global,
+    out: &mut Vec<u8>,
+    branches: &[u32],
+) -> Result<(), AllocError>
     ensures { OnOk result (AddsText out.old out.new (branches_text branches.now)) }
 {
     let mut rest = branches;
@@ -130,20 +136,90 @@ fn write_branches(alloc: Global, out: &mut Vec<u8>, branches: &[u32]) -> Result<
     Ok(())
 }
 
-/// Processes that wait in a circle, where there are some.
-pub(crate) fn write_circle(
+/// Whether the process with this number chooses.
+fn is_choosing(tables: &Tables, number: u32) -> bool
+    ensures { HeldBy tables.now (λ net. result ≡ task_chooses (slice_get net.tasks number)) }
+{
+    match tables.task(number) {
+        Some(task) => matches!(task.wait, Wait::Chooses { .. }),
+        None => false,
+    }
+}
+
+/// Adds a process where it chooses.
+fn add_choosing(tables: &Tables, number: u32, choosing: &mut Vec<u32>) -> Result<(), AllocError>
+    ensures { OnOk result (AddsChoosing tables.now number choosing.old choosing.new) }
+{
+    if is_choosing(tables, number) {
+        choosing.push(number)?;
+    }
+    Ok(())
+}
+
+/// Those of these processes that choose.
+fn choosing_among(alloc: Global, tables: &Tables, numbers: &[u32]) -> Result<Vec<u32>, AllocError>
+    ensures { IfOk result (ListsChoosing tables.now numbers.now) }
+{
+    let mut choosing = Vec::new(alloc);
+    let mut rest = numbers;
+    while let Some((number, others)) = rest.split_first() {
+        add_choosing(tables, *number, &mut choosing)?;
+        rest = others;
+    }
+    Ok(choosing)
+}
+
+/// Those that wait by one of several arms, where there are some.
+fn write_choosing_ones(alloc: Global, out: &mut Vec<u8>, choosing: &[u32]) -> Result<(), AllocError>
+    ensures { OnOk result (AddsText out.old out.new (choosing_ones choosing.now)) }
+{
+    if choosing.is_empty() {
+        return Ok(());
+    }
+    let tail = by_number(choosing, b" by one of its arms", b" by one of their arms");
+    out.push(b',')?;
+    write_branches(alloc, out, choosing)?;
+    out.extend_from_slice(tail)
+}
+
+/// How a circle is told, in which these choose.
+fn write_ring_head(alloc: Global, out: &mut Vec<u8>, choosing: &[u32]) -> Result<(), AllocError>
+    ensures { OnOk result (AddsText out.old out.new (ring_head choosing.now)) }
+{
+    out.extend_from_slice(b"  in a circle, each waits for the next")?;
+    write_choosing_ones(alloc, out, choosing)?;
+    out.extend_from_slice(b":")
+}
+
+/// Processes that wait in a circle, where there are some, those of them that choose before them.
+fn write_ring(
     alloc: Global,
     out: &mut Vec<u8>,
+    choosing: &[u32],
     circle: &[u32],
 ) -> Result<(), AllocError>
-    ensures { OnOk result (AddsText out.old out.new (circle_text circle.now)) }
+    ensures { OnOk result (AddsText out.old out.new (ring_text choosing.now circle.now)) }
 {
     if circle.is_empty() {
         return Ok(());
     }
-    out.extend_from_slice(b"  in a circle, each waits for the next:")?;
+    write_ring_head(alloc, out, choosing)?;
     write_branches(alloc, out, circle)?;
     out.extend_from_slice(b"\n")
+}
+
+/// Processes that wait in a circle, where there are some.
+pub(crate) fn write_circle(
+    alloc: Global,
+    out: &mut Vec<u8>,
+    tables: &Tables,
+    circle: &[u32],
+) -> Result<(), AllocError>
+    ensures { OnOk result (AddsCircle tables.now circle.now out.old out.new) }
+{
+    let choosing = choosing_among(alloc, tables, circle)?;
+    write_ring(alloc, out, choosing.as_slice(), circle)?;
+    Ok(())
 }
 
 fn write_offer(

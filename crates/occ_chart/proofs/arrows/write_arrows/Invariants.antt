@@ -1,12 +1,14 @@
-use Rattle.std.proofs.Common.{◌≡◌, ◌+◌, ◌++◌, length}
+use Rattle.std.proofs.Common.{◌≡◌, ◌≤◌, ◌+◌, ◌*◌, ◌++◌, length, map}
 use Rattle.occ_chart.specs.Charts.{arrows}
 use Rattle.occ_chart.specs.Xml.{elements_text}
 use Rattle.occ_chart.proofs.arrows.write_arrows.Given as goal
 
 abbrev pub invariant-loop-first : goal.invariant-loop-first
 invariant-loop-first l = record {
-  counted : l.number + length l.rest ≡ length l.shown;
-  written : l.out.items ++ elements_text (arrows l.columns l.number l.rest) ≡ l.fn.out.items ++ elements_text (arrows l.columns 0 l.fn.shown);
+  near : l.number + 2 * length l.rest ≤ 2000;
+  written :
+      l.out.items ++ elements_text (arrows (map (λ v. v.items) l.names) l.places l.columns l.left l.number l.rest)
+      ≡ l.fn.out.items ++ elements_text (arrows (map (λ v. v.items) l.names) l.places l.columns 30 0 l.fn.shown);
 }
 
 abbrev pub decreases-loop-first : goal.decreases-loop-first

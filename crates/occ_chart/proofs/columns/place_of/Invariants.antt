@@ -1,4 +1,4 @@
-use Rattle.std.proofs.Common.{◌≡◌, ◌+◌, drop, map}
+use Rattle.std.proofs.Common.{◌≡◌, ◌+◌, drop}
 use Rattle.occ_chart.specs.Columns.{column_of}
 use Rattle.occ_chart.proofs.columns.place_of.Given as goal
 

@@ -1,4 +1,4 @@
-use Rattle.std.proofs.Common.{◌≡◌, ◌∙◌, ◌-◌, IfOk, List, ap, drop, map, min, subst, sym, take}
+use Rattle.std.proofs.Common.{◌≡◌, ◌∙◌, ◌-◌, IfOk, List, ap, drop, min, subst, sym, take}
 use Rattle.occ_chart.specs.Charts.{asked, most_arrows, shown_of}
 use Rattle.occ_chart.proofs.Drawing.{first_shown, last_shown}
 use Rattle.occ_shown.specs.Answers.{names_of}

@@ -1,5 +1,5 @@
 use Rattle.std.proofs.Common.{◌≡◌, ◌∙◌, ◌++◌, ◌∷◌, ◌+◌, [], ap, arith, subst, sym}
-use Rattle.occ_ends.specs.Ends.{AreWaits, LeadWithin, edges_to, next_noted}
+use Rattle.occ_ends.specs.Ends.{AreWaits, LeadWithin, edges_to, others_noted}
 use Rattle.occ_ends.proofs.Rounds.{first_waits, first_within, next_waits, next_within}
 use Rattle.occ_ends.proofs.circling.graph.Goals as goal
 
@@ -9,7 +9,7 @@ loop-number-init c =
     let fan = c.in_ok-root.field-0 in
     let is : c.push.new.self.items ≡ fan ∷ [] = c.in_ok-push.ensures.items ∙ ap (λ l. l ++ fan ∷ []) c.new-fans.ensures.items in (
       subst (LeadWithin below 0) (sym is) (first_within fan c.in_ok-root.ensures),
-      λ p keyboard net h. subst (AreWaits (next_noted c.args.ends.now net.tasks) below 0) (sym is) (first_waits (next_noted c.args.ends.now net.tasks) fan c.in_ok-root.ensures),
+      λ p keyboard net h. subst (AreWaits (others_noted c.args.ends.now net.tasks) below 0) (sym is) (first_waits (others_noted c.args.ends.now net.tasks) fan c.in_ok-root.ensures),
     )
 
 pub loop-number-preserved : goal.loop-number-preserved
@@ -20,10 +20,10 @@ loop-number-preserved c =
     let fan = c.in_ok-fan_of.field-0 in
     let (within, waits) = c.loop-number.invariant in
     let is : c.push-in-loop-number.new.self.items ≡ fans ++ fan ∷ [] = c.in_ok-push-2.ensures.items in (
-      subst (LeadWithin below (number + 1)) (sym is) (next_within fans fan number c.next_of-next.result within c.in_ok-fan_of.ensures),
+      subst (LeadWithin below (number + 1)) (sym is) (next_within fans fan number c.as_slice.result.now within c.in_ok-fan_of.ensures),
       λ p keyboard net h.
-          let next = next_noted c.args.ends.now net.tasks in
-          let edges : fan.edges.items ≡ edges_to number (next number) below = c.in_ok-fan_of.ensures ∙ ap (λ x. edges_to number x below) (c.next_of-next.ensures p keyboard net h) in
+          let next = others_noted c.args.ends.now net.tasks in
+          let edges : fan.edges.items ≡ edges_to number (next number) below = c.in_ok-fan_of.ensures ∙ ap (λ x. edges_to number x below) (c.as_slice.ensures.value ∙ c.in_ok-others.ensures p keyboard net h) in
           subst (AreWaits next below (number + 1)) (sym is) (next_waits next fans fan number (waits p keyboard net h) edges),
     )
 
@@ -31,4 +31,4 @@ pub returns-clause-waits : goal.returns-clause-waits
 returns-clause-waits c = λ p keyboard net h.
     let (within, waits) = c.loop-number.invariant in
     let all : c.loop-number.number ≡ c.args.below = omega (arith, c.loop-number-test.false, c.loop-number.auto.number-end) in
-    subst (λ k. AreWaits (next_noted c.args.ends.now net.tasks) c.args.below k c.loop-number.fans.items) all (waits p keyboard net h)
+    subst (λ k. AreWaits (others_noted c.args.ends.now net.tasks) c.args.below k c.loop-number.fans.items) all (waits p keyboard net h)

@@ -1,7 +1,7 @@
 use Rattle.std.proofs.Common.{subst}
 use Rattle.occ_play.specs.Working.{IsAnswerWithin, WorkersRefuse}
-use Rattle.occ_watching.specs.Coming.{CameTo}
-use Rattle.occ_watching.proofs.Coming.{came_to, without_crew}
+use Rattle.occ_program.specs.Watched.{CameTo}
+use Rattle.occ_program.proofs.Watched.{came_to, without_crew}
 use Rattle.occ_program.proofs.program.play_by.Goals as goal
 
 pub returns : goal.returns

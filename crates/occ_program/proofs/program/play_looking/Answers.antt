@@ -2,8 +2,8 @@ use Rattle.std.proofs.Common.{◌≡◌, Bool, Global, List, Result, Ok, Err, su
 use Rattle.occ_play.specs.declared.fault.PlayFault.{PlayFault}
 use Rattle.occ_play.specs.declared.playing.Options.{Options}
 use Rattle.occ_play.specs.declared.playing.Played.{Played}
-use Rattle.occ_watching.specs.Coming.{CameByCrew, SeenByCrew}
-use Rattle.occ_watching.proofs.Coming.{came_answer, came_fault}
+use Rattle.occ_program.specs.Watched.{CameByCrew, SeenByCrew}
+use Rattle.occ_program.proofs.Watched.{came_answer, came_fault}
 use Rattle.occ_program.proofs.program.play_looking.Goals as goal
 
 -- of the words' options and of the inputs' bytes

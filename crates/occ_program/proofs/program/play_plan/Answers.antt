@@ -1,8 +1,8 @@
 use Rattle.std.proofs.Common.{subst}
 use Rattle.occ_choices.specs.Plans.{choices_of}
 use Rattle.occ_play.specs.Playing.{IsAnswer, Refuses}
-use Rattle.occ_watching.specs.Coming.{CameTo}
-use Rattle.occ_watching.proofs.Coming.{came_to}
+use Rattle.occ_program.specs.Watched.{CameTo}
+use Rattle.occ_program.proofs.Watched.{came_to}
 use Rattle.occ_program.proofs.program.play_plan.Goals as goal
 
 pub returns : goal.returns

@@ -8,6 +8,6 @@ loop-answer-preserved c =
     let i = c.loop-answer.answer-index in
     let a = c.answer-item.result in
     record {
-      none = λ h. c.loop-answer.invariant.none (none_of_rest xs i a c.args.ending c.loop-answer-test.true c.answer-item.is (search rules) h);
-      some = λ h. c.loop-answer.invariant.some (some_of_rest xs i a c.args.ending c.loop-answer-test.true c.answer-item.is h);
+      none = λ h. c.loop-answer.invariant.none (none_of_rest xs i a c.args.like.now c.loop-answer-test.true c.answer-item.is (search rules) h);
+      some = λ h. c.loop-answer.invariant.some (some_of_rest xs i a c.args.like.now c.loop-answer-test.true c.answer-item.is h);
     }

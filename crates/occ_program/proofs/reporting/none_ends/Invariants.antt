@@ -5,6 +5,6 @@ use Rattle.occ_program.proofs.reporting.none_ends.Given as goal
 -- what holds of those that are left holds of all
 abbrev pub invariant-loop-answer : goal.invariant-loop-answer
 invariant-loop-answer l = record {
-  none : NoneEnds (drop l.answer-index l.answers) l.ending → NoneEnds l.answers l.ending;
-  some : SomeEnds (drop l.answer-index l.answers) l.ending → SomeEnds l.answers l.ending;
+  none : NoneEnds (drop l.answer-index l.answers) l.like → NoneEnds l.answers l.like;
+  some : SomeEnds (drop l.answer-index l.answers) l.like → SomeEnds l.answers l.like;
 }

@@ -1,6 +1,6 @@
 use Rattle.std.proofs.Common.{◌≡◌, ◌∙◌, ◌+◌, ap, arith, sym}
 use Rattle.occ_play.specs.Status.{fault_status}
-use Rattle.occ_seeds.specs.Seeds.{seeded}
+use Rattle.occ_play_inputs.specs.Seeds.{seeded}
 use Rattle.occ_program.specs.Trying.{by_first, by_seed}
 use Rattle.occ_program.proofs.Ended.{same_refused, same_tried}
 use Rattle.occ_program.proofs.seeding.take_seed_from.Goals as goal

@@ -2,7 +2,7 @@ use Rattle.std.proofs.Common.{◌≡◌, ◌+◌, ◌-◌, ap, arith, inl, inr, 
 use Rattle.occ_program.specs.Trying.{RunEnds}
 use Rattle.occ_program.proofs.Ended.{one_more}
 use Rattle.occ_program.proofs.seeding.tried_seed.Goals as goal
-use Rattle.occ_seeds.specs.Seeds.{seeded}
+use Rattle.occ_play_inputs.specs.Seeds.{seeded}
 
 pub loop-place-preserved : goal.loop-place-preserved
 loop-place-preserved c =

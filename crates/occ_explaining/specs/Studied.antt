@@ -1,0 +1,52 @@
+-- What is told of a run by what is known of its source.
+-- Manual: nothing; this is (own).
+use Rattle.std.specs.Prelude.{List, Option, Vec, map, ℕ, ◌≡◌}
+use Rattle.occ_chart.specs.declared.part.Part.{Part}
+use Rattle.occ_ends.specs.Ends.{all_using, noted_for}
+use Rattle.occ_json.specs.declared.pages.RunTexts.{RunTexts}
+use Rattle.occ_net_replay.specs.declared.choice.Choice.{Choice}
+use Rattle.occ_play.specs.declared.playing.Options.{Options}
+use Rattle.occ_term.specs.UnfoldedProgram.{UnfoldedProgram, meaning}
+use Rattle.occ_explaining.specs.Explaining.{IsKnown, IsNamedChart, ReportsOn, StepsOf}
+use Rattle.occ_explaining.specs.Shown.{IsShownRun, NamesOf, PageOf}
+use Rattle.occ_explaining.specs.Traced.{IsTraced}
+use Rattle.occ_explaining.specs.Typing.{PastOf}
+use Rattle.occ_explaining.specs.declared.studied.Studied.{Studied}
+use Rattle.occ_explaining.specs.declared.tracing.Form.{Form}
+
+-- it is that of this source, for turns of these options
+pub record IsStudied (options : Options) (source : List ℕ) (s : Studied) : Type 0 where
+  pub unfolded : UnfoldedProgram
+  pub known : IsKnown options source s.code s.places unfolded
+  pub uses : map noted_for s.uses.items ≡ all_using (meaning unfolded)
+
+-- of whatever source it is
+abbrev pub ForSource : Studied → (Options → List ℕ → Type 0) → Type 0
+ForSource s Tells = (options : Options) (source : List ℕ) → IsStudied options source s → Tells options source
+
+-- bytes tell of the run of that source by these choices
+abbrev pub ReportsBy : {A : Type 0} → Studied → (keyboard : List ℕ) → List Choice → Vec ℕ A → Type 0
+ReportsBy s keyboard list bytes = ForSource s (λ options source. ReportsOn options source keyboard list bytes.items)
+
+abbrev pub StepsBy : {A : Type 0} → Studied → (keyboard : List ℕ) → List Choice → Vec ℕ A → Type 0
+StepsBy s keyboard list bytes = ForSource s (λ options source. StepsOf options source keyboard list bytes.items)
+
+abbrev pub TracesBy : {A : Type 0} → Studied → (keyboard : List ℕ) → List Choice → Form → Vec ℕ A → Type 0
+TracesBy s keyboard list form bytes = ForSource s (λ options source. IsTraced options source keyboard list form bytes.items)
+
+abbrev pub ChartsBy : {A : Type 0} → Studied → (keyboard : List ℕ) → List Choice → Part → Vec ℕ A → Type 0
+ChartsBy s keyboard list part bytes = ForSource s (λ options source. IsNamedChart options source keyboard list part bytes.items)
+
+abbrev pub NamesBy : {A : Type 0} → Studied → Vec ℕ A → Type 0
+NamesBy s bytes = ForSource s (λ options source. NamesOf options source bytes.items)
+
+abbrev pub RunsBy : Studied → (keyboard head : List ℕ) → List Choice → RunTexts → Type 0
+RunsBy s keyboard head list r = ForSource s (λ options source. IsShownRun options source keyboard head list r)
+
+-- the page has the source itself
+abbrev pub PagesBy : {A : Type 0} → Studied → (source : List ℕ) → List RunTexts → Vec ℕ A → Type 0
+PagesBy s source runs bytes = (options : Options) → IsStudied options source s → PageOf options source runs bytes.items
+
+-- a turn is that of the first choice, if any, that names none of the processes that are ready then
+abbrev pub PastBy : Studied → (keyboard : List ℕ) → List Choice → Option ℕ → Type 0
+PastBy s keyboard list turn = ForSource s (λ options source. PastOf options source keyboard list turn)

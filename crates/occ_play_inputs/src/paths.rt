@@ -1,0 +1,91 @@
+//! The files that the words of the command line name.
+ghost use Rattle.std.specs.Prelude.{All};
+ghost use Rattle.std.specs.Option.{option_copied};
+ghost use Rattle.occ_play_inputs.specs.Paths.{AreApart, HasOwnFile, IsPageApart, IsSourcePath, IsUnread, IsUntyped, IsUnwritten};
+
+use crate::apart::{are_apart, are_untyped, are_unwritten, has_own_file, is_page_apart, is_unread};
+use clap::ArgMatches;
+
+/// What is told where standard input is the source and files are named beside it.
+const ALONE: &str = "- is standard input as the source, and stands alone";
+
+/// What is told where two words name one file.
+const ONE_FILE: &str =
+    "--record, --typed, --chart, --trace-to, --steps and --page each write into a file of their own";
+
+/// The paths of the files, as [`Words`](crate::Words) has them.
+#[derive(Drop)]
+pub(crate) struct Paths<'a> {
+    pub(crate) file: Option<&'a str>,
+    pub(crate) more: Vec<&'a str>,
+    pub(crate) choices: Option<&'a str>,
+    pub(crate) record: Option<&'a str>,
+    pub(crate) chart: Option<&'a str>,
+    pub(crate) trace_to: Option<&'a str>,
+    pub(crate) steps: Option<&'a str>,
+    pub(crate) typed: Option<&'a str>,
+    pub(crate) page: Option<&'a str>,
+    ghost files_apart: { AreApart file choices «record» chart trace_to steps },
+    ghost more_apart: { All (IsUnwritten «record» chart trace_to steps) more.items },
+    ghost typed_unread: { IsUnread typed file choices },
+    ghost typed_apart: { HasOwnFile typed «record» chart trace_to steps },
+    ghost more_untyped: { All (IsUntyped typed) more.items },
+    ghost page_apart: { IsPageApart page file choices «record» chart trace_to steps typed },
+    ghost more_unpaged: { All (IsUntyped page) more.items },
+}
+
+/// The paths that these words name, with those of the source's further files; or what is told where one file is named twice.
+pub(crate) fn paths_of<'a>(
+    matches: &ArgMatches<'a>,
+    more: Vec<&'a str>,
+) -> Result<Paths<'a>, &'static str> {
+    let (file, choices) = (file_of(matches.get_str("FILE")), matches.get_str("choices"));
+    let others = more.as_slice();
+    if has_hyphen(others) || file.is_none() && !others.is_empty() {
+        return Err(ALONE);
+    }
+    let (record, chart) = (matches.get_str("record"), matches.get_str("chart"));
+    let (trace_to, steps) = (matches.get_str("trace-to"), matches.get_str("steps"));
+    let (typed, page) = (matches.get_str("typed"), matches.get_str("page"));
+    if !are_apart(file, choices, record, chart, trace_to, steps)
+        || !are_unwritten(others, record, chart, trace_to, steps)
+        || !is_unread(typed, file, choices)
+        || !has_own_file(typed, record, chart, trace_to, steps)
+        || !are_untyped(others, typed)
+        || !is_page_apart(page, file, choices, record, chart, trace_to, steps, typed)
+        || !are_untyped(others, page)
+    {
+        return Err(ONE_FILE);
+    }
+    Ok(Paths {
+        file,
+        more,
+        choices,
+        record,
+        chart,
+        trace_to,
+        steps,
+        typed,
+        page,
+    })
+}
+
+/// Whether one of these paths is a hyphen.
+fn has_hyphen(paths: &[&str]) -> bool {
+    for path in paths {
+        if *path == "-" {
+            return true;
+        }
+    }
+    false
+}
+
+/// The path of the source's first file, where the words gave this one or none: a hyphen is standard input.
+fn file_of<'a>(given: Option<&'a str>) -> Option<&'a str>
+    ensures { IsSourcePath (option_copied given.entry) (option_copied result) }
+{
+    match given {
+        Some("-") => None,
+        given => given,
+    }
+}

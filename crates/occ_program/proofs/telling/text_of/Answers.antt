@@ -1,0 +1,18 @@
+use Rattle.std.proofs.Common.{subst, sym}
+use Rattle.std.specs.Prelude.{IfOk}
+use Rattle.occ_program.specs.Coming.{options_in}
+use Rattle.occ_program.specs.Pages.{TellsRun}
+use Rattle.occ_program.proofs.Told.{ok_map}
+use Rattle.occ_program.proofs.ToldPages.{shows_of}
+use Rattle.occ_program.proofs.telling.text_of.Goals as goal
+
+pub returns-in-Page : goal.returns-in-Page
+returns-in-Page c =
+    let words = c.args.words.now in
+    let inputs = c.args.inputs.now in
+    let played = c.args.played.now in
+    subst (λ t. IfOk c.shown.result (λ text. TellsRun t words inputs played text.items)) (sym c.in-Page.is)
+    (ok_map c.shown.result
+    (λ text f. shows_of c.args.studied.now (options_in words) inputs.source.items c.as_slice.result.now inputs.keyboard.items c.as_slice-keyboard.result.now played.choices.items c.as_slice-choices.result.now text
+    c.as_slice.ensures.value c.as_slice-keyboard.ensures.value c.as_slice-choices.ensures.value c.requires f)
+    c.shown.ensures)

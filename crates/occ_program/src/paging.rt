@@ -1,0 +1,104 @@
+//! Writes a page that shows the answers of a search.
+ghost use Rattle.std.specs.Prelude.{◌≡◌, ◌≤◌, IfErr, IfOk, length};
+ghost use Rattle.occ_explaining.specs.Studied.{IsStudied};
+ghost use Rattle.occ_play_inputs.specs.Failures.{FailsToWrite};
+ghost use Rattle.occ_play_inputs.specs.declared.failure.Stream.TheVariants as stream;
+ghost use Rattle.occ_program.specs.Coming.{options_in};
+ghost use Rattle.occ_program.specs.Pages.{AnswersPage, AreRunsOf, IsLeft, ShowsAnswers};
+
+use crate::page::{Page, write_page};
+use crate::program::options_of;
+use occ_explaining::{Studied, page_of, run_texts, study};
+use occ_exploring::{Answer, Asked, answer_line};
+use occ_files::Folder;
+use occ_json::RunTexts;
+use occ_play_inputs::{Failure, Inputs, Stream, Words};
+use std::alloc::{AllocError, Global};
+
+/// Writes a page that shows the runs of these answers into the file that the words name.
+pub(crate) fn show_answers<F: Folder>(
+    folder: &mut F,
+    alloc: Global,
+    words: &Words<'_>,
+    asked: Asked,
+    inputs: &Inputs,
+    answers: &[Answer],
+) -> Result<(), Failure>
+    requires { length answers.now ≤ 100 }
+    ensures left { IsLeft F.left folder.old folder.new
+        (AnswersPage words.now inputs.now asked answers.now) result }
+    ensures failed { IfErr result (FailsToWrite stream.Page) }
+{
+    let page = shown_page(alloc, words, asked, inputs, answers)?;
+    write_page(folder, Stream::Page, &page)
+}
+
+/// What is to be written, and where.
+fn shown_page<'a>(
+    alloc: Global,
+    words: &Words<'a>,
+    asked: Asked,
+    inputs: &Inputs,
+    answers: &[Answer],
+) -> Result<Option<Page<'a>>, AllocError>
+    requires { length answers.now ≤ 100 }
+    ensures { IfOk result (AnswersPage words.now inputs.now asked answers.now) }
+{
+    match words.page {
+        Some(path) => {
+            let text = shown(alloc, words, asked, inputs, answers)?;
+            Ok(Some(Page { path, text }))
+        }
+        None => Ok(None),
+    }
+}
+
+/// The page. The source has a program, since it was searched, so reading it again fails for want of memory alone.
+#[tactic(auto, using(crate::proofs::ToldPages::answers_shown))]
+fn shown(
+    alloc: Global,
+    words: &Words<'_>,
+    asked: Asked,
+    inputs: &Inputs,
+    answers: &[Answer],
+) -> Result<Vec<u8>, AllocError>
+    requires { length answers.now ≤ 100 }
+    ensures { IfOk result (λ text.
+        ShowsAnswers words.now inputs.now asked answers.now text.items) }
+{
+    let source = inputs.source.as_slice();
+    let Ok(studied) = study(&options_of(words), alloc, source) else {
+        return Err(AllocError);
+    };
+    let runs = runs_of(alloc, words, asked, inputs, &studied, answers)?;
+    let text = page_of(&studied, alloc, source, runs.as_slice())?;
+    Ok(text)
+}
+
+/// What the page has of each answer.
+fn runs_of(
+    alloc: Global,
+    words: &Words<'_>,
+    asked: Asked,
+    inputs: &Inputs,
+    studied: &Studied,
+    answers: &[Answer],
+) -> Result<Vec<RunTexts>, AllocError>
+    requires studied { IsStudied (options_in words.now) inputs.now.source.items studied.now }
+    requires few { length answers.now ≤ 100 }
+    ensures { IfOk result (λ runs. AreRunsOf words.now inputs.now asked 1 answers.now runs.items) }
+{
+    let mut runs = Vec::new(alloc);
+    let mut number = 1;
+    let mut rest = answers;
+    while let Some((first, others)) = rest.split_first() {
+        let head = answer_line(alloc, asked, number, first)?;
+        let keyboard = inputs.keyboard.as_slice();
+        let choices = first.choices.as_slice();
+        let run = run_texts(studied, alloc, keyboard, head.as_slice(), choices)?;
+        runs.push(run)?;
+        number += 1;
+        rest = others;
+    }
+    Ok(runs)
+}
