@@ -113,6 +113,9 @@ pub(crate) fn reserved_like(word: &[u8]) -> Option<(&'static str, Class)> {
 
 /// The class of a word of letters, digits and dots.
 pub(crate) fn class_of(word: &[u8]) -> Class {
+    if let [b'a'..=b'z', ..] = word {
+        return Class::Name;
+    }
     match reserved_like(word) {
         Some((spelling, class)) if spelling.as_bytes() == word => class,
         _ => Class::Name,

@@ -21,16 +21,16 @@ pub(crate) enum Start {
 
 impl Start {
     /// Its part of the grammar.
-    pub(crate) fn part(self) -> &'static str {
+    pub(crate) fn part(self) -> &'static [u8] {
         match self {
-            Start::Top => "top",
-            Start::Process => "process",
-            Start::Choice => "choice",
-            Start::Arm => "arm",
-            Start::Option => "option",
-            Start::Variant => "variant",
-            Start::Cases => "cases",
-            Start::Tag => "tag",
+            Start::Top => b"top",
+            Start::Process => b"process",
+            Start::Choice => b"choice",
+            Start::Arm => b"arm",
+            Start::Option => b"option",
+            Start::Variant => b"variant",
+            Start::Cases => b"cases",
+            Start::Tag => b"tag",
         }
     }
 }

@@ -237,27 +237,30 @@ FOR FOR
 ALT ALT";
 
 /// The class of the words that a word of the grammar stands for; none of a part.
-pub(crate) fn class_in(word: &str) -> Option<Class> {
-    match front_of(word.as_bytes()).class {
-        Some(Class::Name) if word != "name" => None,
-        class => class,
+pub(crate) fn class_in(word: &[u8]) -> Option<Class> {
+    match word {
+        [b'n', b'a', b'm', b'e'] => Some(Class::Name),
+        [b'a'..=b'z', ..] => None,
+        _ => front_of(word).class,
     }
 }
 
-/// A text up to its first space, and what stands behind that.
-pub(crate) fn cut<'a>(text: &'a str) -> (&'a str, &'a str) {
-    match text.split_once(' ') {
-        Some((first, rest)) => (first, rest),
-        None => (text, ""),
+/// A text up to the first of these bytes, and what stands behind that.
+pub(crate) fn cut(text: &[u8], mark: u8) -> (&[u8], &[u8]) {
+    for i in 0..text.len() {
+        if text[i] == mark {
+            return (&text[..i], &text[i + 1..]);
+        }
     }
+    (text, b"")
 }
 
 /// What a part is made of where a word of this class is met.
-pub(crate) fn made_of(part: &str, class: Class) -> Option<&'static str> {
+pub(crate) fn made_of(part: &[u8], class: Class) -> Option<&'static [u8]> {
     for row in GRAMMAR.lines() {
-        let (first, then) = cut(row);
+        let (first, then) = cut(row.as_bytes(), b' ');
         if first == part {
-            match class_in(cut(then).0) {
+            match class_in(cut(then, b' ').0) {
                 Some(word) if word != class => {}
                 _ => return Some(then),
             }
@@ -269,8 +272,9 @@ pub(crate) fn made_of(part: &str, class: Class) -> Option<&'static str> {
 /// What is said of a part; nothing of one that is never told.
 pub(crate) fn said_of(part: &[u8]) -> &'static str {
     for row in PARTS.lines() {
-        let (first, says) = cut(row);
-        if first.as_bytes() == part {
+        if let Some((first, says)) = row.split_once(' ')
+            && first.as_bytes() == part
+        {
             return says;
         }
     }

@@ -2,7 +2,7 @@
 //! occam 2.
 
 use crate::class::{Class, class_of, reserved_like};
-use crate::grammar::{class_in, said_of};
+use crate::grammar::{class_in, cut, said_of};
 use crate::scan::Word;
 use crate::sentence::{Nothing, Piece, Told};
 use crate::walk::{Leaving, bytes_at, class_at, word_from};
@@ -90,7 +90,7 @@ over joins / operators have no precedence: write (a + b) * c or a + (b * c)";
 pub(crate) struct Met<'a> {
     pub(crate) line: usize,
     pub(crate) words: &'a [Word<'a>],
-    pub(crate) start: &'static str,
+    pub(crate) start: &'static [u8],
     pub(crate) leaving: Leaving,
 }
 
@@ -102,72 +102,76 @@ pub(crate) fn is_operator(class: Class) -> bool {
     )
 }
 
-/// Whether a word is an operand by itself.
-fn is_single(class: Class) -> bool {
-    matches!(
-        class,
-        Class::ByteLiteral | Class::Name | Class::Number | Class::Text | Class::Truth
-    )
-}
-
 impl Met<'_> {
     /// Whether what stands before a hint holds here.
-    fn holds(&self, condition: &str) -> bool {
-        let (kind, spelling) = match condition.split_once('=') {
-            Some((kind, spelling)) => (kind.as_bytes(), spelling),
-            None => (condition.as_bytes(), ""),
+    fn holds(&self, condition: &[u8]) -> bool {
+        let (kind, spelling) = cut(condition, b'=');
+        let kind = match kind {
+            [kind, ..] => *kind,
+            [] => b' ',
         };
         let leaving = self.leaving;
         let place = match kind {
-            [b'f', ..] => 0,
-            [b'b' | b'a', ..] => leaving.at.wrapping_sub(1),
-            [b't', ..] => leaving.at.wrapping_sub(2),
-            [b'n', ..] => leaving.at.saturating_add(1),
+            b'f' => 0,
+            b'b' | b'a' => leaving.at.wrapping_sub(1),
+            b't' => leaving.at.wrapping_sub(2),
+            b'n' => leaving.at.saturating_add(1),
             _ => leaving.at,
         };
         let class = class_at(self.words, place);
         match kind {
-            [b'i', ..] => self.start == spelling,
-            [b'w', ..] => leaving.wanted == spelling,
-            [b'e', ..] => leaving.wanted.is_empty(),
-            [b'o', ..] => !leaving.over.is_empty(),
-            [b'j', ..] => is_operator(class),
-            [b's', ..] => word_from(self.words, 0, spelling.as_bytes()) < self.words.len(),
-            [b'l' | b'a' | b't', ..] => class_in(spelling) == Some(class),
-            _ => bytes_at(self.words, place) == spelling.as_bytes(),
+            b'i' => self.start == spelling,
+            b'w' => leaving.wanted == spelling,
+            b'e' => leaving.wanted.is_empty(),
+            b'o' => !leaving.over.is_empty(),
+            b'j' => is_operator(class),
+            b's' => word_from(self.words, 0, spelling) < self.words.len(),
+            b'l' | b'a' | b't' => class_in(spelling) == Some(class),
+            _ => bytes_at(self.words, place) == spelling,
         }
     }
 
     /// The hint for this place; it says nothing where there is none.
     fn hint(&self) -> &'static str {
         for row in HINTS.lines() {
-            let Some((conditions, says)) = row.split_once(" / ") else {
-                continue;
-            };
-            let mut holds = true;
-            for condition in conditions.split_ascii_whitespace() {
-                holds = holds && self.holds(condition);
-            }
-            if holds {
-                return says;
+            if let Some((conditions, says)) = row.split_once(" / ") {
+                let mut holds = true;
+                for condition in conditions.split_ascii_whitespace() {
+                    holds = holds && self.holds(condition.as_bytes());
+                }
+                if holds {
+                    return says;
+                }
             }
         }
         ""
     }
 
-    /// Whether the words before and behind are single operands: `1 + 2` before and `3` behind.
+    /// Whether an operator is met behind single operands and before one: `1 + 2` before and `3` behind.
     fn joins_single_operands(&self) -> bool {
         let (words, at, over) = (self.words, self.leaving.at, self.leaving.over);
-        let met = class_at(words, at);
-        at > 2
-            && !over.is_empty()
-            && !(over == b"whole".as_slice() && matches!(met, Class::And | Class::Or))
-            && is_operator(met)
-            && is_single(class_at(words, at - 3))
-            && is_operator(class_at(words, at - 2))
-            && is_single(class_at(words, at - 1))
-            && is_single(class_at(words, at.saturating_add(1)))
-            && !is_operator(class_at(words, at.wrapping_sub(4)))
+        if at < 3
+            || over.is_empty()
+            || over == b"whole".as_slice()
+                && matches!(class_at(words, at), Class::And | Class::Or)
+        {
+            return false;
+        }
+        for i in 0..5 {
+            let class = class_at(words, (at - 3).saturating_add(i));
+            let is_single = matches!(
+                class,
+                Class::ByteLiteral | Class::Name | Class::Number | Class::Text | Class::Truth
+            );
+            if !(if i % 2 == 0 {
+                is_single
+            } else {
+                is_operator(class)
+            }) {
+                return false;
+            }
+        }
+        !is_operator(class_at(words, at.wrapping_sub(4)))
             && !matches!(
                 class_at(words, at.saturating_add(2)),
                 Class::OpenBracket | Class::OpenParen
@@ -175,84 +179,76 @@ impl Met<'_> {
     }
 
     /// The reserved word that a name of the line is in small letters: the name that is met, the one before it, or the first.
-    fn small_letters(&self) -> Option<&'static str> {
+    fn small_letters(&self) -> &'static str {
         for at in [self.leaving.at, self.leaving.at.saturating_sub(1), 0] {
             if class_at(self.words, at) == Class::Name
                 && let Some((reserved, _)) = reserved_like(bytes_at(self.words, at))
             {
-                return Some(reserved);
+                return reserved;
             }
         }
-        None
+        ""
     }
 
-    /// What is wrong: the word that is met, and what may stand in its place. Behind the last word none is.
-    fn wrong(&self) -> (&'static str, &'static str) {
-        let leaving = self.leaving;
-        let is_over = leaving.wanted.is_empty();
-        let said = said_of(leaving.wanted.as_bytes());
-        let wanted = if is_over {
-            "more"
-        } else if said.is_empty() {
-            "another word"
-        } else {
-            said
-        };
-        match class_at(self.words, leaving.at) {
-            Class::End => ("the line ends where @2 must stand", wanted),
-            met if !leaving.over.is_empty() && (is_over || is_operator(met)) => {
-                ("`@1` after @2", said_of(leaving.over))
-            }
-            _ if is_over => ("`@1` where the line must end", ""),
-            _ => ("`@1` where @2 must stand", wanted),
-        }
-    }
-
-    /// How it is mended.
-    fn advice(&self) -> (&'static str, Piece, Piece) {
+    /// How it is mended, and the third piece of that.
+    fn advice(&self) -> (&'static str, Piece) {
         let (line, at) = (self.line, self.leaving.at);
-        if let Some(reserved) = self.small_letters() {
-            return (IN_CAPITALS, Piece::Text(reserved), Nothing);
+        let reserved = self.small_letters();
+        if !reserved.is_empty() {
+            return (IN_CAPITALS, Piece::Text(reserved));
         }
         let hint = self.hint();
         if hint.is_empty()
-            && self.leaving.wanted == "new.name"
+            && self.leaving.wanted == b"new.name".as_slice()
             && class_of(bytes_at(self.words, at)) != Class::Name
         {
-            return (
-                "`@1` is a reserved word: use another name",
-                Nothing,
-                Nothing,
-            );
+            return ("`@1` is a reserved word: use another name", Nothing);
         }
         if hint.starts_with("operators have") && self.joins_single_operands() {
             return (
                 "operators have no precedence: write @3",
                 Piece::Bracketed(line, at),
-                Nothing,
             );
         }
-        if hint.starts_with("put brackets round a sign") && at > 0 {
+        if at > 0 && hint.starts_with("put brackets round a sign") {
             return (
                 "put brackets round a sign behind an operator: `@3 (-@4)`",
                 Piece::Short(line, at - 1),
-                Piece::Short(line, at.saturating_add(1)),
             );
         }
-        (hint, Nothing, Nothing)
+        (hint, Nothing)
     }
 
     /// What is told of this place.
     pub(crate) fn told(&self) -> Told {
         let (line, at) = (self.line, self.leaving.at);
-        let (wrong, part) = self.wrong();
-        let (hint, one, other) = self.advice();
+        let (wanted, over) = (self.leaving.wanted, self.leaving.over);
+        let met = class_at(self.words, at);
+        let is_over = met != Class::End
+            && !over.is_empty()
+            && (wanted.is_empty() || is_operator(met));
+        let (hint, piece) = self.advice();
+        let wrong = if met == Class::End {
+            "the line ends where @2 must stand"
+        } else if is_over {
+            "`@1` after @2"
+        } else if wanted.is_empty() {
+            "`@1` where the line must end"
+        } else {
+            "`@1` where @2 must stand"
+        };
+        let part = said_of(if is_over { over } else { wanted });
         Told {
             line,
             at,
             wrong,
             hint,
-            pieces: [Piece::Short(line, at), Piece::Text(part), one, other],
+            pieces: [
+                Piece::Short(line, at),
+                Piece::Text(part),
+                piece,
+                Piece::Short(line, at.saturating_add(1)),
+            ],
         }
     }
 }

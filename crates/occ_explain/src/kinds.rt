@@ -202,9 +202,11 @@ pub(crate) fn kind_finding(text: &Text<'_>, index: usize) -> Option<Told> {
     None
 }
 
-/// Where a constant is wanted in a line, and what for.
-fn constant_place(words: &[Word<'_>]) -> (usize, &'static str) {
-    match class_at(words, 0) {
+/// A name that stands for no constant where one is wanted.
+pub(crate) fn constant_finding(text: &Text<'_>, index: usize) -> Option<Told> {
+    let words = text.words_at(index);
+    // where it is wanted, and what for
+    let (from, hint) = match class_at(words, 0) {
         Class::Par => (
             3,
             "the base and the count of a replicated PAR are known before the run: write a number, or name one by VAL",
@@ -217,13 +219,7 @@ fn constant_place(words: &[Word<'_>]) -> (usize, &'static str) {
             0,
             "a constant of a CASE is known before the run: write a number or a byte, or name one by VAL",
         ),
-    }
-}
-
-/// A name that stands for no constant where one is wanted.
-pub(crate) fn constant_finding(text: &Text<'_>, index: usize) -> Option<Told> {
-    let words = text.words_at(index);
-    let (from, hint) = constant_place(words);
+    };
     for at in from..words.len() {
         if let Some(found) = declaration_of(text, index, words[at].bytes)
             && found.spec.kind == Kind::Variable

@@ -10,7 +10,7 @@ use std::alloc::{AllocError, Global};
 #[derive(Clone, Copy)]
 pub(crate) struct Leaving {
     pub(crate) at: usize,
-    pub(crate) wanted: &'static str,
+    pub(crate) wanted: &'static [u8],
     pub(crate) over: &'static [u8],
 }
 
@@ -44,33 +44,41 @@ pub(crate) fn word_from(words: &[Word<'_>], from: usize, bytes: &[u8]) -> usize 
 pub(crate) fn first_leaving(
     alloc: Global,
     words: &[Word<'_>],
-    start: &'static str,
+    start: &'static [u8],
 ) -> Result<Option<Leaving>, AllocError> {
     let mut rows = Vec::new(alloc);
     rows.push(start)?;
     let (mut at, mut over) = (0, b"".as_slice());
     for _ in 0..words.len().saturating_mul(32).saturating_add(128) {
         let class = class_at(words, at);
-        let (wanted, behind) = cut(rows.pop().unwrap_or(""));
-        if wanted.is_empty() && class == Class::End {
-            return Ok(None);
-        }
+        let (wanted, behind) = match rows.pop() {
+            Some(row) => cut(row, b' '),
+            None if class == Class::End => return Ok(None),
+            None => return Ok(Some(Leaving {
+                at,
+                wanted: b"",
+                over,
+            })),
+        };
         if !behind.is_empty() {
             rows.push(behind)?;
         }
         let word = class_in(wanted);
-        if word.is_none()
-            && let Some(then) = made_of(wanted, class)
-        {
+        let then = match word {
+            Some(_) => None,
+            None => made_of(wanted, class),
+        };
+        if let Some(then) = then {
             if !then.is_empty() {
                 rows.push(then)?;
-            } else if over.is_empty() && !said_of(wanted.as_bytes()).is_empty() {
-                over = wanted.as_bytes();
+            } else if over.is_empty() && !said_of(wanted).is_empty() {
+                over = wanted;
             }
         } else if word == Some(class) {
             at = at.saturating_add(1);
             over = b"";
         } else {
+            let wanted = if at == 0 { start } else { wanted };
             return Ok(Some(Leaving { at, wanted, over }));
         }
     }
