@@ -1,6 +1,13 @@
 //! What all runs of a source text come to, on a keyboard's bytes: [`explore_in`] searches
 //! them, [`exploration_text`] says what was found, and [`laws`] has what follows for runs of the source. [`keep_in`] says whether
 //! each of its runs comes to what some run of another text comes to, its specification.
+//!
+//! ```
+//! let hello = b"PROC main (CHAN OF BYTE keyboard, screen)\n  screen ! 'A'\n:\n";
+//! let (options, asked) = (Options::plain(), Asked::Answers);
+//! let found = explore_in(&options, alloc, hello, b"", asked, false, 1_000, &mut Untold)?;
+//! assert_eq!(rt; found.answers.len(), 1); // each schedule shows the same
+//! ```
 #![tactic(auto)]
 
 pub mod exploring;

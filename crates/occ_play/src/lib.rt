@@ -2,6 +2,13 @@
 //! and [`play_workers_in`] promise that the answer of an accepted program is shown by a run of its source
 //! under the rules of the language, with that run's ending, and that a text is refused only where the
 //! definitions refuse it.
+//!
+//! ```
+//! let hello = b"PROC main (CHAN OF BYTE keyboard, screen)\n  screen ! 'A'\n:\n";
+//! let mut screen = Counted::new(Vec::new(alloc));
+//! let played = play(alloc, hello, b"", &Plan::Turns(10), false, &mut screen)?;
+//! assert_eq!(rt; played.ending, Ending::Ended);
+//! ```
 #![tactic(auto)]
 
 pub mod fault;

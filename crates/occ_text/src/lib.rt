@@ -1,5 +1,10 @@
 //! The words and logical lines of a text. [`read_lines`] answers the lines that the definitions have for
 //! the text's bytes, and refuses only a text that has none.
+//!
+//! ```
+//! let source = read_lines(alloc, b"SEQ\n  x := 1\n")?;
+//! assert_eq!(rt; source.lines.len(), 2);
+//! ```
 #![tactic(auto)]
 
 mod class;

@@ -8,6 +8,8 @@ mod compared;
 #[cfg(test)]
 mod growths;
 #[cfg(test)]
+mod heads;
+#[cfg(test)]
 mod inputs;
 #[cfg(test)]
 mod known;
