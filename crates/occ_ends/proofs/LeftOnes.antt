@@ -86,12 +86,12 @@ pub record Tested (test : Wait → Bool) (tasks : Tasks) (n : ℕ) : Type 0 wher
   pub there : HasTask tasks n task
   pub is : IsTrue (test task.wait)
 
-tested : (test : Wait → Bool) (tasks : Tasks) (n : ℕ) (x : Option (Option Task)) → slice_get tasks n ≡ x → IsTrue (task_is test x) → Tested test tasks n
+pub tested : (test : Wait → Bool) (tasks : Tasks) (n : ℕ) (x : Option (Option Task)) → slice_get tasks n ≡ x → IsTrue (task_is test x) → Tested test tasks n
 tested test tasks n None e h = absurd (true≢false (sym h))
 tested test tasks n (Some None) e h = absurd (true≢false (sym h))
 tested test tasks n (Some (Some t)) e h = record { task = t; there = e; is = h }
 
-test_of : (test : Wait → Bool) (tasks : Tasks) (n : ℕ) (t : Task) → HasTask tasks n t → IsTrue (test t.wait) → IsTrue (task_is test (slice_get tasks n))
+pub test_of : (test : Wait → Bool) (tasks : Tasks) (n : ℕ) (t : Task) → HasTask tasks n t → IsTrue (test t.wait) → IsTrue (task_is test (slice_get tasks n))
 test_of test tasks n t there h = ap (task_is test) there ∙ h
 
 pub are_halted : (tasks : Tasks) (count : ℕ) (ns : List ℕ) → count ≡ length tasks → ns ≡ those (halts_at tasks) count → AreThose (IsHalted tasks) ns

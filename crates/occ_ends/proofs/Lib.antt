@@ -1,6 +1,9 @@
+pub mod ClosedSets
 pub mod Flagging
+pub mod Leaving
 pub mod LeftOnes
 pub mod Listing
 pub mod Marking
 pub mod Rings
 pub mod Rounds
+pub mod Unmet

@@ -8,7 +8,7 @@ use Rattle.occ_usage.specs.Noted.{between}
 use Rattle.occ_net_tables.specs.Keys.{flat}
 use Rattle.occ_ends.specs.Ends.{MarkedIn, Marks, Using, first_with, marked, end_noted, or_first, of_declared}
 
-lt_or_le : (n e : ℕ) → (n < e) ⊎ (e ≤ n)
+pub lt_or_le : (n e : ℕ) → (n < e) ⊎ (e ≤ n)
 lt_or_le zero zero = inr (omega arith)
 lt_or_le zero (suc e) = inl (omega arith)
 lt_or_le (suc n) zero = inr (omega arith)
@@ -160,15 +160,15 @@ module _ {stand : ℕ → Bool} {kind : Uses → Numbers} {all : List Using} {st
 
 -- ---- the start, and the end
 
-nobody_at : (channels c : ℕ) → c < channels → slice_get {X = Option ℕ} (replicate channels None) c ≡ Some None
-nobody_at zero c h = absurd (omega (arith, h))
-nobody_at (suc channels) zero h = refl
-nobody_at (suc channels) (suc c) h = nobody_at channels c (omega (arith, h))
+pub at_start : (channels c : ℕ) → c < channels → slice_get {X = Option ℕ} (replicate channels None) c ≡ Some None
+at_start zero c h = absurd (omega (arith, h))
+at_start (suc channels) zero h = refl
+at_start (suc channels) (suc c) h = at_start channels c (omega (arith, h))
 
-past_all : (channels c : ℕ) → channels ≤ c → slice_get {X = Option ℕ} (replicate channels None) c ≡ None
-past_all zero c h = refl
-past_all (suc channels) zero h = absurd (omega (arith, h))
-past_all (suc channels) (suc c) h = past_all channels c (omega (arith, h))
+pub past_start : (channels c : ℕ) → channels ≤ c → slice_get {X = Option ℕ} (replicate channels None) c ≡ None
+past_start zero c h = refl
+past_start (suc channels) zero h = absurd (omega (arith, h))
+past_start (suc channels) (suc c) h = past_start channels c (omega (arith, h))
 
 started : (channels c : ℕ) (x : Option ℕ) → flat (option_map (λ end. or_first end x) (slice_get (replicate channels None) c)) ≡ (if nat_lt c channels then x else None)
 started channels c x = by (lt_or_le c channels)
@@ -176,10 +176,10 @@ started channels c x = by (lt_or_le c channels)
     by : (c < channels) ⊎ (channels ≤ c) → flat (option_map (λ end. or_first end x) (slice_get (replicate channels None) c)) ≡ (if nat_lt c channels then x else None)
     by (inl h) =
         let test : nat_lt c channels ≡ true = grind (arith, nat_tests) in
-        ap (λ e. flat (option_map (λ end. or_first end x) e)) (nobody_at channels c h) ∙ ap (λ b. if b then x else None) (sym test)
+        ap (λ e. flat (option_map (λ end. or_first end x) e)) (at_start channels c h) ∙ ap (λ b. if b then x else None) (sym test)
     by (inr h) =
         let test : nat_lt c channels ≡ false = grind (arith, nat_tests) in
-        ap (λ e. flat (option_map (λ end. or_first end x) e)) (past_all channels c h) ∙ ap (λ b. if b then x else None) (sym test)
+        ap (λ e. flat (option_map (λ end. or_first end x) e)) (past_start channels c h) ∙ ap (λ b. if b then x else None) (sym test)
 
 pub ends_are : {stand : ℕ → Bool} {kind : Uses → Numbers} {ps all : List Using} {start new : List (Option ℕ)} (channels : ℕ) → ps ≡ all → start ≡ replicate channels None
     → MarkedIn stand kind ps start new → (c : ℕ) → end_noted new c ≡ of_declared channels (λ k. first_with stand kind k all) c

@@ -3,7 +3,7 @@
 use Rattle.std.specs.Prelude.{All, Bool, IsTrue, List, None, Option, Some, [], false, if◌then◌else◌, length, map, nat_lt, option_map, option_to_list, reverse, slice_get, true, ℕ, ◌%◌, ◌&&◌, ◌+◌, ◌++◌, ◌<◌, ◌≤◌, ◌∷◌, ◌≡◌, ◌⊎◌, Vec}
 use Rattle.std.specs.Option.{option_and_then}
 use Rattle.occ_term.specs.Frames.{is_held}
-use Rattle.occ_term.specs.Processes.{Numbered, processes_of}
+use Rattle.occ_term.specs.Processes.{Numbered, branches_in, processes_of}
 use Rattle.occ_term.specs.Terms.{Term}
 use Rattle.occ_term.specs.Uses.{Numbers, Uses, uses_of}
 use Rattle.occ_machine.specs.declared.task.Arm.{Arm}
@@ -24,20 +24,21 @@ use Rattle.occ_net_tables.specs.Holding.{HeldBy}
 
 -- ---- what processes use
 
--- a process with all that it uses, its branches' uses among it
+-- a process with all that it uses, its branches' uses among it, and how many processes are within it: its branches, theirs, and so on
 pub record Using : Type 0 where
   pub number : ℕ
+  pub within : ℕ
   pub uses : Uses
 
 abbrev pub using : Numbered → Using
-using p = record { number = p.number; uses = uses_of p.term }
+using p = record { number = p.number; within = length (branches_in p.term); uses = uses_of p.term }
 
 -- the processes of a term, in the order in which they begin there
 abbrev pub all_using : Term → List Using
 all_using t = map using (processes_of t)
 
 abbrev pub noted_for : ProcessUses → Using
-noted_for p = record { number = p.number; uses = uses_in p.uses }
+noted_for p = record { number = p.number; within = p.within; uses = uses_in p.uses }
 
 -- ---- ends of channels
 

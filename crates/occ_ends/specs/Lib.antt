@@ -1,3 +1,4 @@
 pub mod Ends
 pub mod Endless
 pub mod Kinds
+pub mod ForGood

@@ -75,7 +75,7 @@ fn mark(ends: &mut Vec<Option<u32>>, first: u64, end: u64, number: u32)
 }
 
 /// The same where a process has these uses.
-fn mark_uses(ends: &mut Ends, uses: &[Use], number: u32)
+pub(crate) fn mark_uses(ends: &mut Ends, uses: &[Use], number: u32)
     ensures readers { MarksReaders ends.old uses.now number ends.new }
     ensures writers { MarksWriters ends.old uses.now number ends.new }
 {
@@ -103,7 +103,7 @@ fn mark_all(ends: &mut Ends, uses: &[ProcessUses], tables: &Tables)
 }
 
 /// Nobody, of so many channels.
-fn nobody(alloc: Global, channels: usize) -> Result<Vec<Option<u32>>, AllocError>
+pub(crate) fn nobody(alloc: Global, channels: usize) -> Result<Vec<Option<u32>>, AllocError>
     ensures { IfOk result (λ ends. ends.items ≡ replicate channels None) }
 {
     vec![in alloc; None; channels]

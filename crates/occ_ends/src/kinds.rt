@@ -71,7 +71,7 @@ fn has_halted(wait: &Wait) -> bool
     }
 }
 
-fn is_at_channel(wait: &Wait) -> bool
+pub(crate) fn is_at_channel(wait: &Wait) -> bool
     ensures { result ≡ is_at_channel wait.now }
 {
     match wait {
@@ -95,7 +95,7 @@ fn is_halted(tables: &Tables, number: u32) -> bool
     }
 }
 
-fn is_flagged(flags: &[bool], number: u32) -> bool
+pub(crate) fn is_flagged(flags: &[bool], number: u32) -> bool
     ensures { result ≡ flag flags.now number }
 {
     match flags.get(number as usize) {

@@ -6,9 +6,11 @@
 mod circling;
 mod endless;
 pub mod ends;
+pub mod for_good;
 pub mod kinds;
 pub mod uses;
 
 pub use ends::{Ends, ends_of};
+pub use for_good::{closed_sets_wait_for_good, waiting_in};
 pub use kinds::{Kind, Left, kind_in, left_in};
 pub use uses::{ProcessUses, process_uses};

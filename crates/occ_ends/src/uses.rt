@@ -1,5 +1,5 @@
 //! What each process of a program uses.
-ghost use Rattle.std.specs.Prelude.{◌≡◌, ◌∷◌, [], IfOk, OnOk, map};
+ghost use Rattle.std.specs.Prelude.{◌≡◌, ◌∷◌, [], IfOk, OnOk, length, map};
 ghost use Rattle.occ_term.specs.Terms as terms;
 ghost use Rattle.occ_term.specs.Processes.{branches_among, branches_in, branches_in_arms, branches_in_choices, branches_in_options, branches_in_reception, branches_in_terms, branches_in_variants, numbered};
 ghost use Rattle.occ_term.specs.View.{arm_of, arms_of, branches_of, choice_of, choices_of, option_of, options_of, reception_of, term_of, terms_of, variants_of};
@@ -16,6 +16,8 @@ use std::alloc::{AllocError, Global};
 pub struct ProcessUses {
     /// The number of the process.
     pub number: u32,
+    /// How many processes are within it: its branches, theirs, and so on. Their numbers are next behind its own.
+    pub within: usize,
     /// The uses, in the order of the text.
     pub uses: Items<Use>,
 }
@@ -30,22 +32,29 @@ pub fn process_uses(alloc: Global, term: &Term) -> Result<Vec<ProcessUses>, Allo
 {
     let mut list = Vec::new(alloc);
     add_branches(alloc, term, &mut list)?;
-    add_process(alloc, 0, term, &mut list)?;
+    let within = list.len();
+    add_process(alloc, 0, within, term, &mut list)?;
     list.reverse();
     Ok(list)
 }
 
-/// Adds one process.
+/// Adds one process, which has so many within it.
 fn add_process(
     alloc: Global,
     number: u32,
+    within: usize,
     term: &Term,
     list: &mut Vec<ProcessUses>,
 ) -> Result<(), AllocError>
+    requires { within ≡ length (branches_in (term_of term.now)) }
     ensures { OnOk result (AddsUses list.old (numbered number (term_of term.now) ∷ []) list.new) }
 {
     let uses = term_uses(alloc, term)?;
-    list.push(ProcessUses { number, uses })?;
+    list.push(ProcessUses {
+        number,
+        within,
+        uses,
+    })?;
     Ok(())
 }
 
@@ -102,8 +111,10 @@ fn add_each(
     while count > 0 {
         count -= 1;
         let branch = &branches[count];
+        let before = list.len();
         add_branches(alloc, &branch.body, list)?;
-        add_process(alloc, branch.number, &branch.body, list)?;
+        let within = list.len() - before;
+        add_process(alloc, branch.number, within, &branch.body, list)?;
     }
     Ok(())
 }
