@@ -158,6 +158,10 @@ abbrev pub is_par : Kind → Bool
 is_par kinds.Par = true
 is_par kind = false
 
+abbrev pub is_loop : Kind → Bool
+is_loop kinds.Loop = true
+is_loop kind = false
+
 -- what a process can halt at: an ALT too, where every arm is closed
 abbrev pub halts : Kind → Bool
 halts kinds.Alt = true
@@ -167,14 +171,14 @@ halts kinds.Case = true
 halts kinds.Variants = true
 halts kind = false
 
--- whether a process that waits so and goes on at this place stands at the stop
+-- whether a process that waits so and goes on at this place stands at the stop; one that can go on does so at the beginning of a loop
 abbrev pub stands_at : Wait → ℕ → Stop → Bool
 stands_at (Offers c m) p s = is_output s.kind && nat_eq s.next p
 stands_at (Awaits c) p s = is_input s.kind && nat_eq s.next p
 stands_at (Chooses pri arms) p s = is_alt s.kind && nat_eq s.next p
 stands_at (Joins ns) p s = is_par s.kind && nat_eq s.next p
 stands_at Halted p s = halts s.kind && nat_eq s.place p
-stands_at Ready p s = false
+stands_at Ready p s = is_loop s.kind && nat_eq s.next p
 stands_at (Took arm indices m) p s = false
 stands_at Done p s = false
 stands_at (Faulted e) p s = false

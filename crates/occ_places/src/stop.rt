@@ -1,6 +1,6 @@
 //! What a process stops at.
 ghost use Rattle.std.specs.Prelude.{◌≡◌, ◌+◌, ◌-◌, IfSome, Some};
-ghost use Rattle.occ_places.specs.Places.{first_of, halts, is_alt, is_input, is_output, is_par, is_stop, next_place, stands_at};
+ghost use Rattle.occ_places.specs.Places.{first_of, halts, is_alt, is_input, is_loop, is_output, is_par, is_stop, next_place, stands_at};
 
 use occ_machine::{Instr, Slot, Wait};
 
@@ -64,6 +64,12 @@ fn is_par(kind: Kind) -> bool
     matches!(kind, Kind::Par)
 }
 
+fn is_loop(kind: Kind) -> bool
+    ensures { result ≡ is_loop kind }
+{
+    matches!(kind, Kind::Loop)
+}
+
 /// Whether a process can halt there.
 fn halts(kind: Kind) -> bool
     ensures { result ≡ halts kind }
@@ -74,7 +80,7 @@ fn halts(kind: Kind) -> bool
     )
 }
 
-/// Whether a process that waits so and goes on at this place stands at the stop.
+/// Whether a process that waits so and goes on at this place stands at the stop. One that can go on does so at the beginning of a loop.
 fn stands_at(wait: &Wait, place: u32, stop: &Stop) -> bool
     ensures { result ≡ stands_at wait.now place stop.now }
 {
@@ -84,7 +90,8 @@ fn stands_at(wait: &Wait, place: u32, stop: &Stop) -> bool
         Wait::Chooses { .. } => is_alt(stop.kind) && stop.next == place,
         Wait::Joins { .. } => is_par(stop.kind) && stop.next == place,
         Wait::Halted => halts(stop.kind) && stop.place == place,
-        Wait::Ready | Wait::Took { .. } | Wait::Done | Wait::Faulted(_) => false,
+        Wait::Ready => is_loop(stop.kind) && stop.next == place,
+        Wait::Took { .. } | Wait::Done | Wait::Faulted(_) => false,
     }
 }
 
