@@ -16,7 +16,7 @@ use Rattle.occ_explore_walks.proofs.Lists.{get_inside, one_some}
 use Rattle.occ_ends.specs.Ends.{MarkedIn, Using, first_with, or_first as first_of}
 use Rattle.occ_ends.specs.Endless.{flag}
 use Rattle.occ_ends.specs.Kinds.{AreThose, is_at_channel, task_is, those}
-use Rattle.occ_ends.specs.ForGood.{HasLeft, IsClosedSet, IsLeftWithin, IsOutside, IsWaiting, NoneWithin, NotesOutside, arm_is_unwritten, arms_are_unwritten, is_left_by, is_nobody, is_unended, nobody_at, some_left, task_is_left, waits_at}
+use Rattle.occ_ends.specs.ForGood.{AreWaiting, HasLeft, IsClosedSet, IsLeftWithin, IsOutside, IsWaiting, NoneWithin, NotesOutside, arm_is_unwritten, arms_are_unwritten, is_left_by, is_nobody, is_unended, nobody_at, some_left, task_is_left, waits_at}
 use Rattle.occ_ends.proofs.LeftOnes.{held_those, tested, test_of, those_held, those_rise}
 use Rattle.occ_ends.proofs.Marking.{at_start, lt_or_le, past_start}
 
@@ -174,3 +174,11 @@ are_waiting tasks flags count ns all is =
           held_those (waits_at flags tasks) count n (omega (arith, inside, all)) (both (flag flags n) (task_is is_at_channel (slice_get tasks n)) x.inside (test_of is_at_channel tasks n x.task x.there x.at));
       rising = those_rise (waits_at flags tasks) count;
     })
+
+pub nobody_waits : (us : List Using) (net : Net) (ns : List ℕ) → ns ≡ [] → AreWaiting us net ns
+nobody_waits us net ns e =
+    record {
+      set = flag [];
+      closed = none_closed us net [] refl;
+      are = subst (AreThose (IsWaiting (flag []) net.tasks)) (sym e) (record { each = λ n h. absurd (true≢false (sym h)); all = λ n x. absurd (true≢false (sym x.inside)); rising = tt });
+    }

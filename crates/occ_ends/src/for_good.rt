@@ -181,9 +181,7 @@ fn is_closed(
     requires { NotesThoseOutside uses.now flags.now ends.now }
     ensures { IsTrue result → IsClosedIn uses.now code.now tables.now flags.now }
 {
-    flags.len() <= count as usize
-        && are_left(tables, ends, flags, count)
-        && are_whole(uses, flags)
+    flags.len() <= count as usize && are_left(tables, ends, flags, count) && are_whole(uses, flags)
 }
 
 // ---- a closed set

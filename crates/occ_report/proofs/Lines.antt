@@ -17,10 +17,11 @@ use Rattle.occ_ends.specs.declared.ends.Ends.{Ends}
 use Rattle.occ_ends.specs.declared.kinds.Left.{Left}
 use Rattle.occ_ends.specs.Ends.{AreEnds, Using, all_using}
 use Rattle.occ_ends.specs.Endless.{HeldIn}
+use Rattle.occ_ends.specs.ForGood.{AreWaiting}
 use Rattle.occ_ends.specs.Kinds.{IsRest}
 use Rattle.occ_net_replay.specs.Replay.{Tasks}
 use Rattle.occ_places.specs.Places.{Known}
-use Rattle.occ_report.specs.Reports.{IsCircleOf, IsReport, Noted, choosing_among, circle_text, kind_told, report_head, task_lines, task_line, told_of, task_chooses}
+use Rattle.occ_report.specs.Reports.{ended_among, ended_line, IsCircleOf, IsReport, Noted, choosing_among, circle_text, kind_told, report_head, task_lines, task_line, told_of, task_chooses}
 
 -- a loop's step: the lines so far, and that of one more process
 pub lines_step : (names : Names) (readers writers : Noted) (known : List Known) (tasks : Tasks) (n : ℕ) (start before after : List ℕ)
@@ -41,21 +42,25 @@ choosing_step tasks n others before after all e h =
 -- what is written of the tables that a run leaves is its report
 pub report_is : (us : List Using) (t : Term) (p : Program) (kb : List ℕ) (list : List Choice) (known : List Known) (r : Ran) (h : IsRan p kb list Given r)
     (trace : List Communication) (n : ℕ) → ((k : List ℕ) (net : Net) → Holds p k r.tables net → net.trace ≡ trace) → n ≡ length trace
-    → (start first head bytes : List ℕ) (processes count : ℕ) (left : Left) → start ≡ [] → first ≡ start ++ kind_told r.ending left → head ≡ first ++ report_head n r.ending → count ≡ min processes 4294967295
+    → (start first head bytes : List ℕ) (processes count : ℕ) (left : Left) (waiting : List ℕ) → start ≡ [] → first ≡ start ++ kind_told r.ending left waiting → head ≡ first ++ report_head n r.ending → count ≡ min processes 4294967295
     → us ≡ all_using t → (ends : Ends) → HeldBy r.tables (λ net. AreEnds us net.tasks (length p.channels) ends)
     → HeldIn p r.tables (λ net. IsRest us p net.tasks left)
+    → HeldIn p r.tables (λ net. AreWaiting us net waiting)
     → (middle : List ℕ) → ((q : Program) (k : List ℕ) (net : Net) → Holds q k r.tables net → middle ≡ head ++ task_lines (names_of p.channels) ends.readers.items ends.writers.items known net.tasks count)
-    → HeldBy r.tables (λ net. bytes ≡ middle ++ circle_text net.tasks left.circle.items) → processes ≡ length p.bodies → IsReport t p kb list known bytes
-report_is us t p kb list known r h trace n shows counted start first head bytes processes count left none begun starts least is ends are is_left middle lines last all =
-    let kind : first ≡ kind_told r.ending left = rw none at begun in
-    let begins : head ≡ kind_told r.ending left ++ report_head n r.ending = starts ∙ ap (λ l. l ++ report_head n r.ending) kind in
+    → (later : List ℕ) → HeldBy r.tables (λ net. later ≡ middle ++ ended_line (ended_among net.tasks count))
+    → HeldBy r.tables (λ net. bytes ≡ later ++ circle_text net.tasks left.circle.items) → processes ≡ length p.bodies → IsReport t p kb list known bytes
+report_is us t p kb list known r h trace n shows counted start first head bytes processes count left waiting none begun starts least is ends are is_left are_waiting middle lines later counts last all =
+    let kind : first ≡ kind_told r.ending left waiting = rw none at begun in
+    let begins : head ≡ kind_told r.ending left waiting ++ report_head n r.ending = starts ∙ ap (λ l. l ++ report_head n r.ending) kind in
     let net = h.run.net in
     let many : length net.tasks ≡ length p.bodies = ap length h.run.holds.tasks ∙ h.run.holds.sized.tasks_are in
     let made : n ≡ length net.trace = counted ∙ sym (ap length (shows kb net h.run.holds)) in
     let told : count ≡ told_of net.tasks = least ∙ ap (λ m. min m 4294967295) (all ∙ sym many) in
     let text = task_lines (names_of p.channels) ends.readers.items ends.writers.items known net.tasks count in
-    let whole : bytes ≡ kind_told r.ending left ++ report_head n r.ending ++ text ++ circle_text net.tasks left.circle.items =
-    last p kb net h.run.holds ∙ ap (λ l. l ++ circle_text net.tasks left.circle.items) (lines p kb net h.run.holds ∙ ap (λ l. l ++ text) begins) in
+    let whole : bytes ≡ kind_told r.ending left waiting ++ report_head n r.ending ++ text ++ ended_line (ended_among net.tasks count) ++ circle_text net.tasks left.circle.items =
+    last p kb net h.run.holds
+    ∙ ap (λ l. l ++ circle_text net.tasks left.circle.items)
+    (counts p kb net h.run.holds ∙ ap (λ l. l ++ ended_line (ended_among net.tasks count)) (lines p kb net h.run.holds ∙ ap (λ l. l ++ text) begins)) in
     record {
       used = h.given;
       net = net;
@@ -66,6 +71,8 @@ report_is us t p kb list known r h trace n shows counted start first head bytes 
       are_ends = subst (λ l. AreEnds l net.tasks (length p.channels) ends) is (are p kb net h.run.holds);
       left = left;
       is_left = subst (λ l. IsRest l p net.tasks left) is (is_left kb net h.run.holds);
+      waiting = waiting;
+      are_waiting = subst (λ l. AreWaiting l net waiting) is (are_waiting kb net h.run.holds);
       is = rw (sym told, sym made, sym h.ending) whole;
     }
 

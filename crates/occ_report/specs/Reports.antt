@@ -1,6 +1,6 @@
 -- What is told of each process that is left.
 -- Manual: nothing; this is (own).
-use Rattle.std.specs.Prelude.{Bool, List, None, Option, Some, [], codes, false, if◌then◌else◌, length, min, slice_get, true, zero, suc, ℕ, ◌++◌, ◌==◌, ◌≡◌, ◌∷◌, Vec, map, option_map}
+use Rattle.std.specs.Prelude.{Bool, List, None, Option, Some, [], codes, false, if◌then◌else◌, length, min, slice_get, true, zero, suc, ℕ, ◌+◌, ◌++◌, ◌==◌, ◌≡◌, ◌∷◌, Vec, map, option_map}
 use Rattle.std.specs.Fmt.{decimal}
 use Rattle.occ_term.specs.Runs.{Names, tag_shown}
 use Rattle.occ_term.specs.Terms.{Term}
@@ -17,11 +17,12 @@ use Rattle.occ_term.specs.declared.ending.Ending.{Ending}
 use Rattle.occ_term.specs.declared.ending.Ending.TheVariants as endings
 use Rattle.occ_net_replay.specs.Following.{or_limit}
 use Rattle.occ_term.specs.Endings.{ending_text}
-use Rattle.occ_net_replay.specs.Replay.{Net, Replays, Tasks, ending_of}
+use Rattle.occ_net_replay.specs.Replay.{Net, Replays, Tasks, ending_of, is_done}
 use Rattle.occ_shown.specs.Answers.{AddsText, items_text, names_of}
 use Rattle.occ_net_tables.specs.Outcomes.{Begins}
 use Rattle.occ_ends.specs.declared.ends.Ends.{Ends}
 use Rattle.occ_ends.specs.Ends.{AreEnds, IsCircle, all_using, noted_for}
+use Rattle.occ_ends.specs.ForGood.{AreWaiting, AreWaitingIn}
 use Rattle.occ_ends.specs.Kinds.{IsRest, kind_of, others_among}
 use Rattle.occ_ends.specs.declared.kinds.Kind.{Kind}
 use Rattle.occ_ends.specs.declared.kinds.Kind.TheVariants as stops
@@ -131,6 +132,22 @@ abbrev pub task_lines : Names → (readers writers : Noted) → List Known → T
 task_lines names readers writers known tasks zero = []
 task_lines names readers writers known tasks (suc n) = task_lines names readers writers known tasks n ++ task_line names readers writers known n (slice_get tasks n)
 
+-- how many of the first so many processes have ended
+abbrev pub task_ended : Option (Option Task) → Bool
+task_ended None = false
+task_ended (Some None) = false
+task_ended (Some (Some t)) = is_done t.wait
+
+abbrev pub ended_among : Tasks → ℕ → ℕ
+ended_among tasks zero = 0
+ended_among tasks (suc n) = ended_among tasks n + (if task_ended (slice_get tasks n) then 1 else 0)
+
+-- the line that counts them, where there are some
+abbrev pub ended_line : ℕ → List ℕ
+ended_line zero = []
+ended_line (suc zero) = codes "  1 process has ended\n"
+ended_line (suc (suc n)) = codes "  " ++ decimal (suc (suc n)) ++ codes " processes have ended\n"
+
 -- how the report begins
 unfoldable pub count_text : ℕ → List ℕ
 count_text n = if n == 1 then codes "1 communication" else decimal n ++ codes " communications"
@@ -173,12 +190,18 @@ line_of_kind stops.Idle left = codes "idle: who is left is endless, and waits fo
 abbrev pub kind_line : Left → List ℕ
 kind_line left = line_of_kind (kind_of left) left
 
-abbrev pub kind_told : Ending → Left → List ℕ
-kind_told endings.Ended left = []
-kind_told endings.Stopped left = kind_line left
-kind_told (endings.StoppedBy e) left = kind_line left
-kind_told (endings.Fault e) left = []
-kind_told endings.Limit left = []
+-- processes that take no further turn where others may go on
+abbrev pub for_good_text : List ℕ → List ℕ
+for_good_text [] = []
+for_good_text (n ∷ ns) = those_line (codes "for good:") (n ∷ ns) (codes " waits, whatever choices follow\n") (codes " wait, whatever choices follow\n")
+
+-- of a stop its kind, and where the choices are used up those that wait for good
+abbrev pub kind_told : Ending → Left → (waiting : List ℕ) → List ℕ
+kind_told endings.Ended left waiting = []
+kind_told endings.Stopped left waiting = kind_line left
+kind_told (endings.StoppedBy e) left waiting = kind_line left
+kind_told (endings.Fault e) left waiting = []
+kind_told endings.Limit left waiting = for_good_text waiting
 
 abbrev pub chooses : Wait → Bool
 chooses Ready = false
@@ -221,13 +244,14 @@ abbrev pub told_of : Tasks → ℕ
 told_of tasks = min (length tasks) 4294967295
 
 -- of a state of a program's network, with who is at the ends of channels, and what is known of where its processes stand in the source
-abbrev pub network_report : Names → (readers writers : Noted) → List Known → Left → Net → Ending → List ℕ
-network_report names readers writers known left net e =
-    kind_told e left ++ report_head (length net.trace) e ++ task_lines names readers writers known net.tasks (told_of net.tasks) ++ circle_text net.tasks left.circle.items
+abbrev pub network_report : Names → (readers writers : Noted) → List Known → Left → (waiting : List ℕ) → Net → Ending → List ℕ
+network_report names readers writers known left waiting net e =
+    kind_told e left waiting ++ report_head (length net.trace) e ++ task_lines names readers writers known net.tasks (told_of net.tasks) ++ ended_line (ended_among net.tasks (told_of net.tasks)) ++ circle_text net.tasks left.circle.items
 
 -- The replay of the used choices, which are a beginning of the list, as a run of the list has it, and the report of its state: of what
--- kind a stop is; each process that is left, who is at the other ends of its channels by what the program's term uses; and a circle of
--- those that wait, where there is one.
+-- kind a stop is, or, where the choices are used up, which processes take no turn whatever choices follow; each process that is left, who
+-- is at the other ends of its channels by what the program's term uses; how many have ended; and a circle of those that wait, where
+-- there is one.
 pub record IsReport (t : Term) (p : Program) (keyboard : List ℕ) (list : List Choice) (known : List Known) (bytes : List ℕ) : Type 0 where
   pub used : List Choice
   pub net : Net
@@ -238,7 +262,9 @@ pub record IsReport (t : Term) (p : Program) (keyboard : List ℕ) (list : List 
   pub are_ends : AreEnds (all_using t) net.tasks (length p.channels) ends
   pub left : Left
   pub is_left : IsRest (all_using t) p net.tasks left
-  pub is : bytes ≡ network_report (names_of p.channels) ends.readers.items ends.writers.items known left net (or_limit (ending_of p.errors net))
+  pub waiting : List ℕ
+  pub are_waiting : AreWaiting (all_using t) net waiting
+  pub is : bytes ≡ network_report (names_of p.channels) ends.readers.items ends.writers.items known left waiting net (or_limit (ending_of p.errors net))
 
 -- Processes that wait in a circle in the state that the replay of the used choices comes to, where there are some.
 pub record IsCircleOf (t : Term) (p : Program) (keyboard : List ℕ) (list : List Choice) (circle : List ℕ) : Type 0 where
@@ -295,6 +321,10 @@ AddsTaskLine cs ends known tables n old new =
 abbrev pub AddsTaskLines : {A : Type 0} → List Channel → Sides → List Known → Tables → ℕ → (old new : Vec ℕ A) → Type 0
 AddsTaskLines cs ends known tables n old new =
     HeldBy tables (λ net. new.items ≡ old.items ++ task_lines (names_of cs) ends.readers.now ends.writers.now known net.tasks n)
+
+-- the count of the ended ones among the first so many, of whatever network the tables hold
+abbrev pub AddsEnded : {A : Type 0} → Tables → ℕ → (old new : Vec ℕ A) → Type 0
+AddsEnded tables count old new = HeldBy tables (λ net. AddsText old new (ended_line (ended_among net.tasks count)))
 
 -- one more, where it chooses, of whatever network the tables hold
 abbrev pub AddsChoosing : {A : Type 0} → Tables → ℕ → (old new : Vec ℕ A) → Type 0

@@ -1,7 +1,7 @@
 //! What kind of stop a run has come to, in bytes.
 ghost use Rattle.std.specs.Prelude.{◌≡◌, OnOk};
 ghost use Rattle.occ_shown.specs.Answers.{AddsText};
-ghost use Rattle.occ_report.specs.Reports.{by_number, circling_line, halted_line, kind_told, line_of_kind, those_line, unfinished_line};
+ghost use Rattle.occ_report.specs.Reports.{by_number, circling_line, for_good_text, halted_line, kind_told, line_of_kind, those_line, unfinished_line};
 
 use crate::standing::write_branches;
 use occ_ends::{Kind, Left};
@@ -68,17 +68,33 @@ fn write_of(alloc: Global, out: &mut Vec<u8>, kind: Kind, left: &Left) -> Result
     }
 }
 
-/// Of what kind a stop is; nothing of what is none.
+/// Processes that take no further turn, where there are some.
+fn write_for_good(alloc: Global, out: &mut Vec<u8>, numbers: &[u32]) -> Result<(), AllocError>
+    ensures { OnOk result (AddsText out.old out.new (for_good_text numbers.now)) }
+{
+    if numbers.is_empty() {
+        return Ok(());
+    }
+    let (one, many) = (
+        b" waits, whatever choices follow\n",
+        b" wait, whatever choices follow\n",
+    );
+    write_those(alloc, out, b"for good:", numbers, one, many)
+}
+
+/// Of what kind a stop is, or who takes no further turn where the choices are used up.
 pub(crate) fn write_kind(
     alloc: Global,
     out: &mut Vec<u8>,
     ending: Ending,
     left: &Left,
+    waiting: &[u32],
 ) -> Result<(), AllocError>
-    ensures { OnOk result (AddsText out.old out.new (kind_told ending left.now)) }
+    ensures { OnOk result (AddsText out.old out.new (kind_told ending left.now waiting.now)) }
 {
     match ending {
         Ending::Stopped | Ending::StoppedBy(_) => write_of(alloc, out, left.kind(), left),
-        Ending::Ended | Ending::Fault(_) | Ending::Limit => Ok(()),
+        Ending::Limit => write_for_good(alloc, out, waiting),
+        Ending::Ended | Ending::Fault(_) => Ok(()),
     }
 }

@@ -2,6 +2,7 @@
 //! channel it waits, with which message, and who is at its other end; [`circle_of`] which processes wait in a circle.
 #![tactic(auto)]
 
+mod ended;
 mod kinds;
 pub mod reporting;
 mod standing;

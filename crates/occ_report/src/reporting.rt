@@ -1,14 +1,16 @@
 //! Reports of runs.
 ghost use Rattle.std.specs.Prelude.{◌≡◌, IfOk, OnOk};
+ghost use Rattle.occ_ends.specs.ForGood.{AreWaitingIn};
 ghost use Rattle.occ_report.specs.Reports.{IsCircleBy, IsReportBy, count_text, report_head, report_tail};
 ghost use Rattle.occ_shown.specs.Answers.{AddsText};
 
+use crate::ended::write_ended;
 use crate::kinds::write_kind;
 use crate::standing::{Ends, write_circle, write_lines};
 use occ_choices::Plan;
-use occ_ends::{Left, ProcessUses, ends_of, left_in};
+use occ_ends::{Left, ProcessUses, ends_of, left_in, waiting_in};
 use occ_machine::Code;
-use occ_net_tables::{Keep, Ran, run_tables};
+use occ_net_tables::{Keep, Ran, Tables, run_tables};
 use occ_places::Places;
 use occ_term::Ending;
 use std::alloc::{AllocError, Global};
@@ -52,9 +54,28 @@ fn write_head(
     out.extend_from_slice(tail(ending))
 }
 
-/// What the run of a plan comes to: the kind of its stop, if it has stopped, with the processes for which it is of that kind; after how
-/// many communications; a line for each process that is left then, with its PROC and its line where they are known, with what it stands
-/// at, and who is at the other end of its channel; and last, where there are some, processes that wait for one another in a circle.
+/// Who waits for good where the choices are used up; of other endings nobody is told.
+fn waiting_at(
+    alloc: Global,
+    ending: Ending,
+    uses: &[ProcessUses],
+    code: &Code,
+    tables: &Tables,
+) -> Result<Vec<u32>, AllocError>
+    ensures { IfOk result (AreWaitingIn uses.now code.now tables.now) }
+{
+    match ending {
+        Ending::Limit => waiting_in(alloc, uses, code, tables),
+        Ending::Ended | Ending::Stopped | Ending::StoppedBy(_) | Ending::Fault(_) => Ok(Vec::new(
+            alloc,
+        )),
+    }
+}
+
+/// What the run of a plan comes to: the kind of its stop, if it has stopped, with the processes for which it is of that kind, or, where
+/// the choices are used up, the processes that take no turn whatever choices follow; after how many communications; a line for each
+/// process that is left then, with its PROC and its line where they are known, with what it stands at, and who is at the other end of
+/// its channel; how many have ended; and last, where there are some, processes that wait for one another in a circle.
 /// `uses` has what each process of the program uses.
 ///
 /// # Errors
@@ -82,6 +103,7 @@ pub fn report(
     let channels = code.channels();
     let found = ends_of(alloc, uses, &tables, channels.len())?;
     let left = left_in(alloc, uses, code, &tables)?;
+    let waiting = waiting_at(alloc, ending, uses, code, &tables)?;
     let reading = found.readers.as_slice();
     let writing = found.writers.as_slice();
     let ends = Ends {
@@ -89,9 +111,10 @@ pub fn report(
         writers: writing,
     };
     let mut out = Vec::new(alloc);
-    write_kind(alloc, &mut out, ending, &left)?;
+    write_kind(alloc, &mut out, ending, &left, waiting.as_slice())?;
     write_head(alloc, &mut out, communications, ending)?;
     write_lines(alloc, &mut out, channels, ends, places, &tables, count)?;
+    write_ended(alloc, &mut out, &tables, count)?;
     let members = left.circle.as_slice();
     write_circle(alloc, &mut out, &tables, members)?;
     Ok(out)
