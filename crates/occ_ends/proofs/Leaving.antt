@@ -131,7 +131,7 @@ module _ (us : List Using) (net : Net) (flags : List Bool) (readers writers : Li
   left_within (Chooses pri arms) h = record { still = refl; unread = λ x c out e. absurd (true≢false (sym e)); unwritten = λ x c out e. unwritten x c out (of_arms arms c h e); unjoined = λ ns e. absurd cc }
   left_within (Joins ms) h = record { still = refl; unread = λ x c out e. absurd (true≢false (sym e)); unwritten = λ x c out e. absurd (true≢false (sym e)); unjoined = λ ns e. subst (HasLeft net (flag flags)) (joined e) (has_left ms h) }
     where
-      joined : {as bs : List ℕ} → Joins as ≡ Joins bs → as ≡ bs
+      joined : {ks ls : List ℕ} → Joins ks ≡ Joins ls → ks ≡ ls
       joined e = cc
   left_within Halted h = record { still = refl; unread = λ x c out e. absurd (true≢false (sym e)); unwritten = λ x c out e. absurd (true≢false (sym e)); unjoined = λ ns e. absurd cc }
   left_within Done h = record { still = refl; unread = λ x c out e. absurd (true≢false (sym e)); unwritten = λ x c out e. absurd (true≢false (sym e)); unjoined = λ ns e. absurd cc }
