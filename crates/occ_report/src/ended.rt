@@ -21,7 +21,7 @@ fn has_ended(tables: &Tables, number: u32) -> bool
 /// How many of the first so many processes have ended.
 fn ended_among(tables: &Tables, count: u32) -> u32
     ensures few { result ≤ count }
-    ensures { HeldBy tables.now (λ net. result ≡ ended_among net.tasks count) }
+    ensures counted { HeldBy tables.now (λ net. result ≡ ended_among net.tasks count) }
 {
     let mut ended: u32 = 0;
     for number in 0..count {
