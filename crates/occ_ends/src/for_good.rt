@@ -1,5 +1,5 @@
 //! Which processes wait for good: whatever choices follow, they take no turn.
-ghost use Rattle.std.specs.Prelude.{◌≡◌, IfOk, IsTrue, length};
+ghost use Rattle.std.specs.Prelude.{◌≡◌, IfOk, IsTrue, slice_get};
 ghost use Rattle.occ_net_tables.specs.Holding.{HeldBy};
 ghost use Rattle.occ_ends.specs.ForGood.{AreClosedIn, AreLeftBy, AreWaitingIn, AreWhole, ClosedSetsWaitForGood, IsClosedIn, LeftBy, MarksOutside, NoneWithin, NotesThoseOutside, TaskLeftBy, arm_is_unwritten, arms_are_unwritten, is_unended, nobody_at, some_left, waits_at};
 ghost use Rattle.occ_ends.specs.Kinds.{AreThoseIn, task_is};
