@@ -1,11 +1,11 @@
 -- A set that is closed by what the processes use waits for good.
-use Rattle.std.proofs.Common.{◌≡◌, ◌∙◌, refl, sym, ap, subst, Bool, true, false, IsTrue, IsFalse, ℕ, zero, suc, ◌+◌, ◌^◌, ◌<◌, ◌≤◌, ◌⊎◌, inl, inr, List, [], ◌∷◌, Option, Some, None, map, ◌++◌, length, arith, append-nil, append_assoc, length-append}
+use Rattle.std.proofs.Common.{◌≡◌, ◌∙◌, refl, sym, ap, subst, Bool, true, false, IsTrue, IsFalse, ℕ, zero, suc, ◌+◌, ◌^◌, ◌<◌, ◌≤◌, ◌⊎◌, inl, inr, List, [], ◌∷◌, Some, map, ◌++◌, length, arith, append-nil, append_assoc, length-append}
 use Rattle.std.specs.Prelude.{◌&&◌, slice_get}
 use Rattle.std.proofs.lemmas.Bool.{eqb-true}
 use mathlib.Core.Bool.{true≢false}
 use Rattle.occ_term.specs.declared.message.Message.{Message}
 use Rattle.occ_term.specs.Frames.{is_held}
-use Rattle.occ_term.specs.Processes.{Numbered, branches_in, numbered, processes_of}
+use Rattle.occ_term.specs.Processes.{branches_in, numbered, processes_of}
 use Rattle.occ_term.specs.StepUses.{uses_of_left}
 use Rattle.occ_term.specs.Terms.{Term}
 use Rattle.occ_term.specs.UnfoldedProgram.{UnfoldedProgram, meaning}
@@ -21,7 +21,7 @@ use Rattle.occ_net_replay.proofs.Alone.{its_term, l, r, at_wait, output_on, list
 use Rattle.occ_net_replay.proofs.Law.{d, procs, keyboard_protocol, belongs, all_followed}
 use Rattle.occ_net_replay.proofs.Tables.{or_else}
 use Rattle.occ_explore_walks.proofs.Lists.{one_some}
-use Rattle.occ_ends.specs.Ends.{Using, all_using, using}
+use Rattle.occ_ends.specs.Ends.{all_using, using}
 use Rattle.occ_ends.specs.ForGood.{ClosedSetsWaitForGood, IsClosedSet, IsLeftWithin, IsOutside, LeadsOn, Set, goes_on, stays}
 use Rattle.occ_ends.proofs.Unmet.{ComesTo, IsLeftAt, IsUnmet, in_or_out, meet_on, mover_may, unmet_sets_wait}
 
@@ -86,7 +86,7 @@ of_both false b h = absurd (true≢false (sym h))
 
 -- ---- the law
 
-read_mapped : {X Y : Type 0} (f : X → Y) (xs : List X) (i : ℕ) (x : X) → slice_get xs i ≡ Some x → slice_get (map f xs) i ≡ Some (f x)
+pub read_mapped : {X Y : Type 0} (f : X → Y) (xs : List X) (i : ℕ) (x : X) → slice_get xs i ≡ Some x → slice_get (map f xs) i ≡ Some (f x)
 read_mapped f [] i x h = absurd cc
 read_mapped f (y ∷ xs) zero x h = ap (λ z. Some (f z)) (one_some h)
 read_mapped f (y ∷ xs) (suc i) x h = read_mapped f xs i x h

@@ -1,17 +1,14 @@
 -- Flags of processes that are endless.
-use Rattle.std.proofs.Common.{◌≡◌, ◌∙◌, ◌⊎◌, inl, inr, refl, sym, ap, subst, Bool, true, false, IsTrue, IsFalse, ℕ, zero, suc, ◌+◌, ◌<◌, ◌≤◌, List, [], ◌∷◌, Option, Some, None, length, arith}
-use Rattle.std.specs.Prelude.{nat_eq, replicate, slice_get, slice_set}
+use Rattle.std.proofs.Common.{◌≡◌, ◌∙◌, ◌⊎◌, inl, inr, refl, sym, ap, subst, Bool, true, false, IsTrue, ℕ, zero, suc, ◌+◌, ◌<◌, ◌≤◌, List, length, arith}
+use Rattle.std.specs.Prelude.{replicate, slice_set}
 use mathlib.Core.Bool.{true≢false}
-use Rattle.std.proofs.lemmas.Bool.{eqb-true}
 use Rattle.occ_term.specs.Frames.{is_held}
 use Rattle.occ_machine.specs.Machine.{Body}
 use Rattle.occ_machine.specs.declared.task.Task.{Task}
-use Rattle.occ_machine.specs.declared.task.Wait.{Wait}
 use Rattle.occ_net_replay.specs.Replay.{HasTask, Tasks}
-use Rattle.occ_net_replay.proofs.Tables.{or_else, set_other, set_same, task_once}
-use Rattle.occ_net_tables.proofs.Keys.{later_held}
+use Rattle.occ_net_replay.proofs.Tables.{set_other, set_same, task_once}
 use Rattle.occ_explore_walks.proofs.Lists.{get_some, same_or_other, set_many}
-use Rattle.occ_ends.specs.Endless.{AreEndless, AreFlagged, FlagsBelow, FlagsBranches, IsBelow, IsEndless, StandsInLoop, flag, in_a_loop, as_a_branch, is_set}
+use Rattle.occ_ends.specs.Endless.{AreEndless, AreFlagged, FlagsBelow, IsBelow, IsEndless, StandsInLoop, flag, in_a_loop, as_a_branch, is_set}
 use Rattle.occ_ends.proofs.Rounds.{lt_or_le}
 
 -- ---- one flag more

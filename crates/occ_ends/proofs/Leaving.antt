@@ -1,22 +1,25 @@
 -- Whether flagged processes are a closed set.
-use Rattle.std.proofs.Common.{◌≡◌, ◌∙◌, ◌⊎◌, inl, inr, refl, sym, ap, subst, Bool, true, false, IsTrue, IsFalse, ℕ, zero, suc, ◌+◌, ◌<◌, ◌≤◌, List, [], ◌∷◌, Option, Some, None, length, map, arith}
+use Rattle.std.proofs.Common.{◌≡◌, ◌∙◌, ◌⊎◌, inl, inr, refl, sym, ap, subst, Bool, true, false, IsTrue, IsFalse, ℕ, zero, suc, ◌+◌, ◌<◌, ◌≤◌, List, [], ◌∷◌, Option, Some, None, get_or, length, map, arith}
+use Rattle.std.proofs.lemmas.List.{length-map}
 use Rattle.std.specs.Prelude.{if◌then◌else◌, nat_eq, not, option_map, replicate, slice_get, ◌&&◌, ◌||◌}
+use Rattle.std.specs.Option.{MatchOption}
 use mathlib.Core.Bool.{true≢false}
 use Rattle.occ_term.specs.Frames.{is_held}
 use Rattle.occ_term.specs.Uses.{Numbers, Uses}
 use Rattle.occ_machine.specs.declared.task.Arm.{Arm}
-use Rattle.occ_machine.specs.declared.task.Task.{Task}
 use Rattle.occ_machine.specs.declared.task.Wait.{Wait}
 use Rattle.occ_machine.specs.declared.task.Wait.TheVariants.{Ready, Took, Offers, Awaits, Chooses, Joins, Halted, Done, Faulted}
-use Rattle.occ_net_replay.specs.Replay.{HasTask, Net, Tasks, is_done, may_go, offers_on}
-use Rattle.occ_net_replay.specs.Waiting.{and_channel, channels_of, listens_on}
+use Rattle.occ_net_replay.specs.Replay.{Net, Tasks, is_done}
+use Rattle.occ_net_replay.specs.Waiting.{and_channel, channels_of}
 use Rattle.occ_net_replay.proofs.Tables.{or_else, or_first, or_second}
 use Rattle.std.proofs.lemmas.Bool.{eq-eqb, eqb-true}
-use Rattle.occ_explore_walks.proofs.Lists.{get_inside, one_some}
-use Rattle.occ_ends.specs.Ends.{MarkedIn, Using, first_with, or_first as first_of}
+use Rattle.occ_explore_walks.proofs.Lists.{at_index, get_inside, one_some}
+use Rattle.occ_ends.specs.declared.uses.ProcessUses.{ProcessUses}
+use Rattle.occ_ends.specs.Ends.{noted_for, MarkedIn, Using, first_with, or_first as first_of}
 use Rattle.occ_ends.specs.Endless.{flag}
 use Rattle.occ_ends.specs.Kinds.{AreThose, is_at_channel, task_is, those}
-use Rattle.occ_ends.specs.ForGood.{AreWaiting, HasLeft, IsClosedSet, IsLeftWithin, IsOutside, IsWaiting, NoneWithin, NotesOutside, arm_is_unwritten, arms_are_unwritten, is_left_by, is_nobody, is_unended, nobody_at, some_left, task_is_left, waits_at}
+use Rattle.occ_ends.specs.ForGood.{AreWaiting, HasLeft, IsClosedSet, IsLeftWithin, IsOutside, IsWaiting, IsWhole, NoneWithin, arm_is_unwritten, arms_are_unwritten, branch_left, is_left_by, is_nobody, is_unended, nobody_at, some_left, task_is_left, waits_at}
+use Rattle.occ_ends.proofs.ClosedSets.{read_mapped}
 use Rattle.occ_ends.proofs.LeftOnes.{held_those, tested, test_of, those_held, those_rise}
 use Rattle.occ_ends.proofs.Marking.{at_start, lt_or_le, past_start}
 
@@ -33,6 +36,25 @@ both false b h k = absurd (true≢false (sym h))
 not_so : (b : Bool) → not b ≡ true → b ≡ false
 not_so true h = absurd (true≢false (sym h))
 not_so false h = refl
+
+pub none_left : {X P : Type 0} (Q : X → Type 0) (r : Option X) → MatchOption r P Q → ((x : X) → r ≡ Some x → ⊥) → P
+none_left Q None h other = h
+none_left Q (Some x) h other = absurd (other x refl)
+
+pub is_empty : {X : Type 0} (xs : List X) → length xs ≡ 0 → xs ≡ []
+is_empty [] e = refl
+is_empty (x ∷ xs) e = absurd (omega arith)
+
+pub left_next : (tasks : Tasks) (flags : List Bool) (n : ℕ) (rest others all : List ℕ) → rest ≡ n ∷ others → branch_left tasks flags n ≡ false
+    → some_left tasks flags rest ≡ some_left tasks flags all → some_left tasks flags others ≡ some_left tasks flags all
+left_next tasks flags n rest others all e here h = ap (λ b. b || some_left tasks flags others) (sym here) ∙ sym (ap (some_left tasks flags) e) ∙ h
+
+pub left_none : (tasks : Tasks) (flags : List Bool) (rest all : List ℕ) → rest ≡ [] → some_left tasks flags rest ≡ some_left tasks flags all → false ≡ some_left tasks flags all
+left_none tasks flags rest all e h = sym (ap (some_left tasks flags) e) ∙ h
+
+pub left_here : (tasks : Tasks) (flags : List Bool) (n : ℕ) (rest others all : List ℕ) → rest ≡ n ∷ others → branch_left tasks flags n ≡ true
+    → some_left tasks flags rest ≡ some_left tasks flags all → true ≡ some_left tasks flags all
+left_here tasks flags n rest others all e here h = ap (λ b. b || some_left tasks flags others) (sym here) ∙ sym (ap (some_left tasks flags) e) ∙ h
 
 -- ---- who is noted
 
@@ -79,16 +101,30 @@ notes_outside us flags channels kind start new begun m x c out h = none_outside 
 
 -- ---- loops
 
-pub unwritten_next : (w : List (Option ℕ)) (a : Arm) (rest others arms : List Arm) → rest ≡ a ∷ others → arm_is_unwritten w a.chan ≡ true
-    → arms_are_unwritten w rest ≡ arms_are_unwritten w arms → arms_are_unwritten w others ≡ arms_are_unwritten w arms
-unwritten_next w a rest others arms e yes h = ap (λ b. b && arms_are_unwritten w others) (sym yes) ∙ sym (ap (arms_are_unwritten w) e) ∙ h
-
-pub written_here : (w : List (Option ℕ)) (a : Arm) (rest others arms : List Arm) → rest ≡ a ∷ others → arm_is_unwritten w a.chan ≡ false
-    → arms_are_unwritten w rest ≡ arms_are_unwritten w arms → false ≡ arms_are_unwritten w arms
-written_here w a rest others arms e no h = ap (λ b. b && arms_are_unwritten w others) (sym no) ∙ sym (ap (arms_are_unwritten w) e) ∙ h
-
 pub record AreWholeTo (flags : List Bool) (us : List Using) (i : ℕ) : Type 0 where
-  pub whole : (k : ℕ) (x : Using) → k < i → slice_get us k ≡ Some x → IsFalse (flag flags x.number) → NoneWithin flags x.number x.within
+  pub whole : (k : ℕ) (x : Using) → k < i → slice_get us k ≡ Some x → IsWhole flags x.number x.within
+
+pub whole_first : (flags : List Bool) (us : List Using) → AreWholeTo flags us 0
+whole_first flags us = record { whole = λ k x lt there. absurd (omega (arith, lt)) }
+
+pub whole_next : (flags : List Bool) (ps : List ProcessUses) (i : ℕ) (p : ProcessUses) → i < length ps → p ≡ get_or ps i p → IsWhole flags p.number p.within
+    → AreWholeTo flags (map noted_for ps) i → AreWholeTo flags (map noted_for ps) (i + 1)
+whole_next flags ps i p within is one before = record { whole = λ k x lt there. by k x there (lt_or_le k i) lt }
+  where
+    here : slice_get (map noted_for ps) i ≡ Some (noted_for p)
+    here = read_mapped noted_for ps i p (at_index ps i p within is)
+
+    by : (k : ℕ) (x : Using) → slice_get (map noted_for ps) k ≡ Some x → (k < i) ⊎ (i ≤ k) → k < i + 1 → IsWhole flags x.number x.within
+    by k x there (inl less) lt = before.whole k x less there
+    by k x there (inr le) lt =
+        let same : k ≡ i = omega (arith, lt, le) in
+        let x_is : noted_for p ≡ x = one_some (sym here ∙ subst (λ z. slice_get (map noted_for ps) z ≡ Some x) same there) in
+        subst (λ y. IsWhole flags y.number y.within) x_is one
+
+pub whole_all : (flags : List Bool) (ps : List ProcessUses) (i : ℕ) → length ps ≤ i → AreWholeTo flags (map noted_for ps) i → (x : Using) → IsOutside (map noted_for ps) (flag flags) x → NoneWithin flags x.number x.within
+whole_all flags ps i past h x out =
+    let inside = get_inside (map noted_for ps) out.place x out.there in
+    h.whole out.place x (omega (arith, inside, past, length-map ps noted_for)) out.there out.out
 
 -- ---- a closed set
 
@@ -98,11 +134,11 @@ module _ (us : List Using) (net : Net) (flags : List Bool) (readers writers : Li
   -- a channel of arms has nobody noted
   of_arms : (arms : List Arm) (c : ℕ) → IsTrue (arms_are_unwritten writers arms) → IsTrue (is_held (channels_of arms) c) → IsTrue (nobody_at writers c)
   of_arms [] c h q = absurd (true≢false (sym q))
-  of_arms (a ∷ arms) c h q = by a.chan (of_both (arm_is_unwritten writers a.chan) (arms_are_unwritten writers arms) h) q
+  of_arms (a ∷ arms) c h q = let both_hold = of_both (arm_is_unwritten writers a.chan) (arms_are_unwritten writers arms) h in by a.chan both_hold.0 q (of_arms arms c both_hold.1)
     where
-      by : (chan : Option ℕ) → IsTrue (arm_is_unwritten writers chan) × IsTrue (arms_are_unwritten writers arms) → IsTrue (is_held (and_channel chan (channels_of arms)) c) → IsTrue (nobody_at writers c)
-      by None h q = of_arms arms c h.1 q
-      by (Some k) h q = elim (or_else (nat_eq k c) (is_held (channels_of arms) c) q) [ inl e ↦ subst (λ z. IsTrue (nobody_at writers z)) (eqb-true k c e) h.0 | inr e ↦ of_arms arms c h.1 e ]
+      by : (chan : Option ℕ) → IsTrue (arm_is_unwritten writers chan) → IsTrue (is_held (and_channel chan (channels_of arms)) c) → (IsTrue (is_held (channels_of arms) c) → IsTrue (nobody_at writers c)) → IsTrue (nobody_at writers c)
+      by None h q later = later q
+      by (Some k) h q later = elim (or_else (nat_eq k c) (is_held (channels_of arms) c) q) [ inl e ↦ subst (λ z. IsTrue (nobody_at writers z)) (eqb-true k c e) h | inr e ↦ later e ]
 
   has_left : (ns : List ℕ) → IsTrue (some_left net.tasks flags ns) → HasLeft net (flag flags) ns
   has_left [] h = absurd (true≢false (sym h))

@@ -14,12 +14,12 @@ use Rattle.occ_machine.specs.declared.task.Task.{Task}
 use Rattle.occ_machine.specs.declared.task.Wait.{Wait}
 use Rattle.occ_machine.specs.declared.task.Wait.TheVariants.{Ready, Took, Offers, Awaits, Chooses, Joins, Halted, Done, Faulted}
 use Rattle.occ_net_replay.specs.Replay.{HasTask, Tasks}
-use Rattle.occ_net_replay.proofs.Tables.{or_else, or_first, or_second, task_once}
+use Rattle.occ_net_replay.proofs.Tables.{or_else, or_first, or_second}
 use Rattle.occ_net_tables.proofs.Keys.{first_held}
-use Rattle.occ_explore_walks.proofs.Lists.{get_inside, get_some, get_there, one_some}
+use Rattle.occ_explore_walks.proofs.Lists.{get_inside, get_some, get_there}
 use Rattle.occ_ends.specs.declared.ends.Ends.{Ends}
 use Rattle.occ_ends.specs.Ends.{AreEnds, Circles, IsCircle, Using, arm_writer, arm_writers, end_noted, of_declared, others_noted, others_of, reader_among, stands_still, task_waits_for, waits_on, writer_among}
-use Rattle.occ_ends.specs.Endless.{AreEndless, IsEndless, flag}
+use Rattle.occ_ends.specs.Endless.{AreEndless, flag}
 use Rattle.occ_ends.specs.Kinds.{AreThose, HasCircle, IsHalted, IsKind, IsUnfinished, halts_at, has_halted, is_at_channel, is_left_at, kind_by, others_among, task_is, those}
 use Rattle.occ_ends.proofs.Rounds.{lt_or_le}
 

@@ -1,5 +1,5 @@
 -- A circle, once round: a part of a way round in which none stands twice.
-use Rattle.std.proofs.Common.{List, Option, Some, [], ◌∷◌, ◌+◌, ◌-◌, ◌<◌, ◌≡◌, ◌≤◌, ◌∙◌, ◌⊎◌, IsTrue, ap, arith, drop, inl, inr, length, refl, suc, sym, take, zero, ℕ}
+use Rattle.std.proofs.Common.{List, Some, [], ◌∷◌, ◌+◌, ◌-◌, ◌<◌, ◌≡◌, ◌≤◌, ◌∙◌, ◌⊎◌, IsTrue, ap, arith, drop, inl, inr, length, refl, suc, sym, take, zero, ℕ}
 use Rattle.std.specs.Prelude.{slice_get, ◌%◌}
 use Rattle.std.proofs.Math.Nat.{mod-eq_of_lt, mod_self}
 use Rattle.std.proofs.lemmas.List.{length-drop, length-take-le}

@@ -1,5 +1,5 @@
 -- Circles in the graph of who waits for whom.
-use Rattle.std.proofs.Common.{IsTrue, List, Option, None, Some, [], ◌∷◌, ◌++◌, ◌+◌, ◌<◌, ◌≡◌, ◌≤◌, ◌∙◌, ◌⊎◌, ap, arith, false, inl, inr, length, map, refl, subst, suc, sym, true, zero, ℕ}
+use Rattle.std.proofs.Common.{IsTrue, List, Some, [], ◌∷◌, ◌++◌, ◌+◌, ◌<◌, ◌≡◌, ◌≤◌, ◌∙◌, ◌⊎◌, ap, arith, false, inl, inr, length, map, refl, subst, suc, sym, true, zero, ℕ}
 use Rattle.std.specs.Prelude.{All, if◌then◌else◌, nat_eq, nat_lt, slice_get, ◌%◌}
 use Rattle.std.proofs.lemmas.Bool.Decides.{nat_tests}
 use Rattle.std.proofs.lemmas.List.{length-append, length-map}

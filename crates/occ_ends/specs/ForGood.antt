@@ -115,9 +115,12 @@ arms_are_unwritten writers (a ∷ arms) = arm_is_unwritten writers a.chan && arm
 abbrev pub is_unended : Wait → Bool
 is_unended w = not (is_done w)
 
+abbrev pub branch_left : Tasks → List Bool → ℕ → Bool
+branch_left tasks flags n = flag flags n && task_is is_unended (slice_get tasks n)
+
 abbrev pub some_left : Tasks → List Bool → List ℕ → Bool
 some_left tasks flags [] = false
-some_left tasks flags (n ∷ ns) = (flag flags n && task_is is_unended (slice_get tasks n)) || some_left tasks flags ns
+some_left tasks flags (n ∷ ns) = branch_left tasks flags n || some_left tasks flags ns
 
 -- whether one that stands at this is left, by who is noted of those outside the flagged ones
 abbrev pub is_left_by : Tasks → (readers writers : List (Option ℕ)) → List Bool → Wait → Bool
@@ -163,6 +166,9 @@ MarksOutside kind uses flags old new = MarkedIn (λ n. not (flag flags n)) kind 
 -- none of so many behind that number is flagged
 abbrev pub NoneWithin : List Bool → (n within : ℕ) → Type 0
 NoneWithin flags n within = (k : ℕ) → n < k → k < n + 1 + within → IsFalse (flag flags k)
+
+abbrev pub IsWhole : List Bool → (n within : ℕ) → Type 0
+IsWhole flags n within = IsFalse (flag flags n) → NoneWithin flags n within
 
 abbrev pub AreWhole : List ProcessUses → List Bool → Type 0
 AreWhole uses flags = (x : Using) → IsOutside (map noted_for uses) (flag flags) x → NoneWithin flags x.number x.within

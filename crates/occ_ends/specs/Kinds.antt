@@ -9,7 +9,7 @@ use Rattle.occ_machine.specs.SameStop.{IsRising}
 use Rattle.occ_machine.specs.declared.task.Task.{Task}
 use Rattle.occ_machine.specs.declared.task.Wait.{Wait}
 use Rattle.occ_machine.specs.declared.task.Wait.TheVariants.{Ready, Took, Offers, Awaits, Chooses, Joins, Halted, Done, Faulted}
-use Rattle.occ_net_replay.specs.Replay.{HasTask, Net, Tasks}
+use Rattle.occ_net_replay.specs.Replay.{HasTask, Tasks}
 use Rattle.occ_net_tables.specs.Holding.{HeldBy}
 use Rattle.occ_net_tables.specs.declared.tables.Tables.{Tables}
 use Rattle.occ_ends.specs.declared.kinds.Kind.{Kind}

@@ -1,7 +1,7 @@
 //! Which processes wait for good: whatever choices follow, they take no turn.
 ghost use Rattle.std.specs.Prelude.{◌≡◌, IfOk, IsTrue, slice_get};
 ghost use Rattle.occ_net_tables.specs.Holding.{HeldBy};
-ghost use Rattle.occ_ends.specs.ForGood.{AreClosedIn, AreLeftBy, AreWaitingIn, AreWhole, ClosedSetsWaitForGood, IsClosedIn, LeftBy, MarksOutside, NoneWithin, NotesThoseOutside, TaskLeftBy, arm_is_unwritten, arms_are_unwritten, is_unended, nobody_at, some_left, waits_at};
+ghost use Rattle.occ_ends.specs.ForGood.{AreClosedIn, AreLeftBy, AreWaitingIn, AreWhole, ClosedSetsWaitForGood, IsClosedIn, IsWhole, LeftBy, MarksOutside, NoneWithin, NotesThoseOutside, TaskLeftBy, arm_is_unwritten, arms_are_unwritten, branch_left, is_unended, nobody_at, some_left, waits_at};
 ghost use Rattle.occ_ends.specs.Kinds.{AreThoseIn, task_is};
 
 use crate::ends::{Ends, mark_uses, nobody};
@@ -89,13 +89,20 @@ fn is_unended(tables: &Tables, number: u32) -> bool
     }
 }
 
-/// Whether one of these is flagged and not at its end.
+/// Whether the process with this number is flagged and not at its end.
+fn is_left(tables: &Tables, flags: &[bool], number: u32) -> bool
+    ensures { HeldBy tables.now (λ net. result ≡ branch_left net.tasks flags.now number) }
+{
+    is_flagged(flags, number) && is_unended(tables, number)
+}
+
+/// Whether one of these is so.
 fn some_left(tables: &Tables, flags: &[bool], branches: &[u32]) -> bool
     ensures { HeldBy tables.now (λ net. result ≡ some_left net.tasks flags.now branches.now) }
 {
     let mut rest = branches;
     while let Some((branch, others)) = rest.split_first() {
-        if is_flagged(flags, *branch) && is_unended(tables, *branch) {
+        if is_left(tables, flags, *branch) {
             return true;
         }
         rest = others;
@@ -155,14 +162,19 @@ fn none_within(flags: &[bool], number: u32, within: usize) -> bool
     true
 }
 
+/// The same where that number is not flagged.
+fn is_whole(flags: &[bool], number: u32, within: usize) -> bool
+    ensures { IsTrue result → IsWhole flags.now number within }
+{
+    is_flagged(flags, number) || none_within(flags, number, within)
+}
+
 /// Whether with each process outside the flagged ones all within it are outside.
 fn are_whole(uses: &[ProcessUses], flags: &[bool]) -> bool
     ensures { IsTrue result → AreWhole uses.now flags.now }
 {
     for process in uses {
-        if !is_flagged(flags, process.number)
-            && !none_within(flags, process.number, process.within)
-        {
+        if !is_whole(flags, process.number, process.within) {
             return false;
         }
     }
@@ -181,7 +193,10 @@ fn is_closed(
     requires { NotesThoseOutside uses.now flags.now ends.now }
     ensures { IsTrue result → IsClosedIn uses.now code.now tables.now flags.now }
 {
-    flags.len() <= count as usize && are_left(tables, ends, flags, count) && are_whole(uses, flags)
+    if flags.len() > count as usize {
+        return false;
+    }
+    are_left(tables, ends, flags, count) && are_whole(uses, flags)
 }
 
 // ---- a closed set
@@ -280,5 +295,6 @@ pub fn waiting_in(
         return Err(AllocError);
     };
     let flags = closed_set(alloc, uses, code, tables, count)?;
-    waiting_among(alloc, tables, flags.as_slice(), count)
+    let numbers = waiting_among(alloc, tables, flags.as_slice(), count)?;
+    Ok(numbers)
 }
