@@ -1,6 +1,6 @@
 -- The lines of processes, one after the other.
-use Rattle.std.proofs.Common.{◌≡◌, ◌∙◌, ◌++◌, ◌∷◌, ◌+◌, ℕ, List, [], length, map, suc, ap, sym, subst, append_assoc, arith}
-use Rattle.std.specs.Prelude.{if◌then◌else◌, slice_get, min}
+use Rattle.std.proofs.Common.{◌≡◌, ◌∙◌, Bool, false, refl, nat_eq, ◌++◌, ◌∷◌, ◌+◌, ℕ, List, [], length, suc, ap, sym, subst, append_assoc, arith}
+use Rattle.std.specs.Prelude.{codes, if◌then◌else◌, slice_get, min}
 use Rattle.occ_machine.specs.Compiled.{Program}
 use Rattle.occ_net_replay.specs.declared.choice.Choice.{Choice}
 use Rattle.occ_net_replay.specs.Replay.{Net}
@@ -21,7 +21,7 @@ use Rattle.occ_ends.specs.ForGood.{AreWaiting}
 use Rattle.occ_ends.specs.Kinds.{IsRest}
 use Rattle.occ_net_replay.specs.Replay.{Tasks}
 use Rattle.occ_places.specs.Places.{Known}
-use Rattle.occ_report.specs.Reports.{ended_among, ended_line, IsCircleOf, IsReport, Noted, choosing_among, circle_text, kind_told, report_head, task_lines, task_line, told_of, task_chooses}
+use Rattle.occ_report.specs.Reports.{ended_among, ended_line, for_good_text, those_line, IsCircleOf, IsReport, Noted, choosing_among, circle_text, kind_told, report_head, task_lines, task_line, told_of, task_chooses}
 
 -- a loop's step: the lines so far, and that of one more process
 pub lines_step : (names : Names) (readers writers : Noted) (known : List Known) (tasks : Tasks) (n : ℕ) (start before after : List ℕ)
@@ -38,6 +38,12 @@ pub choosing_step : (tasks : Tasks) (n : ℕ) (others before after all : List �
     → before ++ choosing_among tasks (n ∷ others) ≡ all → after ++ choosing_among tasks others ≡ all
 choosing_step tasks n others before after all e h =
     ap (λ l. l ++ choosing_among tasks others) e ∙ append_assoc before (if task_chooses (slice_get tasks n) then n ∷ [] else []) (choosing_among tasks others) ∙ h
+
+-- some are told
+pub told_for_good : (ns : List ℕ) (none : Bool) → none ≡ false → none ≡ nat_eq (length ns) 0
+    → those_line (codes "for good:") ns (codes " waits, whatever choices follow\n") (codes " wait, whatever choices follow\n") ≡ for_good_text ns
+told_for_good [] none e h = absurd cc
+told_for_good (n ∷ ns) none e h = refl
 
 -- what is written of the tables that a run leaves is its report
 pub report_is : (us : List Using) (t : Term) (p : Program) (kb : List ℕ) (list : List Choice) (known : List Known) (r : Ran) (h : IsRan p kb list Given r)

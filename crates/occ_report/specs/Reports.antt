@@ -22,7 +22,7 @@ use Rattle.occ_shown.specs.Answers.{AddsText, items_text, names_of}
 use Rattle.occ_net_tables.specs.Outcomes.{Begins}
 use Rattle.occ_ends.specs.declared.ends.Ends.{Ends}
 use Rattle.occ_ends.specs.Ends.{AreEnds, IsCircle, all_using, noted_for}
-use Rattle.occ_ends.specs.ForGood.{AreWaiting, AreWaitingIn}
+use Rattle.occ_ends.specs.ForGood.{AreWaiting}
 use Rattle.occ_ends.specs.Kinds.{IsRest, kind_of, others_among}
 use Rattle.occ_ends.specs.declared.kinds.Kind.{Kind}
 use Rattle.occ_ends.specs.declared.kinds.Kind.TheVariants as stops

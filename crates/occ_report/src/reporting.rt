@@ -64,12 +64,11 @@ fn waiting_at(
 ) -> Result<Vec<u32>, AllocError>
     ensures { IfOk result (AreWaitingIn uses.now code.now tables.now) }
 {
-    match ending {
-        Ending::Limit => waiting_in(alloc, uses, code, tables),
-        Ending::Ended | Ending::Stopped | Ending::StoppedBy(_) | Ending::Fault(_) => Ok(Vec::new(
-            alloc,
-        )),
+    if let Ending::Limit = ending {
+        return waiting_in(alloc, uses, code, tables);
     }
+    let nobody = Vec::new(alloc);
+    Ok(nobody)
 }
 
 /// What the run of a plan comes to: the kind of its stop, if it has stopped, with the processes for which it is of that kind, or, where

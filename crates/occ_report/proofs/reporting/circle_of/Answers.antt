@@ -1,4 +1,4 @@
-use Rattle.std.proofs.Common.{map, sym, subst}
+use Rattle.std.proofs.Common.{map}
 use Rattle.occ_choices.specs.Plans.{choices_of}
 use Rattle.occ_ends.specs.Ends.{noted_for}
 use Rattle.occ_report.proofs.Lines.{circle_is}
