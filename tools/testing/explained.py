@@ -25,6 +25,11 @@ OTHER = re.compile(r"(?:offers|awaits) [^;]*, which (p\d+) (?:reads|writes)")
 CIRCLE = re.compile(r"  in a circle, each waits for the next(?:, (?P<arms>(?:p\d+ )+)by one of (?:its|their) arms)?: (?P<numbers>.*)")
 # how the report of a stop begins
 KIND = re.compile(r"(?:circle|halted|unfinished|idle): .*")
+# how the report of a run begins that has used up its choices, and processes take no further turn; and the line that counts the ended
+FOR_GOOD = re.compile(r"for good:((?: p\d+)+) waits?, whatever choices follow")
+ENDED = re.compile(r"  (?:1 process has|(?:[2-9]|\d\d+) processes have) ended")
+# who is at the other end of a channel
+AT_END = re.compile(r", which (?:p\d+|nobody) (?:reads|writes)(?: now)?")
 # how what a process stands at begins, or ends, and what the line then has
 HAS = {
     "offers ": "!",
@@ -68,6 +73,13 @@ def mistaken(program, source, line, column, wrong, hint):
                 yield f"no {word.strip()} in {text}"
 
 
+def stand(program, folder, turns):
+    """What each process stands at behind so many turns, without who is at the other ends."""
+    _, _, err = run(program, folder, ["x.occ", "--explain", "--limit", str(turns)])
+    lines = [AT_END.sub("", line) for line in err.decode("utf-8").split("\n")]
+    return {line.split()[0]: line for line in lines if re.match(r"  p\d+ ", line)}
+
+
 def misplaced(program, folder, source, turns):
     """The lines of the report of a run of so many turns that tell no place, or another one."""
     status, _, err = run(program, folder, ["x.occ", "--explain", "--limit", str(turns)])
@@ -75,6 +87,12 @@ def misplaced(program, folder, source, turns):
     if status == 2:
         if not KIND.fullmatch(told[0]):
             yield f"no kind: {told[0]}"
+        told = told[1:]
+    if status == 4 and FOR_GOOD.fullmatch(told[0]):
+        before, after = stand(program, folder, turns), stand(program, folder, turns + 500)
+        for one in FOR_GOOD.fullmatch(told[0])[1].split():
+            if one not in before or before[one] != after.get(one):
+                yield f"{one} does not wait for good: {before.get(one)}, and later {after.get(one)}"
         told = told[1:]
     told = told[1:]
     if status == 4:
@@ -91,6 +109,8 @@ def misplaced(program, folder, source, turns):
             if sorted((circle["arms"] or "").split()) != sorted(choosing & {*numbers}):
                 yield f"other arms: {line}"
             continue
+        if ENDED.fullmatch(line):
+            continue
         stands = STANDS.fullmatch(line)
         who = WHO.match(line)
         if who:
@@ -100,7 +120,8 @@ def misplaced(program, folder, source, turns):
             yield f"no PROC: {line}"
         elif stands["line"]:
             has = [word for text, word in HAS.items() if stands["text"].startswith(text) or stands["text"].endswith(text)]
-            if not has or has[0] not in source.split("\n")[int(stands["line"]) - 1]:
+            has = ["WHILE", "SEQ"] if stands["text"] == "can go on" else has[:1]
+            if not any(word in source.split("\n")[int(stands["line"]) - 1] for word in has):
                 yield f"another line: {line}"
         elif stands["text"] != "can go on" and not stands["text"].startswith("fault "):
             yield f"no line: {line}"
