@@ -55,8 +55,8 @@ MOST_SECONDS = 2
 # mistakes behind many operators: a title, how many they are, the end of the line, whose last letter is the mistake, and what is told
 LONG = [
     ("a bracket behind 165,000 operators", 165_000, " )", "`)`", "none is open"),
-    ("a number behind 20,000 operators", 20_000, " AND 1", "AND and OR join values of BOOL", ""),
-    ("a channel behind 20,000 operators", 20_000, " AND c", "a CHAN OF BOOL", "input from it first"),
+    ("a number behind 165,000 operators", 165_000, " AND 1", "AND and OR join values of BOOL", ""),
+    ("a channel behind 165,000 operators", 165_000, " AND c", "a CHAN OF BOOL", "input from it first"),
 ]
 MISTAKES = re.compile(r"(?ms)^=== (.*?)\n(.*?)^--- (\d+):(\d+) (.*?) /(.*?)$")
 
