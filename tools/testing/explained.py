@@ -5,11 +5,15 @@ of what is wrong, the line of the source behind its number, a caret under the pl
 tests/mistakes.txt stands below a line `=== ` with its mistake, and above a line `--- ` with the place, the words of what is wrong, a `/`
 and the words of the hint; semicolons part the words.
 
+An explanation of a long line takes time in proportion to its length: there are lines of up to 990,000 bytes, each with a bound in
+processor seconds that a loaded machine keeps too.
+
 Each program of examples/, and each of tests/runs, tests/choices and tests/explored, is played for some numbers of turns. In the report of a run that hasn't ended each process has to have a PROC of
 the text, and a line unless it can go on or met a fault; and what it stands at has to be in that line. So it is
 with the stops of its first turns, as --steps writes them.
 """
 import re
+import resource
 
 from .cases import all_cases
 from .running import TOP, Job, room, run
@@ -51,6 +55,14 @@ ODD = [
     ("a letter of another code", b"PROC main (CHAN OF BYTE keyboard, screen)\n  screen ! '\xe9'\n:\n", 2, 13, "a byte", "ASCII"),
     ("a byte that begins a control sequence", b"PROC main (CHAN OF BYTE keyboard, screen)\n  INT x:\n  x = 1 -- \xc2\x9b2J\n:\n", 3, 5, "`=`", ":="),
 ]
+# how many processor seconds may go by while a long line is refused, and then refused and explained
+MOST_SECONDS = 2
+# mistakes behind many operators: a title, how many they are, the end of the line, whose last letter is the mistake, and what is told
+LONG = [
+    ("a bracket behind 165,000 operators", 165_000, " )", "`)`", "none is open"),
+    ("a number behind 165,000 operators", 165_000, " AND 1", "AND and OR join values of BOOL", ""),
+    ("a channel behind 165,000 operators", 165_000, " AND c", "a CHAN OF BOOL", "input from it first"),
+]
 MISTAKES = re.compile(r"(?ms)^=== (.*?)\n(.*?)^--- (\d+):(\d+) (.*?) /(.*?)$")
 
 
@@ -78,6 +90,17 @@ def stand(program, folder, turns):
     _, _, err = run(program, folder, ["x.occ", "--explain", "--limit", str(turns)])
     lines = [AT_END.sub("", line) for line in err.decode("utf-8").split("\n")]
     return {line.split()[0]: line for line in lines if re.match(r"  p\d+ ", line)}
+
+
+def slow(program, operators, end, wrong, hint):
+    """Faults of what is told of a long line, and how long that took where it was too long."""
+    line = f"  x := x{' AND x' * operators}{end}"
+    source = f"PROC main (CHAN OF BYTE keyboard, screen)\n  BOOL x:\n  CHAN OF BOOL c:\n{line}\n:\n"
+    before = resource.getrusage(resource.RUSAGE_CHILDREN).ru_utime
+    yield from mistaken(program, source.encode(), 4, len(line), wrong, hint)
+    taken = resource.getrusage(resource.RUSAGE_CHILDREN).ru_utime - before
+    if taken > MOST_SECONDS:
+        yield f"{taken:.1f} processor seconds"
 
 
 def misplaced(program, folder, source, turns):
@@ -155,6 +178,8 @@ def jobs():
     texts = [(title, text.encode("utf-8"), int(line), int(column), wrong, hint) for title, text, line, column, wrong, hint in found]
     for title, *told in texts + ODD:
         yield Job(f"explained: {title}", lambda program, told=told: mistaken(program, *told))
+    for title, *told in LONG:
+        yield Job(f"explained: {title}", lambda program, told=told: slow(program, *told))
     for path in sorted((TOP / "examples").rglob("*.occ")):
         source = path.read_text(encoding="utf-8")
         yield Job(f"explained: {path.relative_to(TOP)}", lambda program, source=source: reports(program, source, TURNS))

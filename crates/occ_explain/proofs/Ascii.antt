@@ -1,5 +1,5 @@
 -- What is written behind the name of a file is ASCII.
-use Rattle.std.proofs.Common.{Bool, List, [], codes, drop, false, length, replicate, true, ℕ, ◌++◌, ◌-◌, ◌<◌, ◌==◌, ◌^◌, ◌≤◌, ◌∷◌, ◌≡◌, ◌∙◌, ap, arith, refl, subst, sym}
+use Rattle.std.proofs.Common.{Bool, List, [], codes, drop, false, length, replicate, true, ℕ, ◌++◌, ◌-◌, ◌<◌, ◌==◌, ◌^◌, ◌≤◌, ◌∷◌, ◌≡◌, arith, refl, subst, sym}
 use Rattle.std.specs.Fmt.{decimal}
 use Rattle.std.specs.Str.{IsAscii}
 use Rattle.std.proofs.lemmas.Bool.Decides.{nat_tests}

@@ -5,23 +5,18 @@ use Rattle.occ_explain.specs.declared.cause_table.TheConstants.{CAUSES}
 use Rattle.occ_explain.specs.declared.headings.TheConstants.{HEADINGS}
 use mathlib.Core.List.{IsPrefix}
 
--- the cause beside a number
-abbrev pub cause_in : List (ℕ × List ℕ) → ℕ → List ℕ
-cause_in [] n = codes "the text is refused"
-cause_in (row ∷ rows) n = if row.0 == n then row.1 else cause_in rows n
+-- the text beside a number, and another one where it has none
+abbrev pub text_in : List (ℕ × List ℕ) → ℕ → (otherwise : List ℕ) → List ℕ
+text_in [] n otherwise = otherwise
+text_in (row ∷ rows) n otherwise = if row.0 == n then row.1 else text_in rows n otherwise
 
 -- the cause that docs/language.md has for the refusals of a number
 unfoldable pub cause_of : ℕ → List ℕ
-cause_of n = cause_in (map (λ row. (row.0, row.1.now)) CAUSES) n
-
--- the heading beside a number, and nothing where it has none
-abbrev pub heading_in : List (ℕ × List ℕ) → ℕ → List ℕ
-heading_in [] n = []
-heading_in (row ∷ rows) n = if row.0 == n then row.1 else heading_in rows n
+cause_of n = text_in (map (λ row. (row.0, row.1.now)) CAUSES) n (codes "the text is refused")
 
 -- the heading of the refusals of a number
 unfoldable pub heading_of : ℕ → List ℕ
-heading_of n = heading_in (map (λ row. (row.0, row.1.now)) HEADINGS) n
+heading_of n = text_in (map (λ row. (row.0, row.1.now)) HEADINGS) n []
 
 -- Whether something is told in place of the cause: of bytes and literals, of words, of levels, of texts that end too early, and of
 -- names.

@@ -3,7 +3,9 @@
 use crate::class::Class;
 use crate::mismatch::{conversion, expression_count};
 use crate::scan::Text;
-use crate::scope::{Declared, Kind, Spec, behind_sizes, declaration_of, formal_count, formal_of};
+use crate::scope::{
+    Declared, Kind, Spec, behind_sizes, declaration_of, formal_at, formal_count, untyped,
+};
 use crate::sentence::{Nothing, Piece, Told};
 use crate::shapes::{Shape, are_alike};
 use crate::types::{begins_int, expression_end, operand_end, spelled_type, typed_at};
@@ -159,9 +161,12 @@ pub(crate) fn call_finding(text: &Text<'_>, index: usize) -> Option<Told> {
             ],
         });
     }
-    let mut actual = 2;
-    for number in 0..formals {
-        let (formal, spec) = formal_of(head, b"", number)?;
+    let (mut actual, mut at) = (2, 3);
+    let mut before = untyped(Kind::Variable);
+    for _ in 0..formals {
+        let (formal, spec) = formal_at(head, at, before)?;
+        before = spec;
+        at = formal.saturating_add(2);
         let pair = Pair {
             line: index,
             head: found.line,

@@ -1,13 +1,14 @@
 //! The causes of refusals, as users read them.
 ghost use Rattle.std.specs.Prelude.{◌≡◌, ◌≤◌, length, map};
-ghost use Rattle.occ_explain.specs.Causes.{cause_in, cause_of, heading_in, heading_of};
+ghost use Rattle.occ_explain.specs.Causes.{cause_of, heading_of, text_in};
 
 use crate::cause_table::CAUSES;
 use crate::headings::HEADINGS;
 
-/// The cause beside a number.
-fn find(mut rows: &[(u32, &'static str)], number: u32) -> &'static str
-    ensures { result.now ≡ cause_in (map (λ row. (row.0, row.1.now)) rows.entry.now) number }
+/// The text beside a number, and another one where it has none.
+fn find(mut rows: &[(u32, &'static str)], number: u32, otherwise: &'static str) -> &'static str
+    ensures { result.now
+        ≡ text_in (map (λ row. (row.0, row.1.now)) rows.entry.now) number otherwise.now }
 {
     while let [row, rest @ ..] = rows {
         if row.0 == number {
@@ -15,14 +16,13 @@ fn find(mut rows: &[(u32, &'static str)], number: u32) -> &'static str
         }
         rows = rest;
     }
-    "the text is refused"
+    otherwise
 }
 
-#[tactic(auto, unfolding(crate::specs::Causes::cause_of))]
 fn listed(number: u32) -> &'static str
     ensures { result.now ≡ cause_of number }
 {
-    find(&CAUSES, number)
+    find(&CAUSES, number, "the text is refused")
 }
 
 /// The cause of a refusal by its number.
@@ -34,23 +34,9 @@ pub(crate) fn cause_of(number: u32) -> &'static str
     listed(number)
 }
 
-/// The heading beside a number.
-fn find_heading(mut rows: &[(u32, &'static str)], number: u32) -> &'static str
-    ensures { result.now ≡ heading_in (map (λ row. (row.0, row.1.now)) rows.entry.now) number }
-{
-    while let [row, rest @ ..] = rows {
-        if row.0 == number {
-            return row.1;
-        }
-        rows = rest;
-    }
-    ""
-}
-
 /// The heading of a refusal by its number, and nothing where it has none.
-#[tactic(auto, unfolding(crate::specs::Causes::heading_of))]
 pub(crate) fn heading_of(number: u32) -> &'static str
     ensures { result.now ≡ heading_of number }
 {
-    find_heading(&HEADINGS, number)
+    find(&HEADINGS, number, "")
 }

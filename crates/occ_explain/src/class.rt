@@ -66,53 +66,43 @@ pub enum Class {
     End,
 }
 
-/// The reserved words of each class.
+/// The reserved words, and the class of each.
 #[rattlefmt::skip]
-static RESERVED: [(&str, Class); 25] = [
-    ("BOOL BYTE INT", Class::Primitive),
-    ("FALSE TRUE", Class::Truth),
-    ("MOSTNEG MOSTPOS", Class::Most),
-    ("BITNOT NOT SIZE", Class::Monadic),
-    ("AFTER BITAND BITOR MINUS PLUS REM TIMES", Class::Dyadic),
-    ("AND", Class::And),
-    ("OR", Class::Or),
-    ("VAL", Class::Val),
-    ("CHAN", Class::Chan),
-    ("OF", Class::Of),
-    ("PROTOCOL", Class::Protocol),
-    ("PROC", Class::Proc),
-    ("IS", Class::Is),
-    ("CASE", Class::Case),
-    ("ELSE", Class::Else),
-    ("IF", Class::If),
-    ("ALT", Class::Alt),
-    ("PRI", Class::Pri),
-    ("SEQ", Class::Seq),
-    ("PAR", Class::Par),
-    ("WHILE", Class::While),
-    ("FOR", Class::For),
-    ("SKIP", Class::Skip),
-    ("STOP", Class::Stop),
-    (
-        "ANY AT FROM FUNCTION INT16 INT32 INT64 PLACE PLACED PORT PROCESSOR REAL32 REAL64 RESULT RETYPES ROUND TIMER TRUNC VALOF",
-        Class::Reserved,
-    ),
+static RESERVED: [(&str, Class); 55] = [
+    ("AND", Class::And), ("OR", Class::Or), ("INT", Class::Primitive), ("BYTE", Class::Primitive),
+    ("BOOL", Class::Primitive), ("FALSE", Class::Truth), ("TRUE", Class::Truth),
+    ("MOSTNEG", Class::Most), ("MOSTPOS", Class::Most), ("BITNOT", Class::Monadic),
+    ("NOT", Class::Monadic), ("SIZE", Class::Monadic), ("AFTER", Class::Dyadic),
+    ("BITAND", Class::Dyadic), ("BITOR", Class::Dyadic), ("MINUS", Class::Dyadic),
+    ("PLUS", Class::Dyadic), ("REM", Class::Dyadic), ("TIMES", Class::Dyadic),
+    ("VAL", Class::Val), ("CHAN", Class::Chan), ("OF", Class::Of), ("PROTOCOL", Class::Protocol),
+    ("PROC", Class::Proc), ("IS", Class::Is), ("CASE", Class::Case), ("ELSE", Class::Else),
+    ("IF", Class::If), ("ALT", Class::Alt), ("PRI", Class::Pri), ("SEQ", Class::Seq),
+    ("PAR", Class::Par), ("WHILE", Class::While), ("FOR", Class::For), ("SKIP", Class::Skip),
+    ("STOP", Class::Stop), ("ANY", Class::Reserved), ("AT", Class::Reserved),
+    ("FROM", Class::Reserved), ("FUNCTION", Class::Reserved), ("INT16", Class::Reserved),
+    ("INT32", Class::Reserved), ("INT64", Class::Reserved), ("PLACE", Class::Reserved),
+    ("PLACED", Class::Reserved), ("PORT", Class::Reserved), ("PROCESSOR", Class::Reserved),
+    ("REAL32", Class::Reserved), ("REAL64", Class::Reserved), ("RESULT", Class::Reserved),
+    ("RETYPES", Class::Reserved), ("ROUND", Class::Reserved), ("TIMER", Class::Reserved),
+    ("TRUNC", Class::Reserved), ("VALOF", Class::Reserved),
 ];
 
 /// The reserved word that a word is in capitals, and its class.
 pub(crate) fn reserved_like(word: &[u8]) -> Option<(&'static str, Class)> {
-    for (spellings, class) in RESERVED.as_slice() {
-        for spelling in spellings.split_ascii_whitespace() {
-            if spelling.as_bytes().eq_ignore_ascii_case(word) {
-                return Some((spelling, *class));
-            }
+    for (spelling, class) in RESERVED.as_slice() {
+        if spelling.as_bytes().eq_ignore_ascii_case(word) {
+            return Some((*spelling, *class));
         }
     }
     None
 }
 
-/// The class of a word of letters, digits and dots.
+/// The class of a word of letters, digits and dots. A reserved word begins with two capitals.
 pub(crate) fn class_of(word: &[u8]) -> Class {
+    if !matches!(word, [b'A'..=b'Z', b'A'..=b'Z', ..]) {
+        return Class::Name;
+    }
     match reserved_like(word) {
         Some((spelling, class)) if spelling.as_bytes() == word => class,
         _ => Class::Name,

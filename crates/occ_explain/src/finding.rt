@@ -176,35 +176,36 @@ fn unexpected(alloc: Global, text: &Text<'_>, line: usize) -> Result<Option<Told
     Ok(Some(met.told()))
 }
 
-/// Where a refusal of types, kinds, constants or actuals points to, as far as the words tell.
-fn typed_at(words: &[Word<'_>], number: u32) -> usize {
-    let sign = match number {
-        33 => index_of(words, Class::Assign),
-        34 | 35 => index_of(words, Class::For),
-        36 => index_of(words, Class::OpenBracket),
-        37 | 38 => sign_of(words),
-        39 | 40 => index_of(words, Class::OpenParen),
-        42 => index_of(words, Class::Proc),
-        _ => return 0,
+/// Where a refusal points to whose cause is told, as far as the words tell, and a hint beside it.
+fn beside_cause(words: &[Word<'_>], number: u32) -> (usize, &'static str) {
+    let (sign, hint) = match number {
+        3 => (usize::MAX, "each level is two spaces"),
+        32 => (usize::MAX, "@1"),
+        33 => (index_of(words, Class::Assign), "@1"),
+        34 => (index_of(words, Class::For), ""),
+        35 => (
+            index_of(words, Class::For),
+            "a size is 1 at least; the count of a replicated PAR is 0 at least",
+        ),
+        36 => (index_of(words, Class::OpenBracket), ""),
+        37 => (sign_of(words), "@1"),
+        38 => (sign_of(words), ""),
+        39 => (index_of(words, Class::OpenParen), "@1"),
+        40 => (
+            index_of(words, Class::OpenParen),
+            "copy one of them first, and hand the copy over",
+        ),
+        41 => (usize::MAX, "assign one after the other, in a SEQ"),
+        60 => (
+            usize::MAX,
+            "each call, and each copy of a replicated PAR, has code of its own: make the copies fewer, or loop within one",
+        ),
+        _ => (usize::MAX, ""),
     };
     if sign < words.len() {
-        sign.saturating_add(1)
+        (sign.saturating_add(1), hint)
     } else {
-        0
-    }
-}
-
-/// A hint beside the cause of a refusal.
-fn typed_hint(number: u32) -> &'static str {
-    match number {
-        3 => "each level is two spaces",
-        35 => "a size is 1 at least; the count of a replicated PAR is 0 at least",
-        40 => "copy one of them first, and hand the copy over",
-        41 => "assign one after the other, in a SEQ",
-        60 =>
-            "each call, and each copy of a replicated PAR, has code of its own: make the copies fewer, or loop within one",
-        32 | 33 | 37 | 39 => "@1",
-        _ => "",
+        (0, hint)
     }
 }
 
@@ -245,10 +246,11 @@ fn told_of(alloc: Global, text: &Text<'_>, refusal: &Refusal<'_>) -> Result<Told
     if let Some(found) = found {
         return Ok(found);
     }
+    let (at, hint) = beside_cause(words, number);
     Ok(Told {
         line,
-        at: typed_at(words, number),
-        hint: typed_hint(number),
+        at,
+        hint,
         pieces: [Piece::Types(line), Nothing, Nothing, Nothing],
         ..nothing
     })

@@ -1,6 +1,7 @@
 //! What stands at the front of a line.
 
 use crate::class::{Class, class_of, class_of_one, class_of_two};
+use crate::shapes::number_of;
 
 /// What stands at the front of a line, from one byte up to another. It has no class where it is no word.
 #[derive(Clone, Copy)]
@@ -19,10 +20,11 @@ fn word(end: usize, class: Class) -> Front {
     }
 }
 
-/// How many bytes at the front are digits of this base; of base 36, how many are letters, digits or dots.
+/// How many bytes at the front are digits of this base, which are zeros for 1; for 36, how many are letters, digits or dots.
 fn size_of(bytes: &[u8], base: u32) -> usize {
     for (i, byte) in bytes.iter().enumerate() {
         let is_in = match base {
+            1 => *byte == b'0',
             10 => byte.is_ascii_digit(),
             16 => byte.is_ascii_hexdigit(),
             _ => byte.is_ascii_alphanumeric() || *byte == b'.',
@@ -34,16 +36,6 @@ fn size_of(bytes: &[u8], base: u32) -> usize {
     bytes.len()
 }
 
-/// The value of digits, as far as 64 bits go.
-fn value(digits: &[u8], base: u64) -> u64 {
-    let mut value: u64 = 0;
-    for digit in digits {
-        let digit = u64::from(digit.wrapping_sub(b'0'));
-        value = value.saturating_mul(base).saturating_add(digit);
-    }
-    value
-}
-
 /// The first so many bytes.
 fn first(bytes: &[u8], count: usize) -> &[u8] {
     &bytes[..count.min(bytes.len())]
@@ -51,10 +43,9 @@ fn first(bytes: &[u8], count: usize) -> &[u8] {
 
 fn decimal(bytes: &[u8]) -> Front {
     let end = size_of(bytes, 10);
-    if value(first(bytes, end), 10) > 2_147_483_647 {
-        word(end, Class::BadLiteral)
-    } else {
-        word(end, Class::Number)
+    match number_of(first(bytes, end)) {
+        Some(value) if value > 2_147_483_647 => word(end, Class::BadLiteral),
+        _ => word(end, Class::Number),
     }
 }
 
@@ -63,7 +54,7 @@ fn pattern(digits: &[u8]) -> Front {
     match size_of(digits, 16) {
         0 => word(size_of(digits, 36).saturating_add(1), Class::BadLiteral),
         // `09ABCDEF` has eight digits, and zeros may lead
-        count if count > 8 && value(first(digits, count - 8), 2) > 0 => {
+        count if count.saturating_sub(size_of(digits, 1)) > 8 => {
             word(count.saturating_add(1), Class::BadLiteral)
         }
         count => word(count.saturating_add(1), Class::Number),
@@ -85,16 +76,6 @@ fn mistake(begin: usize, end: usize, class: Class) -> Front {
         end: end.saturating_add(1),
         class: Some(class),
     }
-}
-
-/// A literal that has ended: one between single quotes has one character.
-fn ended(quote: u8, characters: usize, last: usize) -> Front {
-    let class = match (quote, characters) {
-        (b'"', _) => Class::Text,
-        (_, 1) => Class::ByteLiteral,
-        _ => Class::BadLiteral,
-    };
-    word(last.saturating_add(1), class)
 }
 
 /// A literal whose closing quote is missing.
@@ -120,10 +101,6 @@ fn bad_byte(begin: usize, bytes: &[u8]) -> Front {
     mistake(begin, end, Class::BadByte)
 }
 
-fn is_character(byte: u8) -> bool {
-    byte == b'\t' || (b' '..=b'~').contains(&byte)
-}
-
 /// A literal, or the first mistake in it. `bytes` begins with its quote.
 fn literal(quote: u8, bytes: &[u8]) -> Front {
     let mut within = Within::Between;
@@ -133,9 +110,16 @@ fn literal(quote: u8, bytes: &[u8]) -> Front {
             continue;
         }
         within = match within {
-            Within::Between if *byte == quote => return ended(quote, characters, i),
+            Within::Between if *byte == quote => {
+                let class = match (quote, characters) {
+                    (b'"', _) => Class::Text,
+                    (_, 1) => Class::ByteLiteral,
+                    _ => Class::BadLiteral,
+                };
+                return word(i.saturating_add(1), class);
+            }
             Within::Between if *byte == b'*' => Within::Escape(i),
-            Within::Between if is_character(*byte) => {
+            Within::Between if *byte == b'\t' || (b' '..=b'~').contains(byte) => {
                 characters = characters.saturating_add(1);
                 Within::Between
             }

@@ -5,7 +5,7 @@ use crate::context::{Start, start_of};
 use crate::finding::{index_of, sign_of};
 use crate::names::has_other_main;
 use crate::scan::{Text, Word};
-use crate::scope::{Declared, Kind, declaration_of, formal_count, formal_of, index_at};
+use crate::scope::{Declared, Kind, declaration_of, formal_at, formal_count, index_at, untyped};
 use crate::sentence::{Nothing, Piece, Told};
 use crate::shapes::number_of;
 use crate::types::operand_begin;
@@ -28,37 +28,54 @@ enum Role {
     Any,
 }
 
-/// How many brackets are open before a place.
-fn depth_at(words: &[Word<'_>], at: usize) -> usize {
-    let mut depth: usize = 0;
-    for i in 0..at.min(words.len()) {
-        match words[i].class {
-            Class::OpenBracket | Class::OpenParen => depth = depth.saturating_add(1),
-            Class::CloseBracket | Class::CloseParen => depth = depth.saturating_sub(1),
-            _ => {}
-        }
+/// How many brackets are open behind a word, where so many are before it.
+fn depth_behind(depth: usize, class: Class) -> usize {
+    match class {
+        Class::OpenBracket | Class::OpenParen => depth.saturating_add(1),
+        Class::CloseBracket | Class::CloseParen => depth.saturating_sub(1),
+        _ => depth,
     }
-    depth
 }
 
-/// What a name has to be at its place in a line.
-fn role_of(text: &Text<'_>, index: usize, at: usize) -> Role {
+/// What decides which names of a line have to be what: where its signs stand, and whether the line is of a tag or a variant.
+#[derive(Clone, Copy)]
+struct Signs {
+    is: usize,
+    assign: usize,
+    input: usize,
+    /// The sign of an output or an input.
+    sign: usize,
+    is_tagged: bool,
+}
+
+fn signs_of(text: &Text<'_>, index: usize) -> Signs {
+    let words = text.words_at(index);
+    Signs {
+        is: index_of(words, Class::Is),
+        assign: index_of(words, Class::Assign),
+        input: index_of(words, Class::Question),
+        sign: sign_of(words),
+        is_tagged: matches!(start_of(text, index), Start::Tag | Start::Variant),
+    }
+}
+
+/// What a name has to be at its place in a line, under so many brackets.
+fn role_of(text: &Text<'_>, index: usize, at: usize, depth: usize, signs: Signs) -> Role {
     let words = text.words_at(index);
     let last = words.len().saturating_sub(1);
-    let depth = depth_at(words, at);
     let first = class_at(words, 0);
-    let assign = index_of(words, Class::Assign);
+    let assign = signs.assign;
     // a line that declares something
     if class_at(words, last) == Class::Colon || first == Class::Proc {
         return if class_at(words, at.wrapping_sub(1)) == Class::Of {
             Role::Carried
-        } else if depth > 0 && first != Class::Proc || index_of(words, Class::Is) < at {
+        } else if depth > 0 && first != Class::Proc || signs.is < at {
             Role::Read
         } else {
             Role::Any
         };
     }
-    if index_at(words) == at || matches!(start_of(text, index), Start::Tag | Start::Variant) {
+    if index_at(words) == at || signs.is_tagged {
         return Role::Any;
     }
     if class_at(words, 1) == Class::OpenParen {
@@ -69,9 +86,8 @@ fn role_of(text: &Text<'_>, index: usize, at: usize) -> Role {
             return Role::Any;
         }
     }
-    let input = index_of(words, Class::Question);
-    let is_input = input < words.len();
-    let sign = if is_input { input } else { sign_of(words) };
+    let is_input = signs.input < words.len();
+    let sign = if is_input { signs.input } else { signs.sign };
     if depth > 0 {
         return Role::Read;
     }
@@ -172,19 +188,20 @@ pub(crate) fn kind_finding(text: &Text<'_>, index: usize) -> Option<Told> {
         });
     }
     let is_call = class_at(words, 0) == Class::Name && class_at(words, 1) == Class::OpenParen;
+    let signs = signs_of(text, index);
     for is_handed in [false, true] {
+        let mut behind: usize = 0;
         for at in 0..words.len() {
             let word = words[at];
+            let depth = behind;
+            behind = depth_behind(depth, word.class);
             let Some(found) = declaration_of(text, index, word.bytes) else {
                 continue;
             };
             let kind = found.spec.kind;
             let (wrong, hint) = if !is_handed {
-                refused_role(role_of(text, index, at), kind)
-            } else if is_call
-                && depth_at(words, at) == 1
-                && matches!(kind, Kind::Index | Kind::Value)
-            {
+                refused_role(role_of(text, index, at, depth, signs), kind)
+            } else if is_call && depth == 1 && matches!(kind, Kind::Index | Kind::Value) {
                 (
                     "`@1` is @2, and its formal is a variable, which the PROC may assign",
                     "write VAL before the formal, or hand over a variable",
@@ -202,9 +219,11 @@ pub(crate) fn kind_finding(text: &Text<'_>, index: usize) -> Option<Told> {
     None
 }
 
-/// Where a constant is wanted in a line, and what for.
-fn constant_place(words: &[Word<'_>]) -> (usize, &'static str) {
-    match class_at(words, 0) {
+/// A name that stands for no constant where one is wanted.
+pub(crate) fn constant_finding(text: &Text<'_>, index: usize) -> Option<Told> {
+    let words = text.words_at(index);
+    // where it is wanted, and what for
+    let (from, hint) = match class_at(words, 0) {
         Class::Par => (
             3,
             "the base and the count of a replicated PAR are known before the run: write a number, or name one by VAL",
@@ -217,13 +236,7 @@ fn constant_place(words: &[Word<'_>]) -> (usize, &'static str) {
             0,
             "a constant of a CASE is known before the run: write a number or a byte, or name one by VAL",
         ),
-    }
-}
-
-/// A name that stands for no constant where one is wanted.
-pub(crate) fn constant_finding(text: &Text<'_>, index: usize) -> Option<Told> {
-    let words = text.words_at(index);
-    let (from, hint) = constant_place(words);
+    };
     for at in from..words.len() {
         if let Some(found) = declaration_of(text, index, words[at].bytes)
             && found.spec.kind == Kind::Variable
@@ -297,12 +310,15 @@ pub(crate) fn main_finding(text: &Text<'_>, index: usize) -> Told {
         told.wrong = "there is no PROC";
         return told;
     }
-    for number in 0..count {
-        if let Some((at, spec)) = formal_of(words, b"", number)
-            && (spec.kind != Kind::Channel
-                || spec.sizes > 0
-                || spec.to != spec.of.saturating_add(1)
-                || bytes_at(words, spec.of) != b"BYTE".as_slice())
+    let (mut place, mut before) = (3, untyped(Kind::Variable));
+    for _ in 0..count {
+        let Some((at, spec)) = formal_at(words, place, before) else {
+            return told;
+        };
+        if spec.kind != Kind::Channel
+            || spec.sizes > 0
+            || spec.to != spec.of.saturating_add(1)
+            || bytes_at(words, spec.of) != b"BYTE".as_slice()
         {
             let found = Declared {
                 line: index,
@@ -315,6 +331,8 @@ pub(crate) fn main_finding(text: &Text<'_>, index: usize) -> Told {
             told.pieces[2] = Piece::Declared(found);
             return told;
         }
+        before = spec;
+        place = at.saturating_add(2);
     }
     told
 }

@@ -55,15 +55,11 @@ fn count_from(words: &[Word<'_>], at: usize) -> usize {
     count
 }
 
-/// The place of the item with so many before it.
-fn item_at(words: &[Word<'_>], at: usize, number: usize) -> usize {
-    let mut left = number;
+/// The place of the next item, behind the one at a place.
+fn next_item(words: &[Word<'_>], at: usize) -> usize {
     for i in at..words.len() {
-        if left == 0 {
-            return i;
-        }
         if words[i].class == Class::Semicolon {
-            left = left.saturating_sub(1);
+            return i.saturating_add(1);
         }
     }
     words.len()
@@ -141,12 +137,11 @@ fn item_hint(
     }
 }
 
-/// An item of another type than its part.
+/// An item of another type than its part: the first item of a message, and the first one of parts, which have so many before them.
 fn item_finding(text: &Text<'_>, message: &Message, parts: &Parts, number: usize) -> Option<Told> {
     let words = text.words_at(message.line);
-    let at = item_at(words, message.at, number);
     let other = text.words_at(parts.line);
-    let part = item_at(other, parts.at, number);
+    let (at, part) = (message.at, parts.at);
     let wanted = spelled_type(other, part)?;
     let item = typed_at(text, message.line, at, false)?;
     let is_counted = class_at(other, operand_end(other, part)) == Class::DoubleColon;
@@ -229,11 +224,14 @@ fn compared(text: &Text<'_>, message: &Message, parts: &Parts) -> Option<Told> {
             ],
         });
     }
+    let (mut message, mut parts) = (*message, *parts);
     for number in 0..items {
-        let found = item_finding(text, message, parts, number);
+        let found = item_finding(text, &message, &parts, number);
         if found.is_some() {
             return found;
         }
+        message.at = next_item(text.words_at(message.line), message.at);
+        parts.at = next_item(text.words_at(parts.line), parts.at);
     }
     None
 }

@@ -125,32 +125,18 @@ pub(crate) fn scan<'a>(alloc: Global, source: &'a [u8]) -> Result<Text<'a>, Allo
         scan_line(number, line, &mut words)?;
         let to = words.len();
         if from < to {
-            add(&mut lines, is_open, number, indent(line), from, to)?;
+            match lines.last_mut() {
+                Some(last) if is_open => last.to = to,
+                _ => lines.push(Line {
+                    number,
+                    indent: indent(line),
+                    from,
+                    to,
+                })?,
+            }
             is_open = goes_on(words.as_slice());
         }
         rest = after;
     }
     Ok(Text { lines, words })
-}
-
-/// Adds words to the last line, where that is open, or as a line of their own.
-fn add(
-    lines: &mut Vec<Line>,
-    is_open: bool,
-    number: u32,
-    indent: usize,
-    from: usize,
-    to: usize,
-) -> Result<(), AllocError> {
-    if is_open && let Some(last) = lines.last_mut() {
-        last.to = to;
-        return Ok(());
-    }
-    lines.push(Line {
-        number,
-        indent,
-        from,
-        to,
-    })?;
-    Ok(())
 }

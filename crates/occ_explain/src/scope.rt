@@ -38,7 +38,7 @@ pub(crate) struct Declared {
 }
 
 /// A name that has no type.
-fn untyped(kind: Kind) -> Spec {
+pub(crate) fn untyped(kind: Kind) -> Spec {
     Spec {
         kind,
         from: 0,
@@ -103,32 +103,46 @@ pub(crate) fn spec_at(words: &[Word<'_>], at: usize) -> Spec {
     }
 }
 
+/// The formal at a place, or behind what it is declared as there; else it is declared as the one before it.
+pub(crate) fn formal_at(words: &[Word<'_>], at: usize, before: Spec) -> Option<(usize, Spec)> {
+    let (place, spec) = if class_at(words, at) == Class::Name {
+        (at, before)
+    } else {
+        let spec = spec_at(words, at);
+        (spec.to, spec)
+    };
+    if class_at(words, place) == Class::Name {
+        Some((place, spec))
+    } else {
+        None
+    }
+}
+
 /// The first formal of a PROC that has this name, or that has so many before it.
 pub(crate) fn formal_of(words: &[Word<'_>], name: &[u8], number: usize) -> Option<(usize, Spec)> {
     let mut at = 3;
-    let mut spec = untyped(Kind::Variable);
+    let mut before = untyped(Kind::Variable);
     for count in 0..words.len() {
-        if class_at(words, at) != Class::Name {
-            spec = spec_at(words, at);
-            at = spec.to;
+        let (place, spec) = formal_at(words, at, before)?;
+        if count == number || bytes_at(words, place) == name {
+            return Some((place, spec));
         }
-        if class_at(words, at) != Class::Name {
-            return None;
-        }
-        if count == number || bytes_at(words, at) == name {
-            return Some((at, spec));
-        }
-        at = at.saturating_add(2);
+        before = spec;
+        at = place.saturating_add(2);
     }
     None
 }
 
 /// How many formals a PROC has.
 pub(crate) fn formal_count(words: &[Word<'_>]) -> usize {
-    for number in 0..words.len() {
-        if formal_of(words, b"", number).is_none() {
-            return number;
-        }
+    let mut at = 3;
+    let mut before = untyped(Kind::Variable);
+    for count in 0..words.len() {
+        let Some((place, spec)) = formal_at(words, at, before) else {
+            return count;
+        };
+        before = spec;
+        at = place.saturating_add(2);
     }
     words.len()
 }

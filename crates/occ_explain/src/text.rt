@@ -1,5 +1,5 @@
 //! How an explanation is written.
-ghost use Rattle.std.specs.Prelude.{◌≡◌, ◌≤◌, ◌++◌, IfOk, OnOk, drop, length, replicate};
+ghost use Rattle.std.specs.Prelude.{[], ◌≡◌, ◌≤◌, ◌++◌, ◌∷◌, IfOk, OnOk, drop, length, replicate};
 ghost use Rattle.std.specs.Str.{IsAscii};
 ghost use Rattle.occ_files.specs.Names.{printed_name};
 ghost use Rattle.occ_explain.specs.Explanations.{caret_line, explanation_text, first_line, hint_line, printable, shown_byte, source_line};
@@ -25,11 +25,20 @@ fn shown(alloc: Global, bytes: &[u8]) -> Result<Vec<u8>, AllocError>
     bytes.iter().map(|byte| shown_byte(*byte)).collect(alloc)
 }
 
-fn write_shown(alloc: Global, out: &mut Vec<u8>, bytes: &[u8]) -> Result<(), AllocError>
-    ensures { OnOk result (out.new.items ≡ out.old.items ++ printable bytes.now) }
+/// A line: some bytes, and others as they are shown.
+fn write_line(
+    alloc: Global,
+    out: &mut Vec<u8>,
+    before: &[u8],
+    bytes: &[u8],
+) -> Result<(), AllocError>
+    ensures { OnOk result (out.new.items
+        ≡ out.old.items ++ before.now ++ printable bytes.now ++ 10 ∷ []) }
 {
+    out.extend_from_slice(before)?;
     let bytes = shown(alloc, bytes)?;
-    out.extend_from_slice(bytes.as_slice())
+    out.extend_from_slice(bytes.as_slice())?;
+    out.extend_from_slice(b"\n")
 }
 
 /// The place, and what is wrong there.
@@ -47,9 +56,7 @@ fn write_first(
     let name = printed_name(alloc, file)?;
     out.extend_from_slice(name.as_slice())?;
     let place = format!(in alloc; ":{line}:{column}: ")?;
-    out.extend_from_slice(place.as_bytes())?;
-    write_shown(alloc, out, wrong)?;
-    out.extend_from_slice(b"\n")
+    write_line(alloc, out, place.as_bytes(), wrong)
 }
 
 /// The line of the text, behind its number.
@@ -62,9 +69,7 @@ fn write_source(
     ensures { OnOk result (out.new.items ≡ out.old.items ++ source_line line source.now) }
 {
     let head = format!(in alloc; "{line} | ")?;
-    out.extend_from_slice(head.as_bytes())?;
-    write_shown(alloc, out, source)?;
-    out.extend_from_slice(b"\n")
+    write_line(alloc, out, head.as_bytes(), source)
 }
 
 fn write_spaces(alloc: Global, out: &mut Vec<u8>, count: usize) -> Result<(), AllocError>
@@ -92,9 +97,7 @@ fn write_hint(alloc: Global, out: &mut Vec<u8>, hint: &[u8]) -> Result<(), Alloc
     if hint.is_empty() {
         return Ok(());
     }
-    out.extend_from_slice(b"  ")?;
-    write_shown(alloc, out, hint)?;
-    out.extend_from_slice(b"\n")
+    write_line(alloc, out, b"  ", hint)
 }
 
 /// An explanation as it is printed: `FILE:LINE:COLUMN: what is wrong`, the line behind its number, a caret under the

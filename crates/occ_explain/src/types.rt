@@ -60,12 +60,24 @@ fn has_type(words: &[Word<'_>], at: usize) -> bool {
         && class_at(words, at.saturating_add(2)) == Class::Primitive
 }
 
-/// The place where an operand begins that ends before this place.
+/// The place where an operand begins that ends before this place. Behind `a := b + c[i]` it is that of `c`: in front of it stands
+/// an operator, at which the search ends.
 pub(crate) fn operand_begin(words: &[Word<'_>], end: usize) -> usize {
     let mut found = end.saturating_sub(1);
+    let mut depth: usize = 0;
     for i in (0..end.min(words.len())).rev() {
-        if operand_end(words, i) == end && is_operand(words[i].class) {
+        match words[i].class {
+            Class::CloseBracket | Class::CloseParen => depth = depth.saturating_add(1),
+            Class::OpenBracket | Class::OpenParen => depth = depth.saturating_sub(1),
+            _ => {}
+        }
+        if depth > 0 {
+            continue;
+        }
+        if is_operand(words[i].class) && operand_end(words, i) == end {
             found = i;
+        } else if words[i].class != Class::OpenBracket {
+            return found;
         }
     }
     found

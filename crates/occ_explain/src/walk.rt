@@ -40,39 +40,99 @@ pub(crate) fn word_from(words: &[Word<'_>], from: usize, bytes: &[u8]) -> usize 
     words.len()
 }
 
-/// Where a line that begins with this part leaves the grammar; none where it does not. Each word takes few steps.
+/// What comes of a row of the grammar where a word of a class is met: of its first word or part, and of what stands behind that.
+#[derive(Clone, Copy)]
+struct Step {
+    row: &'static str,
+    class: Class,
+    wanted: &'static str,
+    behind: &'static str,
+    /// What the part is made of, where that may begin with the word.
+    then: Option<&'static str>,
+    /// Whether it is this word that is wanted.
+    is_met: bool,
+    /// Whether it tells something that the part is over.
+    is_told: bool,
+}
+
+fn step_of(row: &'static str, class: Class) -> Step {
+    let (wanted, behind) = cut(row);
+    let word = class_in(wanted);
+    Step {
+        row,
+        class,
+        wanted,
+        behind,
+        then: if word.is_none() {
+            made_of(wanted, class)
+        } else {
+            None
+        },
+        is_met: word == Some(class),
+        is_told: !said_of(wanted.as_bytes()).is_empty(),
+    }
+}
+
+/// A step that was taken before.
+fn taken(steps: &[Step], row: &str, class: Class) -> Option<Step> {
+    for step in steps {
+        if step.class == class && step.row == row {
+            return Some(*step);
+        }
+    }
+    None
+}
+
+/// Where a line that begins with this part leaves the grammar; none where it does not. A word takes few steps, and the lines of a
+/// text few different ones, so that each of these is looked up in the grammar once.
 pub(crate) fn first_leaving(
     alloc: Global,
     words: &[Word<'_>],
     start: &'static str,
 ) -> Result<Option<Leaving>, AllocError> {
+    let mut steps = Vec::new(alloc);
     let mut rows = Vec::new(alloc);
-    rows.push(start)?;
-    let (mut at, mut over) = (0, b"".as_slice());
+    let (mut row, mut at, mut over) = (start, 0, b"".as_slice());
     for _ in 0..words.len().saturating_mul(32).saturating_add(128) {
         let class = class_at(words, at);
-        let (wanted, behind) = cut(rows.pop().unwrap_or(""));
-        if wanted.is_empty() && class == Class::End {
+        if row.is_empty() && class == Class::End {
             return Ok(None);
         }
-        if !behind.is_empty() {
-            rows.push(behind)?;
-        }
-        let word = class_in(wanted);
-        if word.is_none()
-            && let Some(then) = made_of(wanted, class)
-        {
-            if !then.is_empty() {
-                rows.push(then)?;
-            } else if over.is_empty() && !said_of(wanted.as_bytes()).is_empty() {
-                over = wanted.as_bytes();
+        let step = match taken(steps.as_slice(), row, class) {
+            Some(step) => step,
+            None => {
+                let step = step_of(row, class);
+                steps.push(step)?;
+                step
             }
-        } else if word == Some(class) {
-            at = at.saturating_add(1);
-            over = b"";
-        } else {
-            return Ok(Some(Leaving { at, wanted, over }));
+        };
+        match step.then {
+            Some(then) if !then.is_empty() => {
+                if !step.behind.is_empty() {
+                    rows.push(step.behind)?;
+                }
+                row = then;
+                continue;
+            }
+            Some(_) if over.is_empty() && step.is_told => over = step.wanted.as_bytes(),
+            Some(_) => {}
+            None if step.is_met => {
+                at = at.saturating_add(1);
+                over = b"";
+            }
+            None => {
+                return Ok(Some(Leaving {
+                    at,
+                    wanted: step.wanted,
+                    over,
+                }));
+            }
         }
+        row = if step.behind.is_empty() {
+            rows.pop().unwrap_or("")
+        } else {
+            step.behind
+        };
     }
     Ok(None)
 }
