@@ -9,11 +9,12 @@ use Rattle.occ_term.specs.Runs.{Entry}
 use Rattle.occ_term.specs.declared.ending.Ending.{Ending}
 use Rattle.occ_term.specs.Endings.{ending_text}
 use Rattle.occ_shown.specs.Answers.{AddsText, numbers_text, entries_in}
+use Rattle.occ_chart.specs.declared.notes.Notes.{Notes}
 use Rattle.occ_chart.specs.declared.part.Part.{Part}
 use Rattle.occ_chart.specs.declared.part.Part.TheVariants.{First, Last}
 use Rattle.occ_chart.specs.declared.xml.Style.TheVariants.{Plain, Red, Note, RedNote}
 use Rattle.occ_chart.specs.Columns.{AreColumns, Footing, column_of}
-use Rattle.occ_chart.specs.Heads.{Head, column, halfway, heads_of, last_place, places_of, room_between}
+use Rattle.occ_chart.specs.Heads.{ColumnHead, column, halfway, heads_over, last_place, places_of, room_between}
 use Rattle.occ_chart.specs.Labels.{numbered_words, texts_of}
 use Rattle.occ_chart.specs.LeftOut.{seen_entries, seen_feet}
 use Rattle.occ_chart.specs.Shapes.{along, area, down, ground, label, path, stub, text_at}
@@ -87,11 +88,11 @@ abbrev pub name_label : (x y : ℕ) → List ℕ → List Element
 name_label x y [] = []
 name_label x y (b ∷ bs) = label Plain x y 24 (b ∷ bs) [] ∷ []
 
-abbrev pub drawn_head : (x y : ℕ) → Head → List Element
+abbrev pub drawn_head : (x y : ℕ) → ColumnHead → List Element
 drawn_head x y h = name_label x y h.name ++ text_at Plain x (y + 14) [] h.below ∷ []
 
 -- the heads of the columns, in this height
-abbrev pub drawn_heads : (places : List ℕ) → (y k : ℕ) → List Head → List Element
+abbrev pub drawn_heads : (places : List ℕ) → (y k : ℕ) → List ColumnHead → List Element
 drawn_heads places y k [] = []
 drawn_heads places y k (h ∷ hs) = drawn_head (column places k) y h ++ drawn_heads places y (k + 1) hs
 
@@ -112,11 +113,11 @@ abbrev pub arrow : (places : List ℕ) → List End → ℕ → Entry → List E
 arrow places columns i e = arrow_from places (column_of e.sender columns) (column_of e.receiver columns) i e
 
 -- the heads again, in a row of their own, where no row is left before them
-abbrev pub break : List Head → (places : List ℕ) → (left i : ℕ) → List Element
+abbrev pub break : List ColumnHead → (places : List ℕ) → (left i : ℕ) → List Element
 break hs places left i = if nat_eq left 0 then drawn_heads places (30 * i + 68) 0 hs else []
 
 -- each communication in a row of its own; heads stand again before one after so many others, and then after each 30
-abbrev pub arrows : List Head → (places : List ℕ) → List End → (left i : ℕ) → List Entry → List Element
+abbrev pub arrows : List ColumnHead → (places : List ℕ) → List End → (left i : ℕ) → List Entry → List Element
 arrows hs places columns left i [] = []
 arrows hs places columns left i (e ∷ es) =
     break hs places left i ++ (arrow places columns (row_behind left i) e ++ arrows hs places columns (rows_left left) (row_behind left i + 1) es)
@@ -130,7 +131,7 @@ drawn_feet places columns bottom [] = []
 drawn_feet places columns bottom (s ∷ ss) = foot_at (column places (column_of (OfProcess s.process) columns)) bottom s.words ++ drawn_feet places columns bottom ss
 
 -- the heads again, under a long chart
-abbrev pub heads_again : List Head → (places : List ℕ) → (bottom count : ℕ) → List Element
+abbrev pub heads_again : List ColumnHead → (places : List ℕ) → (bottom count : ℕ) → List Element
 heads_again hs places bottom count = if nat_lt 15 count then drawn_heads places (bottom + 46) 0 hs else []
 
 -- ---- its notes
@@ -177,8 +178,8 @@ note_circle letters bottom (n ∷ ns) = circle_label letters bottom (n ∷ ns) �
 -- ---- the whole
 
 -- how wide a picture is, in letters: behind the last column there is room for 12, and a note ends before the border
-abbrev pub letters_of : (places : List ℕ) → (before after ending : List ℕ) → ℕ
-letters_of places before after ending = max (last_place places + 12) (min 100 (max (max (length before) (length after)) (length ending)) + 3)
+abbrev pub picture_letters : (places : List ℕ) → (before after ending : List ℕ) → ℕ
+picture_letters places before after ending = max (last_place places + 12) (min 100 (max (max (length before) (length after)) (length ending)) + 3)
 
 -- a white ground
 unfoldable pub svg_opening : (width height : ℕ) → List ℕ
@@ -187,21 +188,21 @@ svg_opening width height =
     ++ codes " font-family=\"sans-serif\" font-size=\"12\" text-anchor=\"middle\">\n<rect width=\"100%\" height=\"100%\" fill=\"white\"></rect>\n"
 
 -- over the foot
-abbrev pub above : (places : List ℕ) → List Head → List End → List Entry → (letters : ℕ) → (before : List ℕ) → List ℕ
+abbrev pub above : (places : List ℕ) → List ColumnHead → List End → List Entry → (letters : ℕ) → (before : List ℕ) → List ℕ
 above places hs columns es letters before =
     svg_opening (7 * letters) (row_below (length es) + 132) ++ elements_text (drawn_heads places 18 0 hs) ++ elements_text (lifelines places (row_below (length es)) 0 columns)
     ++ elements_text (note_before before) ++ elements_text (arrows hs places columns 30 0 es)
 
-abbrev pub foot : (places : List ℕ) → List Head → List End → (bottom count : ℕ) → List Footing → (letters : ℕ) → (after ending circle : List ℕ) → List ℕ
+abbrev pub foot : (places : List ℕ) → List ColumnHead → List End → (bottom count : ℕ) → List Footing → (letters : ℕ) → (after ending circle : List ℕ) → List ℕ
 foot places hs columns bottom count ss letters after ending circle =
     elements_text (drawn_feet places columns bottom ss) ++ elements_text (heads_again hs places bottom count) ++ elements_text (note (bottom + 80) ending)
     ++ elements_text (note (bottom + 98) after) ++ elements_text (note_circle letters bottom circle) ++ codes "</svg>\n"
 
 -- these communications, these feet and these notes, in columns that have these heads
-abbrev pub picture : List Head → List End → List Entry → List Footing → (before after ending circle : List ℕ) → List ℕ
+abbrev pub picture : List ColumnHead → List End → List Entry → List Footing → (before after ending circle : List ℕ) → List ℕ
 picture hs columns es ss before after ending circle =
-    above (places_of hs) hs columns es (letters_of (places_of hs) before after ending) before
-    ++ foot (places_of hs) hs columns (row_below (length es)) (length es) ss (letters_of (places_of hs) before after ending) after ending circle
+    above (places_of hs) hs columns es (picture_letters (places_of hs) before after ending) before
+    ++ foot (places_of hs) hs columns (row_below (length es)) (length es) ss (picture_letters (places_of hs) before after ending) after ending circle
 
 -- how many are not drawn, since both ends are left out
 abbrev pub among_others : List Bool → List Entry → ℕ
@@ -218,23 +219,31 @@ pub record IsChart (all : List Entry) (left : List Bool) (part : Part) (ending :
   pub are : AreColumns (shown_of part es) ss columns
   pub is :
       bytes
-      ≡ picture (heads_of names left ss columns) columns (shown_of part es) ss (before_words (before_of part (length es)) (is_cut part (length es)))
+      ≡ picture (heads_over names left ss columns) columns (shown_of part es) ss (before_words (before_of part (length es)) (is_cut part (length es)))
       (after_words (after_of part (length es)) (is_cut part (length es))) (ending_words ending (among_others left all)) circle
 
 -- a chart of what code has
-abbrev pub IsChartOf : {A : Type 0} → List Channel → List Communication → List Bool → Part → Ending → List (Vec ℕ A) → List Footing → List ℕ → Vec ℕ A → Type 0
-IsChartOf cs trace left part ending names ss circle bytes = IsChart (entries_in cs trace) left part ending (texts_of names) ss circle bytes.items
+abbrev pub ChartOf : {A : Type 0} → List Channel → List Communication → List Bool → Part → Ending → List (Vec ℕ A) → List Footing → List ℕ → Vec ℕ A → Type 0
+ChartOf cs trace left part ending names ss circle bytes = IsChart (entries_in cs trace) left part ending (texts_of names) ss circle bytes.items
 
 -- ---- what the code does; private contracts alone cite it
 
 -- the heads were put behind a text again in a row, where none is left before them
-abbrev pub PutsBreak : {X E A : Type 0} → Result X E → Vec ℕ A → Vec ℕ A → List Head → (places : List ℕ) → (left i : ℕ) → Type 0
+abbrev pub PutsBreak : {X E A : Type 0} → Result X E → Vec ℕ A → Vec ℕ A → List ColumnHead → (places : List ℕ) → (left i : ℕ) → Type 0
 PutsBreak done old new hs places left i = OnOk done (AddsElements old new (break hs places left i))
 
 -- the arrows were put behind a text
-abbrev pub PutsArrows : {X E A : Type 0} → Result X E → Vec ℕ A → Vec ℕ A → List Head → (places : List ℕ) → List End → List Entry → Type 0
+abbrev pub PutsArrows : {X E A : Type 0} → Result X E → Vec ℕ A → Vec ℕ A → List ColumnHead → (places : List ℕ) → List End → List Entry → Type 0
 PutsArrows done old new hs places columns es = OnOk done (AddsElements old new (arrows hs places columns 30 0 es))
 
 -- the foot was put behind a text
-abbrev pub PutsFoot : {X E A : Type 0} → Result X E → Vec ℕ A → Vec ℕ A → List ℕ → Type 0
-PutsFoot done old new text = OnOk done (AddsText old new text)
+abbrev pub PutsFoot : {X E A : Type 0} → Result X E → Vec ℕ A → Vec ℕ A → (places : List ℕ) → List ColumnHead → List End → (count : ℕ) → List Footing → (letters : ℕ) → Notes → (circle : List ℕ) → Type 0
+PutsFoot done old new places hs columns count ss letters notes circle =
+    OnOk done (AddsText old new (foot places hs columns (row_below count) count ss letters notes.after.items notes.ending.items circle))
+
+abbrev pub letters_with : (places : List ℕ) → Notes → ℕ
+letters_with places notes = picture_letters places notes.before.items notes.after.items notes.ending.items
+
+-- a text is a picture with these notes
+abbrev pub IsPicture : {A : Type 0} → List ColumnHead → List End → List Entry → List Footing → Notes → (circle : List ℕ) → Vec ℕ A → Type 0
+IsPicture hs columns es ss notes circle bytes = bytes.items ≡ picture hs columns es ss notes.before.items notes.after.items notes.ending.items circle

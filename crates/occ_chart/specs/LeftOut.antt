@@ -1,7 +1,9 @@
 -- Which processes have no column of their own, and what is drawn of a run then.
 -- Manual: nothing; this is (own).
-use Rattle.std.specs.Prelude.{Bool, List, [], false, if◌then◌else◌, slice_get, true, unwrap_or, ℕ, ◌&&◌, ◌+◌, ◌∷◌}
+use Rattle.std.specs.Prelude.{Bool, List, [], drop, false, if◌then◌else◌, slice_get, take, unwrap_or, ℕ, ◌&&◌, ◌+◌, ◌∷◌}
 use Rattle.occ_board.specs.Entries.{entry}
+use Rattle.occ_shown.specs.Answers.{entries_in}
+use Rattle.occ_term.specs.declared.names.Channel.{Channel}
 use Rattle.occ_term.specs.declared.communication.End.{End}
 use Rattle.occ_term.specs.declared.communication.End.TheVariants.{Process as OfProcess, Keyboard, Screen, Error}
 use Rattle.occ_term.specs.declared.communication.Communication.{Communication}
@@ -58,3 +60,7 @@ is_between_others left x = is_other left x.sender && is_other left x.receiver
 abbrev pub count_seen : List Bool → List Communication → ℕ
 count_seen left [] = 0
 count_seen left (x ∷ xs) = if is_between_others left x then count_seen left xs else count_seen left xs + 1
+
+-- so many of those that are seen, behind so many
+abbrev pub listed : List Bool → (skipped count : ℕ) → List Channel → List Communication → List Entry
+listed left skipped count cs xs = take count (drop skipped (seen_entries left (entries_in cs xs)))

@@ -1,17 +1,17 @@
 //! The sequence chart of a run, in SVG.
 ghost use Rattle.std.specs.Prelude.{◌≡◌, ◌≤◌, ◌^◌, IfOk, OnOk, length};
-ghost use Rattle.occ_chart.specs.Charts.{IsChartOf, PutsFoot, above, after_of, after_words, before_of, before_words, ending_words, foot, is_cut, picture, row_below, svg_opening};
+ghost use Rattle.occ_chart.specs.Charts.{ChartOf, IsPicture, PutsFoot, above, after_of, after_words, before_of, before_words, ending_words, is_cut, row_below, svg_opening};
 ghost use Rattle.occ_chart.specs.Heads.{AreNear};
 ghost use Rattle.occ_shown.specs.Answers.{AddsText, HasBytes};
 
 use crate::arrows::{row, rows_of, write_arrows};
 use crate::columns::columns;
 use crate::feet::write_feet;
-use crate::headings::{Head, heads_of};
+use crate::headings::{Head, heads_over};
 use crate::heads::{write_heads, write_heads_again, write_lifelines};
 use crate::left_out::seen_feet;
 use crate::notes::{
-    Notes, after_words, before_words, ending_words, letters_of, write_before, write_circle,
+    Notes, after_words, before_words, ending_words, picture_letters, write_before, write_circle,
     write_note,
 };
 use crate::part::{Part, count_seen, listed};
@@ -93,9 +93,8 @@ fn write_below(
 ) -> Result<(), AllocError>
     requires places { AreNear places.now }
     requires near { count ≤ 990 }
-    ensures { PutsFoot result out.old out.new (foot places.now heads.now columns.now
-        (row_below count) count stubs.now letters notes.now.after.items notes.now.ending.items
-        circle.now) }
+    ensures { PutsFoot result out.old out.new places.now heads.now columns.now count stubs.now
+        letters notes.now circle.now }
 {
     let bottom = row_below(count);
     write_feet(alloc, out, places, columns, bottom, stubs)?;
@@ -118,12 +117,12 @@ fn picture(
 ) -> Result<Vec<u8>, AllocError>
     requires few { length heads.now ≤ 2 ^ 40 }
     requires near { length shown.now ≤ 990 }
-    ensures { IfOk result (HasBytes (picture heads.now columns.now shown.now stubs.now
-        notes.now.before.items notes.now.after.items notes.now.ending.items circle.now)) }
+    ensures { IfOk result
+        (IsPicture heads.now columns.now shown.now stubs.now notes.now circle.now) }
 {
     let standing = places_of(alloc, heads)?;
     let places = standing.as_slice();
-    let letters = letters_of(places, notes);
+    let letters = picture_letters(places, notes);
     let before = notes.before.as_slice();
     let mut out = above(alloc, places, heads, columns, shown, letters, before)?;
     let count = shown.len();
@@ -181,8 +180,8 @@ pub fn chart(
     stubs: &[Stub],
     circle: &[u32],
 ) -> Result<Vec<u8>, AllocError>
-    ensures { IfOk result (IsChartOf channels.now trace.now left_out.now part ending names.now
-        stubs.now circle.now) }
+    ensures { IfOk result
+        (ChartOf channels.now trace.now left_out.now part ending names.now stubs.now circle.now) }
 {
     let entries = trace.entries();
     let all = count_seen(&entries, left_out);
@@ -193,7 +192,7 @@ pub fn chart(
     let (shown, feet) = (list.as_slice(), standing.as_slice());
     let found = columns(alloc, shown, feet)?;
     let columns = found.as_slice();
-    let over = heads_of(alloc, names, left_out, feet, columns)?;
+    let over = heads_over(alloc, names, left_out, feet, columns)?;
     let notes = notes_of(alloc, part, all, among, ending)?;
     picture(alloc, over.as_slice(), columns, shown, feet, &notes, circle)
 }

@@ -1,6 +1,6 @@
 //! What stands over a column.
-ghost use Rattle.std.specs.Prelude.{◌≡◌, IfOk};
-ghost use Rattle.occ_chart.specs.Heads.{foot_letters, head, head_of, heads_of, others_words};
+ghost use Rattle.std.specs.Prelude.{◌≡◌, IfOk, length};
+ghost use Rattle.occ_chart.specs.Heads.{foot_letters, head, head_over, heads_in, others_words};
 ghost use Rattle.occ_chart.specs.Labels.{texts_of};
 
 use crate::columns::is_end;
@@ -29,9 +29,9 @@ impl Drop for Head {
 }
 
 impl Model for Head {
-    ghost use Rattle.occ_chart.specs.Heads.{Head as Over, head};
+    ghost use Rattle.occ_chart.specs.Heads.{ColumnHead, head};
 
-    ghost Value = { Over };
+    ghost Value = { ColumnHead };
 
     ghost view = { λ h. head h.name.items h.below.items h.foot };
 }
@@ -95,7 +95,7 @@ fn others_words(alloc: Global, count: usize) -> Result<Vec<u8>, AllocError>
 }
 
 /// What stands over the column of an end.
-fn head_of(
+fn head_over(
     alloc: Global,
     names: &[Vec<u8>],
     left_out: &[bool],
@@ -103,7 +103,7 @@ fn head_of(
     end: End,
 ) -> Result<Head, AllocError>
     ensures { IfOk result
-        (λ h. h ≡ head_of (texts_of names.now) left_out.now stubs.now end) }
+        (λ h. h ≡ head_over (texts_of names.now) left_out.now stubs.now end) }
 {
     let foot = foot_letters(stubs, end);
     if is_end(end, End::Process(OTHERS)) {
@@ -116,20 +116,21 @@ fn head_of(
 }
 
 /// What stands over each column.
-pub(crate) fn heads_of(
+pub(crate) fn heads_over(
     alloc: Global,
     names: &[Vec<u8>],
     left_out: &[bool],
     stubs: &[Stub],
     columns: &[End],
 ) -> Result<Vec<Head>, AllocError>
-    ensures { IfOk result (λ heads.
-        heads.items ≡ heads_of (texts_of names.now) left_out.now stubs.now columns.now) }
+    ensures are { IfOk result (λ heads.
+        heads.items ≡ heads_in names.now left_out.now stubs.now columns.now) }
+    ensures many { IfOk result (λ heads. length heads.items ≡ length columns.now) }
 {
     let mut heads = Vec::new(alloc);
     let mut rest = columns;
     while let Some((first, others)) = rest.split_first() {
-        heads.push(head_of(alloc, names, left_out, stubs, *first)?)?;
+        heads.push(head_over(alloc, names, left_out, stubs, *first)?)?;
         rest = others;
     }
     Ok(heads)

@@ -1,6 +1,6 @@
 //! What is noted beside the arrows of a chart.
 ghost use Rattle.std.specs.Prelude.{◌≡◌, ◌++◌, ◌+◌, ◌-◌, ◌≤◌, ◌^◌, ◌∷◌, [], IfOk, OnOk, codes, length, max, min};
-ghost use Rattle.occ_chart.specs.Charts.{after_words, among_words, before_words, circle_label, circle_words, cut_words, ending_words, letters_of, note, note_before, note_circle};
+ghost use Rattle.occ_chart.specs.Charts.{after_words, among_words, before_words, circle_label, circle_words, cut_words, ending_words, letters_with, note, note_before, note_circle};
 ghost use Rattle.occ_chart.specs.Heads.{AreNear};
 ghost use Rattle.occ_chart.specs.Xml.{AddsElement, AddsElements};
 
@@ -86,10 +86,9 @@ pub(crate) fn ending_words(
 }
 
 /// How wide a picture with these notes is, in letters.
-pub(crate) fn letters_of(places: &[u64], notes: &Notes) -> usize
+pub(crate) fn picture_letters(places: &[u64], notes: &Notes) -> usize
     requires { AreNear places.now }
-    ensures is { result
-        ≡ letters_of places.now notes.now.before.items notes.now.after.items notes.now.ending.items }
+    ensures is { result ≡ letters_with places.now notes.now }
     ensures near { result ≤ 2 ^ 47 }
 {
     let longest = notes

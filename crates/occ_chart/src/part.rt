@@ -1,8 +1,7 @@
 //! Which communications of a run are drawn.
-ghost use Rattle.std.specs.Prelude.{◌≡◌, ◌≤◌, IfOk, drop, length, take};
+ghost use Rattle.std.specs.Prelude.{◌≡◌, ◌≤◌, IfOk, length};
 ghost use Rattle.occ_chart.specs.Charts.{asked, drawn_of, if_first, if_last, is_cut};
-ghost use Rattle.occ_chart.specs.LeftOut.{count_seen, seen_entries};
-ghost use Rattle.occ_shown.specs.Answers.{entries_in};
+ghost use Rattle.occ_chart.specs.LeftOut.{count_seen, listed};
 
 use crate::left_out::{is_between_others, seen};
 use occ_board::Shown;
@@ -94,9 +93,9 @@ pub(crate) fn listed(
     count: usize,
     channels: &[Channel],
 ) -> Result<Vec<Shown>, AllocError>
-    ensures { IfOk result (λ list. list.items
-        ≡ take count (drop skipped
-        (seen_entries left_out.now (entries_in channels.now communications.now)))) }
+    ensures are { IfOk result
+        (λ list. list.items ≡ listed left_out.now skipped count channels.now communications.now) }
+    ensures few { IfOk result (λ list. length list.items ≤ count) }
 {
     let mut list = Vec::new(alloc);
     let mut number = 0;

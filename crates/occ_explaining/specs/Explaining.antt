@@ -24,7 +24,7 @@ use Rattle.occ_explain.specs.Places.{IsNear, IsPlace, line_numbered}
 use Rattle.occ_explain.specs.Explanations.{explained_text}
 use Rattle.occ_chart.specs.declared.part.Part.{Part}
 use Rattle.occ_explaining.specs.Charting.{IsRunChart}
-use Rattle.occ_explaining.specs.Headings.{first_headings, left_out_of}
+use Rattle.occ_explaining.specs.ColumnNames.{column_names, left_out_of}
 use Rattle.occ_places.specs.Places.{Fits, Known}
 use Rattle.occ_steps.specs.Steps.{IsSteps}
 use Rattle.occ_report.specs.Reports.{IsCircleOf, IsReport}
@@ -135,7 +135,7 @@ pub record IsNamedChart (options : Options) (source keyboard : List ℕ) (list :
   pub circle : List ℕ
   pub waits : IsCircleOf (meaning unfolded) program keyboard list circle
   pub names : List (List ℕ)
-  pub called : names ≡ first_headings known (min (length program.bodies) 4294967295)
+  pub called : names ≡ column_names known (min (length program.bodies) 4294967295)
   pub chart : IsRunChart options source keyboard list (left_out_of only without names) part names circle bytes
 
 -- The turns of the run of a source by these choices, with the lines of the table at which processes stand.

@@ -5,6 +5,6 @@ pub mod Typing
 pub mod Objects
 pub mod Unreached
 pub mod Traced
-pub mod Headings
+pub mod ColumnNames
 pub mod Charting
 pub mod Studied

@@ -9,7 +9,7 @@ use Rattle.occ_net_replay.specs.declared.choice.Choice.{Choice}
 use Rattle.occ_play.specs.declared.playing.Options.{Options}
 use Rattle.occ_term.specs.UnfoldedProgram.{UnfoldedProgram, meaning}
 use Rattle.occ_explaining.specs.Explaining.{IsKnown, IsNamedChart, ReportsOn, StepsOf}
-use Rattle.occ_explaining.specs.Headings.{first_headings, nameless}
+use Rattle.occ_explaining.specs.ColumnNames.{column_names, nameless}
 use Rattle.occ_explaining.specs.Shown.{IsShownRun, NamesOf, PageOf}
 use Rattle.occ_explaining.specs.Traced.{IsTraced}
 use Rattle.occ_explaining.specs.Typing.{PastOf}
@@ -41,7 +41,7 @@ ChartsBy s keyboard list part only without bytes = ForSource s (λ options sourc
 
 -- the first word, if any, that names none of its processes
 abbrev pub NamesNone : Studied → List (Bor (List ℕ)) → Option (List ℕ) → Type 0
-NamesNone s words word = word ≡ nameless (first_headings s.places (min (length s.code.bodies) 4294967295)) words
+NamesNone s words word = word ≡ nameless (column_names s.places (min (length s.code.bodies) 4294967295)) words
 
 abbrev pub NamesBy : {A : Type 0} → Studied → Vec ℕ A → Type 0
 NamesBy s bytes = ForSource s (λ options source. NamesOf options source bytes.items)

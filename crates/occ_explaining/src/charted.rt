@@ -4,7 +4,7 @@ ghost use Rattle.occ_explaining.specs.Charting.{IsReplayChartOf};
 ghost use Rattle.occ_explaining.specs.Studied.{ChartsBy};
 
 use crate::feet::feet;
-use crate::headings::{MOST_NAMED, headings, left_out};
+use crate::column_names::{MOST_NAMED, column_names, left_out};
 use crate::reported::plan_of;
 use crate::studied::Studied;
 use occ_chart::Part;
@@ -43,20 +43,12 @@ pub fn chart_of(
     let uses = studied.uses.as_slice();
     let circle = circle_of(alloc, code, uses, keyboard, &plan)?;
     let count = code.len().min(MOST_NAMED) as u32;
-    let names = headings(alloc, &studied.places, count)?;
+    let names = column_names(alloc, &studied.places, count)?;
     let members = circle.as_slice();
     let heads = names.as_slice();
-    let left = left_out(alloc, heads, only, without)?;
-    let bytes = drawn(
-        alloc,
-        code,
-        keyboard,
-        &plan,
-        left.as_slice(),
-        part,
-        heads,
-        members,
-    )?;
+    let chosen = left_out(alloc, heads, only, without)?;
+    let left = chosen.as_slice();
+    let bytes = drawn(alloc, code, keyboard, &plan, left, part, heads, members)?;
     Ok(bytes)
 }
 

@@ -6,9 +6,9 @@
 #![tactic(auto)]
 
 pub mod charted;
+pub mod column_names;
 mod feet;
 pub mod files;
-pub mod headings;
 pub mod keyboard;
 pub mod objects;
 pub mod paged;
@@ -22,8 +22,8 @@ pub mod tracing;
 pub mod unreached;
 
 pub use charted::chart_of;
+pub use column_names::nameless;
 pub use files::{Files, beginnings};
-pub use headings::nameless;
 pub use keyboard::may_input;
 pub use objects::refusal_object;
 pub use paged::{page_of, run_texts};

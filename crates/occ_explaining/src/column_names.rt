@@ -1,6 +1,6 @@
 //! What processes are called over a chart, and which of them have a column of their own.
 ghost use Rattle.std.specs.Prelude.{◌≡◌, IfOk, map, option_map};
-ghost use Rattle.occ_explaining.specs.Headings.{first_headings, heading_of, is_named_among, is_named_by, leaves_out, left_out_of, line_or, nameless, names_some};
+ghost use Rattle.occ_explaining.specs.ColumnNames.{column_names, column_name, is_named_among, is_word_for, leaves_out, left_out_of, line_or, nameless, names_some};
 ghost use Rattle.occ_explaining.specs.Studied.{NamesNone};
 ghost use Rattle.occ_chart.specs.Labels.{texts_of};
 
@@ -25,8 +25,8 @@ fn line_or(alloc: Global, name: &[u8], stops: &[Stop]) -> Result<Vec<u8>, AllocE
 }
 
 /// What a process is called: by its PROC, and by its line where that is the main one.
-fn heading_of(alloc: Global, places: &Places, number: u32) -> Result<Vec<u8>, AllocError>
-    ensures { IfOk result (λ text. text.items ≡ heading_of places.now number) }
+fn column_name(alloc: Global, places: &Places, number: u32) -> Result<Vec<u8>, AllocError>
+    ensures { IfOk result (λ text. text.items ≡ column_name places.now number) }
 {
     let name = places.name(number);
     if number > 0 && name == places.name(0) {
@@ -37,24 +37,24 @@ fn heading_of(alloc: Global, places: &Places, number: u32) -> Result<Vec<u8>, Al
 }
 
 /// What the first so many processes are called.
-pub(crate) fn headings(
+pub(crate) fn column_names(
     alloc: Global,
     places: &Places,
     count: u32,
 ) -> Result<Vec<Vec<u8>>, AllocError>
     ensures { IfOk result
-        (λ names. map (λ v. v.items) names.items ≡ first_headings places.now count) }
+        (λ names. map (λ v. v.items) names.items ≡ column_names places.now count) }
 {
     let mut names = Vec::new(alloc);
     for number in 0..count {
-        names.push(heading_of(alloc, places, number)?)?;
+        names.push(column_name(alloc, places, number)?)?;
     }
     Ok(names)
 }
 
 /// Whether a word names the process of this name and this number.
-fn is_named_by(alloc: Global, name: &[u8], number: usize, word: &str) -> Result<bool, AllocError>
-    ensures { IfOk result (λ named. named ≡ is_named_by name.now number word.entry) }
+fn is_word_for(alloc: Global, name: &[u8], number: usize, word: &str) -> Result<bool, AllocError>
+    ensures { IfOk result (λ named. named ≡ is_word_for name.now number word.entry) }
 {
     let text = format!(in alloc; "{number}")?;
     let behind = format!(in alloc; "p{number}")?;
@@ -73,7 +73,7 @@ fn is_named_among(
 {
     let mut rest = words;
     while let Some((first, others)) = rest.split_first() {
-        if is_named_by(alloc, name, number, first)? {
+        if is_word_for(alloc, name, number, first)? {
             return Ok(true);
         }
         rest = others;
@@ -126,7 +126,7 @@ fn names_some(alloc: Global, names: &[Vec<u8>], word: &str) -> Result<bool, Allo
     let mut number = 0;
     let mut rest = names;
     while let Some((first, others)) = rest.split_first() {
-        if is_named_by(alloc, first.as_slice(), number, word)? {
+        if is_word_for(alloc, first.as_slice(), number, word)? {
             return Ok(true);
         }
         number += 1;
@@ -148,7 +148,7 @@ pub fn nameless<'w>(
     ensures { IfOk result (λ word. NamesNone studied.now words.now (option_map (λ w. w.now) word)) }
 {
     let count = studied.code.len().min(MOST_NAMED) as u32;
-    let names = headings(alloc, &studied.places, count)?;
+    let names = column_names(alloc, &studied.places, count)?;
     let mut rest = words;
     while let Some((first, others)) = rest.split_first() {
         if !names_some(alloc, names.as_slice(), first)? {

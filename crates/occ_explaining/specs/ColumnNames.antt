@@ -16,26 +16,26 @@ line_or name [] = name
 line_or name (s ∷ ss) = codes "line " ++ decimal s.line
 
 -- by the PROC; a branch in the body of the main process, which has none of its own, by its line
-abbrev pub heading_of : List Known → ℕ → List ℕ
-heading_of known n = if nat_lt 0 n && bytes_eq (name_of known n) (name_of known 0) then line_or (name_of known n) (stops_of known n) else name_of known n
+abbrev pub column_name : List Known → ℕ → List ℕ
+column_name known n = if nat_lt 0 n && bytes_eq (name_of known n) (name_of known 0) then line_or (name_of known n) (stops_of known n) else name_of known n
 
 -- the first so many
-abbrev pub first_headings : List Known → ℕ → List (List ℕ)
-first_headings known zero = []
-first_headings known (suc n) = first_headings known n ++ heading_of known n ∷ []
+abbrev pub column_names : List Known → ℕ → List (List ℕ)
+column_names known zero = []
+column_names known (suc n) = column_names known n ++ column_name known n ∷ []
 
 -- ---- who is named by a word: as `worker`, `3` or `p3`
 
-abbrev pub is_named_by : (name : List ℕ) → (n : ℕ) → Bor (List ℕ) → Bool
-is_named_by name n word = bytes_eq word.now name || bytes_eq word.now (decimal n) || bytes_eq word.now (112 ∷ decimal n)
+abbrev pub is_word_for : (name : List ℕ) → (n : ℕ) → Bor (List ℕ) → Bool
+is_word_for name n word = bytes_eq word.now name || bytes_eq word.now (decimal n) || bytes_eq word.now (112 ∷ decimal n)
 
 abbrev pub is_named_among : List (Bor (List ℕ)) → (name : List ℕ) → (n : ℕ) → Bool
-is_named_among words name n = list_any (is_named_by name n) words
+is_named_among words name n = list_any (is_word_for name n) words
 
 -- a word that names one of these at least, of which the first has this number
 abbrev pub names_some : ℕ → List (List ℕ) → Bor (List ℕ) → Bool
 names_some n [] word = false
-names_some n (name ∷ names) word = is_named_by name n word || names_some (n + 1) names word
+names_some n (name ∷ names) word = is_word_for name n word || names_some (n + 1) names word
 
 -- the first word that names none
 abbrev pub nameless : List (List ℕ) → List (Bor (List ℕ)) → Option (List ℕ)
