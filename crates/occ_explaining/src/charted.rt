@@ -3,8 +3,8 @@ ghost use Rattle.std.specs.Prelude.{IfOk};
 ghost use Rattle.occ_explaining.specs.Charting.{IsReplayChartOf};
 ghost use Rattle.occ_explaining.specs.Studied.{ChartsBy};
 
-use crate::feet::feet;
 use crate::column_names::{MOST_NAMED, column_names, left_out};
+use crate::feet::feet;
 use crate::reported::plan_of;
 use crate::studied::Studied;
 use occ_chart::Part;

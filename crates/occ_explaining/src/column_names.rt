@@ -1,5 +1,6 @@
 //! What processes are called over a chart, and which of them have a column of their own.
-ghost use Rattle.std.specs.Prelude.{◌≡◌, IfOk, map, option_map};
+ghost use Rattle.std.specs.Prelude.{◌≡◌, IfOk, map};
+ghost use Rattle.std.specs.Option.{option_copied};
 ghost use Rattle.occ_explaining.specs.ColumnNames.{column_names, column_name, is_named_among, is_word_for, leaves_out, left_out_of, line_or, nameless, names_some};
 ghost use Rattle.occ_explaining.specs.Studied.{NamesNone};
 ghost use Rattle.occ_chart.specs.Labels.{texts_of};
@@ -145,7 +146,7 @@ pub fn nameless<'w>(
     alloc: Global,
     words: &[&'w str],
 ) -> Result<Option<&'w str>, AllocError>
-    ensures { IfOk result (λ word. NamesNone studied.now words.now (option_map (λ w. w.now) word)) }
+    ensures { IfOk result (λ word. NamesNone studied.now words.now (option_copied word)) }
 {
     let count = studied.code.len().min(MOST_NAMED) as u32;
     let names = column_names(alloc, &studied.places, count)?;
