@@ -27,6 +27,26 @@ count_is left names n (x ∷ xs) = by (is_between_others left x) (count_is left 
     by true h = h
     by false h = let one : count_seen left xs + 1 ≡ suc (count_seen left xs) = omega arith in one ∙ ap (λ k. suc k) h
 
+-- a loop's step: one more of those that are seen is listed
+pub list_next : (left : List Bool) (names : Names) (i wanted before : ℕ) (list new : List Entry) (x : Communication) (iter xs : List Communication) (e : Entry) (w : List Entry)
+    → iter ≡ x ∷ xs → is_between_others left x ≡ false → 0 < wanted → before ≡ 0 → e ≡ seen_entry left (entry_of names i x) → new ≡ list ++ e ∷ []
+    → list ++ take wanted (drop before (seen_entries left (entries names i iter))) ≡ w
+    → new ++ take (wanted - 1) (drop before (seen_entries left (entries names (i + 1) xs))) ≡ w
+list_next left names i zero before list new x iter xs e w split plain some none is put h = absurd (omega (arith, some))
+list_next left names i (suc k) before list new x iter xs e w split plain some none is put h =
+    let rest : List Entry = seen_entries left (entries names (i + 1) xs) in
+    let first : seen_entries left (entries names i iter) ≡ seen_entry left (entry_of names i x) ∷ rest =
+    ap (λ ys. seen_entries left (entries names i ys)) split ∙ ap (λ b. if b then rest else seen_entry left (entry_of names i x) ∷ rest) plain in
+    let less : suc k - 1 ≡ k = omega arith in
+    ap (λ n. new ++ take n (drop before rest)) less
+    ∙ ap (λ m. new ++ take k (drop m rest)) none
+    ∙ ap (λ l. l ++ take k rest) put
+    ∙ append_assoc list (e ∷ []) (take k rest)
+    ∙ ap (λ y. list ++ y ∷ take k rest) is
+    ∙ sym (ap (λ ys. list ++ take (suc k) ys) first)
+    ∙ sym (ap (λ m. list ++ take (suc k) (drop m (seen_entries left (entries names i iter)))) none)
+    ∙ h
+
 pub four_more : (o a b c d x y z w : List ℕ) → x ≡ o ++ a → y ≡ x ++ b → z ≡ y ++ c → w ≡ z ++ d → w ≡ o ++ (((a ++ b) ++ c) ++ d)
 four_more o a b c d x y z w e f g h =
     h ∙ ap (λ l. l ++ d) (g ∙ ap (λ l. l ++ c) (f ∙ ap (λ l. l ++ b) e ∙ append_assoc o a b) ∙ append_assoc o (a ++ b) c)

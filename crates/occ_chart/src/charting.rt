@@ -194,5 +194,7 @@ pub fn chart(
     let columns = found.as_slice();
     let over = heads_over(alloc, names, left_out, feet, columns)?;
     let notes = notes_of(alloc, part, all, among, ending)?;
-    picture(alloc, over.as_slice(), columns, shown, feet, &notes, circle)
+    let heads = over.as_slice();
+    let bytes = picture(alloc, heads, columns, shown, feet, &notes, circle)?;
+    Ok(bytes)
 }
