@@ -11,6 +11,8 @@ complete -c occam -l typed -r -d 'Writes what was typed, as far as the run read 
 complete -c occam -l chart -r -d 'Draws the communications of the run into FILE, as a sequence chart in SVG'
 complete -c occam -l arrows -x -d 'Draws only the first N communications [default: 200]'
 complete -c occam -l last -x -d 'Draws only the last N communications'
+complete -c occam -l only -x -d 'Gives a column of their own only to processes of these names or numbers'
+complete -c occam -l without -x -d 'Gives no column of their own to processes of these names or numbers'
 complete -c occam -l trace -d 'Prints each communication below what the screen got'
 complete -c occam -l trace-to -r -d 'Writes the trace into FILE: each communication, and how the run ended'
 complete -c occam -l json -d 'Writes each of them, or what --check finds, as a line of JSON'

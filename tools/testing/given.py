@@ -38,13 +38,16 @@ WRONG = [
     # words of one run beside a search, or beside a check
     "--explore --limit=1", "--workers=2 --explore", "--explore --choices=c", "--explore --trace", "--explore --watch",
     "--explore --chart=s", "--explore --arrows=5", "--explore --steps=u", "--within=b.occ --page=p", "--explore --seed=1", "--explore --seed=1 --tries=2",
-    "--explore --trace-to=t", "--explore --json", "--explore --last=1", "--explore --live", "--explore --typed=t", "--check --explore", "--check --states=5", "--check --record=r",
-    "--check --trace", "--check --trace-to=t", "--check --trace-to=t --json", "--check --chart=s", "--check --arrows=5", "--check --last=5",
+    "--explore --trace-to=t", "--explore --json", "--explore --last=1", "--explore --only=0", "--explore --live", "--explore --typed=t", "--check --explore", "--check --states=5", "--check --record=r",
+    "--check --trace", "--check --trace-to=t", "--check --trace-to=t --json", "--check --chart=s", "--check --arrows=5", "--check --last=5", "--check --without=0",
     "--check --steps=u", "--check --page=p", "--check --seed=1", "--check --tries=2", "--check --choices=c", "--check --workers=2", "--check --watch",
     "--check --limit=1", "--check --live", "--check --typed=t",
     # words that exclude one another, and words that need another one
     "--chart=s --last=5 --arrows=5", "--seed=1 --workers=2", "--states=5", "--arrows=5", "--last=5", "--tries=2", "--json",
     "--live --workers=2", "--live --watch", "--live --seed=1 --tries=2",
+    "--only=0", "--without=0", "--chart=s --only=0 --without=main", "--chart=s --only=0 --only=main",
+    # a name or a number that no process has
+    "--chart=s --only=maim", "--chart=s --only=main,1", "--chart=s --without=p1", "--chart=s --without=main,", "--chart=s --without=00", "--live --chart=s --only=screen",
     # one file named twice
     "--record=x.occ", "--chart=x.occ", "--record=f --choices=f", "--chart=f --choices=f", "--record=f --chart=f", "--trace-to=x.occ",
     "--chart=f --trace-to=f", "--steps=x.occ", "--steps=f --trace-to=f", "--trace-to=c --choices=c", "--steps=c --choices=c",
@@ -58,7 +61,7 @@ ALLOWED = [
     "--chart=s.svg --arrows=0", "--explore", "--explore --page=p", "--explore=full", "--explore=endings --states=10000000 --quantum=7 --errors=stop --record=r",
     "--check", "--check --json", "--seed=1000000000 --tries=2 --trace-to=t --json --steps=u --chart=s --last=3", "--record=g --chart=h --steps=s --page=p",
     "--live", "--live --seed=3 --errors=stop --trace --explain --record=r --typed=k --trace-to=t --json --steps=u --chart=s --page=p",
-    "--typed=k --workers=2",
+    "--typed=k --workers=2", "--chart=s --only=main,0,p0", "--chart=s --without=0 --last=3", "--live --chart=s --without=main",
 ]
 
 

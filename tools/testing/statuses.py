@@ -462,7 +462,7 @@ def starving(program, room, source):
     lines = [re.fullmatch(r"(\d+) c\d+ (.*) (\S+>\S+) (.*)", line) for line in out.splitlines()]
     made = [line for line in lines if line]
     shapes = list(tree.parse(room / "a.svg").getroot())
-    over = [after.text for line, after in zip(shapes, shapes[1:]) if line.get("stroke") == "black"]
+    over = [after.text for line, after in zip(shapes, shapes[2:]) if line.get("stroke") == "black"]
     under = [after.text for line, after in zip(shapes, shapes[1:]) if line.get("stroke") == "red"]
     if status != 2 or over != [f"{line[1]}: {line[2]} {line[4]}" for line in made]:
         yield f"arrows: {over}"

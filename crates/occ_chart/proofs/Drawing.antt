@@ -1,51 +1,51 @@
 -- Which communications are drawn, and the parts of a chart.
-use Rattle.std.proofs.Common.{◌≡◌, ◌∙◌, ◌≤◌, ◌<◌, ◌*◌, true, false, ◌+◌, ◌-◌, ◌++◌, ◌&&◌, Bool, ℕ, zero, suc, List, [], ◌∷◌, drop, length, min, nat_lt, take, refl, sym, ap, subst, append_assoc, arith}
+use Rattle.std.proofs.Common.{◌≡◌, ◌∙◌, ◌≤◌, ◌<◌, ◌*◌, true, false, ◌+◌, ◌-◌, ◌++◌, Bool, ℕ, zero, suc, List, [], ◌∷◌, drop, length, take, refl, sym, ap, subst, append_assoc, arith}
 use Rattle.std.specs.Prelude.{nat_eq, if◌then◌else◌}
-use Rattle.std.proofs.lemmas.List.{length-drop, length-take}
-use Rattle.std.proofs.Math.Nat.{min-le_left, min-le_right}
 use Rattle.occ_term.specs.Runs.{Entry, Names, entries, entry_of}
 use Rattle.occ_term.specs.declared.communication.Communication.{Communication}
 use Rattle.occ_term.specs.declared.communication.End.{End}
 use Rattle.occ_term.specs.declared.ending.Ending.{Ending}
 use Rattle.occ_chart.specs.declared.part.Part.{Part}
-use Rattle.occ_chart.specs.declared.part.Part.TheVariants.{First, Last}
-use Rattle.occ_chart.specs.Charts.{IsChart, above, after_of, asked, before_of, drawn_of, foot, if_first, if_last, is_cut, not_drawn, most_arrows, places_of, shown_of, arrow, arrows, break, rows_left, row_behind, rows_of}
+use Rattle.occ_chart.specs.Charts.{IsChart, above, after_of, after_words, before_of, before_words, drawn_of, ending_words, foot, if_last, is_cut, picture_letters, picture, row_below, shown_of, arrow, arrows, break, rows_left, row_behind, rows_of}
 use Rattle.occ_chart.specs.Columns.{AreColumns, Footing}
+use Rattle.occ_chart.specs.Heads.{ColumnHead, heads_over, places_of}
+use Rattle.occ_chart.specs.LeftOut.{count_seen, is_between_others, seen_entries, seen_entry, seen_feet}
 use Rattle.occ_chart.specs.Xml.{Element, element_text, elements_text}
 
 pub entries_length : (names : Names) (n : ℕ) (xs : List Communication) → length (entries names n xs) ≡ length xs
 entries_length names n [] = refl
 entries_length names n (x ∷ xs) = ap (λ k. suc k) (entries_length names (n + 1) xs)
 
-entries_take : (names : Names) (k n : ℕ) (xs : List Communication) → take k (entries names n xs) ≡ entries names n (take k xs)
-entries_take names zero n xs = refl
-entries_take names (suc k) n [] = refl
-entries_take names (suc k) n (x ∷ xs) = ap (λ l. entry_of names n x ∷ l) (entries_take names k (n + 1) xs)
+-- the code counts what is seen
+pub count_is : (left : List Bool) (names : Names) (n : ℕ) (xs : List Communication) → count_seen left xs ≡ length (seen_entries left (entries names n xs))
+count_is left names n [] = refl
+count_is left names n (x ∷ xs) = by (is_between_others left x) (count_is left names (n + 1) xs)
+  where
+    by : (b : Bool) → count_seen left xs ≡ length (seen_entries left (entries names (n + 1) xs))
+        → (if b then count_seen left xs else count_seen left xs + 1)
+        ≡ length (if b then seen_entries left (entries names (n + 1) xs) else seen_entry left (entry_of names n x) ∷ seen_entries left (entries names (n + 1) xs))
+    by true h = h
+    by false h = let one : count_seen left xs + 1 ≡ suc (count_seen left xs) = omega arith in one ∙ ap (λ k. suc k) h
 
-pub first_shown : (names : Names) (xs : List Communication) (n count : ℕ) → count ≡ min (min n most_arrows) (length xs) → entries names 1 (take count xs) ≡ shown_of (First n) (entries names 1 xs)
-first_shown names xs n count is =
-    sym (entries_take names count 1 xs)
-    ∙ ap (λ k. take k (entries names 1 xs)) (is ∙ ap (min (min n most_arrows)) (sym (entries_length names 1 xs)))
-
-pub last_shown : (names : Names) (xs : List Communication) (n count : ℕ) → count ≡ min (min n most_arrows) (length xs) → drop (length xs - count) (entries names 1 xs) ≡ shown_of (Last n) (entries names 1 xs)
-last_shown names xs n count is =
-    ap (λ k. drop (length xs - k) (entries names 1 xs)) is
-    ∙ ap (λ k. drop (k - min (min n most_arrows) k) (entries names 1 xs)) (sym (entries_length names 1 xs))
-
-pub shown_few : (part : Part) (es : List Entry) → length (shown_of part es) ≤ 990
-shown_few (First n) es =
-    let k : ℕ = drawn_of (First n) es in
-    let one = min-le_left (min n most_arrows) (length es) in
-    let two = min-le_right n most_arrows in
-    let size = length-take k es in
-    let less = min-le_left k (length es) in
-    omega (arith, one, two, size, less)
-shown_few (Last n) es =
-    let k : ℕ = drawn_of (Last n) es in
-    let one = min-le_left (min n most_arrows) (length es) in
-    let two = min-le_right n most_arrows in
-    let size = length-drop (length es - k) es in
-    omega (arith, one, two, size)
+-- a loop's step: one more of those that are seen is listed
+pub list_next : (left : List Bool) (names : Names) (i wanted before : ℕ) (list new : List Entry) (x : Communication) (iter xs : List Communication) (e : Entry) (w : List Entry)
+    → iter ≡ x ∷ xs → is_between_others left x ≡ false → 0 < wanted → before ≡ 0 → e ≡ seen_entry left (entry_of names i x) → new ≡ list ++ e ∷ []
+    → list ++ take wanted (drop before (seen_entries left (entries names i iter))) ≡ w
+    → new ++ take (wanted - 1) (drop before (seen_entries left (entries names (i + 1) xs))) ≡ w
+list_next left names i zero before list new x iter xs e w split plain some none is put h = absurd (omega (arith, some))
+list_next left names i (suc k) before list new x iter xs e w split plain some none is put h =
+    let rest : List Entry = seen_entries left (entries names (i + 1) xs) in
+    let first : seen_entries left (entries names i iter) ≡ seen_entry left (entry_of names i x) ∷ rest =
+    ap (λ ys. seen_entries left (entries names i ys)) split ∙ ap (λ b. if b then rest else seen_entry left (entry_of names i x) ∷ rest) plain in
+    let less : suc k - 1 ≡ k = omega arith in
+    ap (λ n. new ++ take n (drop before rest)) less
+    ∙ ap (λ m. new ++ take k (drop m rest)) none
+    ∙ ap (λ l. l ++ take k rest) put
+    ∙ append_assoc list (e ∷ []) (take k rest)
+    ∙ ap (λ y. list ++ y ∷ take k rest) is
+    ∙ sym (ap (λ ys. list ++ take (suc k) ys) first)
+    ∙ sym (ap (λ m. list ++ take (suc k) (drop m (seen_entries left (entries names i iter)))) none)
+    ∙ h
 
 pub four_more : (o a b c d x y z w : List ℕ) → x ≡ o ++ a → y ≡ x ++ b → z ≡ y ++ c → w ≡ z ++ d → w ≡ o ++ (((a ++ b) ++ c) ++ d)
 four_more o a b c d x y z w e f g h =
@@ -53,43 +53,56 @@ four_more o a b c d x y z w e f g h =
     ∙ append_assoc o ((a ++ b) ++ c) d
 
 -- the parts of the code are known by what they are
-charted : (es shown : List Entry) (part : Part) (ending : Ending) (names : List (List ℕ)) (ss : List Footing) (circle : List ℕ) (columns : List End) (places : List ℕ) (all count left : ℕ) (top bytes : List ℕ)
-    → shown ≡ shown_of part es → all ≡ length es → count ≡ min (min (asked part) most_arrows) all → left ≡ all - count
-    → AreColumns shown ss columns → places ≡ places_of names ss columns
-    → top ≡ above places names columns shown (if_last part left) (is_cut part es)
-    → bytes ≡ top ++ foot places names columns (length shown) (if_first part left) (is_cut part es) ss circle ending
-    → IsChart es part ending names ss circle bytes
-charted es shown part ending names ss circle columns places all count left top bytes is many counted rest are wide first second =
-    let out : left ≡ not_drawn part es = rest ∙ ap (λ k. all - k) counted ∙ ap (λ k. k - min (min (asked part) most_arrows) k) many in
-    record {
-      columns = columns;
-      are = subst (λ xs. AreColumns xs ss columns) is are;
-      is =
-          second
-          ∙ ap (λ t. t ++ foot places names columns (length shown) (if_first part left) (is_cut part es) ss circle ending)
-          (first ∙ ap (λ k. above places names columns shown (if_last part k) (is_cut part es)) out ∙ ap (λ xs. above places names columns xs (before_of part es) (is_cut part es)) is)
-          ∙ ap (λ k. above places names columns (shown_of part es) (before_of part es) (is_cut part es) ++ foot places names columns (length shown) (if_first part k) (is_cut part es) ss circle ending) out
-          ∙ ap (λ xs. above places names columns (shown_of part es) (before_of part es) (is_cut part es) ++ foot places names columns (length xs) (after_of part es) (is_cut part es) ss circle ending) is
-          ∙ ap (λ ps. above ps names columns (shown_of part es) (before_of part es) (is_cut part es) ++ foot ps names columns (length (shown_of part es)) (after_of part es) (is_cut part es) ss circle ending) wide;
-    }
+pub pictured : (hs : List ColumnHead) (columns : List End) (es : List Entry) (ss : List Footing) (before before' after ending circle places places' : List ℕ) (letters count : ℕ) (top bytes : List ℕ)
+    → places ≡ places_of hs → places' ≡ places → letters ≡ picture_letters places' before after ending → before' ≡ before → count ≡ length es
+    → top ≡ above places' hs columns es letters before' → bytes ≡ top ++ foot places' hs columns (row_below count) count ss letters after ending circle
+    → bytes ≡ picture hs columns es ss before after ending circle
+pictured hs columns es ss before before' after ending circle places places' letters count top bytes stand own wide same many first second =
+    second
+    ∙ ap (λ t. t ++ foot places' hs columns (row_below count) count ss letters after ending circle) (first ∙ ap (above places' hs columns es letters) same)
+    ∙ ap (λ k. above places' hs columns es letters before ++ foot places' hs columns (row_below k) k ss letters after ending circle) many
+    ∙ ap (λ n. above places' hs columns es n before ++ foot places' hs columns (row_below (length es)) (length es) ss n after ending circle) wide
+    ∙ ap
+    (λ ps.
+    above ps hs columns es (picture_letters ps before after ending) before
+    ++ foot ps hs columns (row_below (length es)) (length es) ss (picture_letters ps before after ending) after ending circle)
+    (own ∙ stand)
 
--- the same, where the lists are known by what they are
-pub charted_by : (es shown shown' : List Entry) (part : Part) (ending : Ending) (names : List (List ℕ)) (ss : List Footing) (circle : List ℕ) (columns columns' : List End) (places places' : List ℕ) (all count left before after size : ℕ) (high : Bool) (top bytes : List ℕ)
-    → shown ≡ shown_of part es → shown' ≡ shown → all ≡ length es → count ≡ min (min (asked part) most_arrows) all → left ≡ all - count
-    → AreColumns shown' ss columns → columns' ≡ columns → places ≡ places_of names ss columns' → places' ≡ places
-    → before ≡ if_last part left → after ≡ if_first part left → high ≡ nat_lt most_arrows (asked part) && nat_lt most_arrows all → size ≡ length shown'
-    → top ≡ above places' names columns' shown' before high
-    → bytes ≡ top ++ foot places' names columns' size after high ss circle ending
-    → IsChart es part ending names ss circle bytes
-charted_by es shown shown' part ending names ss circle columns columns' places places' all count left before after size high top bytes is one many counted rest are own wide there five six seven eight first second =
-    let cut : high ≡ is_cut part es = seven ∙ ap (λ k. nat_lt most_arrows (asked part) && nat_lt most_arrows k) many in
-    charted es shown' part ending names ss circle columns' places' all count left top bytes (one ∙ is) many counted rest (subst (λ cs. AreColumns shown' ss cs) (sym own) are)
-    (there ∙ wide)
-    (first ∙ ap (λ k. above places' names columns' shown' k high) five ∙ ap (λ b. above places' names columns' shown' (if_last part left) b) cut)
-    (second
-    ∙ ap (λ k. top ++ foot places' names columns' k after high ss circle ending) eight
-    ∙ ap (λ k. top ++ foot places' names columns' (length shown') k high ss circle ending) six
-    ∙ ap (λ b. top ++ foot places' names columns' (length shown') (if_first part left) b ss circle ending) cut)
+pub charted : (all : List Entry) (left : List Bool) (part : Part) (ending : Ending) (names : List (List ℕ)) (standing ss ss' : List Footing) (circle : List ℕ) (shown shown' : List Entry) (columns columns' : List End) (hs hs' : List ColumnHead) (count drawn skipped among : ℕ) (before after noted bytes : List ℕ)
+    → count ≡ length (seen_entries left all) → drawn ≡ drawn_of part count → skipped ≡ if_last part (count - drawn)
+    → shown ≡ take drawn (drop skipped (seen_entries left all)) → shown' ≡ shown → ss ≡ seen_feet left standing → ss' ≡ ss
+    → AreColumns shown' ss' columns → columns' ≡ columns → hs ≡ heads_over names left ss' columns' → hs' ≡ hs → among ≡ length all - count
+    → before ≡ before_words (before_of part count) (is_cut part count) → after ≡ after_words (after_of part count) (is_cut part count) → noted ≡ ending_words ending among
+    → bytes ≡ picture hs' columns' shown' ss' before after noted circle
+    → IsChart all left part ending names standing circle bytes
+charted all left part ending names standing ss ss' circle shown shown' columns columns' hs hs' count drawn skipped among before after noted bytes counted many behind list own feet same are there over heads rest one two three whole =
+    let es : List Entry = seen_entries left all in
+    let over' : List ColumnHead = heads_over names left ss' columns' in
+    let here : shown' ≡ shown_of part es =
+    own ∙ list
+    ∙ ap (λ k. take k (drop skipped es)) many
+    ∙ ap (λ k. take (drawn_of part count) (drop k es)) (behind ∙ ap (λ d. if_last part (count - d)) many)
+    ∙ ap (λ n. take (drawn_of part n) (drop (before_of part n) es)) counted in
+    record {
+      es = es;
+      seen = refl;
+      ss = ss';
+      stand = same ∙ feet;
+      columns = columns';
+      are = subst (λ xs. AreColumns xs ss' columns') here (subst (λ cs. AreColumns shown' ss' cs) (sym there) are);
+      is =
+          whole
+          ∙ ap (λ h. picture h columns' shown' ss' before after noted circle) (heads ∙ over)
+          ∙ ap (λ xs. picture over' columns' xs ss' before after noted circle) here
+          ∙ ap (λ b. picture over' columns' (shown_of part es) ss' b after noted circle) (one ∙ ap (λ n. before_words (before_of part n) (is_cut part n)) counted)
+          ∙ ap (λ a. picture over' columns' (shown_of part es) ss' (before_words (before_of part (length es)) (is_cut part (length es))) a noted circle)
+          (two ∙ ap (λ n. after_words (after_of part n) (is_cut part n)) counted)
+          ∙ ap
+          (λ e.
+          picture over' columns' (shown_of part es) ss' (before_words (before_of part (length es)) (is_cut part (length es)))
+          (after_words (after_of part (length es)) (is_cut part (length es))) e circle)
+          (three ∙ ap (ending_words ending) (rest ∙ ap (λ k. length all - k) counted));
+    }
 
 -- ---- texts of shapes behind one another
 
@@ -105,25 +118,25 @@ both_put o p q xs ys e f = f ∙ ap (λ t. t ++ elements_text ys) e ∙ append_a
 pub put_next : (o p w : List ℕ) (xs ys : List Element) → p ≡ o ++ elements_text xs → o ++ elements_text (xs ++ ys) ≡ w → p ++ elements_text ys ≡ w
 put_next o p w xs ys e f = ap (λ t. t ++ elements_text ys) e ∙ append_assoc o (elements_text xs) (elements_text ys) ∙ ap (λ t. o ++ t) (sym (elements_append xs ys)) ∙ f
 
-pub arrows_next : (o p q w : List ℕ) (names : List (List ℕ)) (places : List ℕ) (columns : List End) (left i : ℕ) (e : Entry) (es : List Entry)
-    → p ≡ o ++ elements_text (break names places columns left i) → q ≡ p ++ elements_text (arrow places columns (row_behind left i) e)
-    → o ++ elements_text (arrows names places columns left i (e ∷ es)) ≡ w
-    → q ++ elements_text (arrows names places columns (rows_left left) (row_behind left i + 1) es) ≡ w
-arrows_next o p q w names places columns left i e es a b c =
-    let rest = arrow places columns (row_behind left i) e ++ arrows names places columns (rows_left left) (row_behind left i + 1) es in
-    put_next p q w (arrow places columns (row_behind left i) e) (arrows names places columns (rows_left left) (row_behind left i + 1) es) b (put_next o p w (break names places columns left i) rest a c)
+pub arrows_next : (o p q w : List ℕ) (hs : List ColumnHead) (places : List ℕ) (columns : List End) (left i : ℕ) (e : Entry) (es : List Entry)
+    → p ≡ o ++ elements_text (break hs places left i) → q ≡ p ++ elements_text (arrow places columns (row_behind left i) e)
+    → o ++ elements_text (arrows hs places columns left i (e ∷ es)) ≡ w
+    → q ++ elements_text (arrows hs places columns (rows_left left) (row_behind left i + 1) es) ≡ w
+arrows_next o p q w hs places columns left i e es a b c =
+    let rest = arrow places columns (row_behind left i) e ++ arrows hs places columns (rows_left left) (row_behind left i + 1) es in
+    put_next p q w (arrow places columns (row_behind left i) e) (arrows hs places columns (rows_left left) (row_behind left i + 1) es) b (put_next o p w (break hs places left i) rest a c)
 
 -- the same, where the list, the row and how many rows are left are known by what they are
-pub arrows_step : (o p q w : List ℕ) (names : List (List ℕ)) (places : List ℕ) (columns : List End) (left i row more : ℕ) (e : Entry) (es rest : List Entry)
+pub arrows_step : (o p q w : List ℕ) (hs : List ColumnHead) (places : List ℕ) (columns : List End) (left i row more : ℕ) (e : Entry) (es rest : List Entry)
     → rest ≡ e ∷ es → row ≡ row_behind left i → more ≡ rows_left left
-    → p ≡ o ++ elements_text (break names places columns left i) → q ≡ p ++ elements_text (arrow places columns row e)
-    → o ++ elements_text (arrows names places columns left i rest) ≡ w
-    → q ++ elements_text (arrows names places columns more (row + 1) es) ≡ w
-arrows_step o p q w names places columns left i row more e es rest split here behind a b c =
-    subst (λ n. q ++ elements_text (arrows names places columns n (row + 1) es) ≡ w) (sym behind)
-    (subst (λ r. q ++ elements_text (arrows names places columns (rows_left left) (r + 1) es) ≡ w) (sym here)
-    (arrows_next o p q w names places columns left i e es a (subst (λ r. q ≡ p ++ elements_text (arrow places columns r e)) here b)
-    (subst (λ l. o ++ elements_text (arrows names places columns left i l) ≡ w) split c)))
+    → p ≡ o ++ elements_text (break hs places left i) → q ≡ p ++ elements_text (arrow places columns row e)
+    → o ++ elements_text (arrows hs places columns left i rest) ≡ w
+    → q ++ elements_text (arrows hs places columns more (row + 1) es) ≡ w
+arrows_step o p q w hs places columns left i row more e es rest split here behind a b c =
+    subst (λ n. q ++ elements_text (arrows hs places columns n (row + 1) es) ≡ w) (sym behind)
+    (subst (λ r. q ++ elements_text (arrows hs places columns (rows_left left) (r + 1) es) ≡ w) (sym here)
+    (arrows_next o p q w hs places columns left i e es a (subst (λ r. q ≡ p ++ elements_text (arrow places columns r e)) here b)
+    (subst (λ l. o ++ elements_text (arrows hs places columns left i l) ≡ w) split c)))
 
 -- ---- rows are few
 

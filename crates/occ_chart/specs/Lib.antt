@@ -1,5 +1,7 @@
 pub mod Xml
 pub mod Columns
+pub mod LeftOut
 pub mod Shapes
 pub mod Labels
+pub mod Heads
 pub mod Charts

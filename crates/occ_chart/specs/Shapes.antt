@@ -32,6 +32,14 @@ label style x y room words tail =
 abbrev pub path : (course colour : List ℕ) → Element
 path course colour = element (codes "path") (attribute (codes "d") course ∷ attribute (codes "fill") (codes "none") ∷ attribute (codes "stroke") colour ∷ []) [] []
 
+-- what lies under words
+abbrev pub area : (course : List ℕ) → Element
+area course = element (codes "path") (attribute (codes "d") course ∷ attribute (codes "fill") (codes "white") ∷ []) [] []
+
+-- round a part of a row
+unfoldable pub ground : (x y width : ℕ) → List ℕ
+ground x y width = codes "M " ++ (decimal x ++ (codes " " ++ (decimal y ++ (codes " h " ++ (decimal width ++ (codes " v 14 h -" ++ (decimal width ++ codes " z")))))))
+
 -- down a column, from under its head
 unfoldable pub down : (x bottom : ℕ) → List ℕ
 down x bottom = codes "M " ++ decimal x ++ codes " 38 V " ++ decimal bottom

@@ -1,16 +1,18 @@
 //! The arrows of communications.
 ghost use Rattle.std.specs.Prelude.{◌≡◌, ◌++◌, ◌≤◌, ◌^◌, IfOk, OnOk, length};
-ghost use Rattle.occ_chart.specs.Charts.{AreNear, PutsArrows, arrow, arrow_from, PutsBreak, halfway, rows_left, room_between, row, row_behind, rows_of};
+ghost use Rattle.occ_chart.specs.Charts.{PutsArrows, arrow, arrow_from, PutsBreak, rows_left, row, row_behind, rows_of};
+ghost use Rattle.occ_chart.specs.Heads.{AreNear, halfway, room_between};
 ghost use Rattle.occ_chart.specs.Labels.{arrow_words, numbered_words};
 ghost use Rattle.occ_chart.specs.Shapes.{along, leftward, rightward};
 ghost use Rattle.occ_chart.specs.Xml.{AddsElements};
 
 use crate::columns::place_of;
+use crate::headings::Head;
 use crate::heads::write_heads;
-use crate::labels::write_label;
+use crate::labels::write_grounded;
 use crate::messages::write_items;
 use crate::places::{column, place_at};
-use crate::xml::{Style, write_path};
+use crate::xml::write_path;
 use occ_board::Shown;
 use occ_term::End;
 use std::alloc::{AllocError, Global};
@@ -84,7 +86,8 @@ fn numbered_words(alloc: Global, shown: &Shown) -> Result<Vec<u8>, AllocError>
 /// How many letters have room between two columns.
 fn room_between(places: &[u64], from: usize, to: usize) -> usize
     requires { AreNear places.now }
-    ensures { result ≡ room_between places.now from to }
+    ensures is { result ≡ room_between places.now from to }
+    ensures few { result ≤ 2 ^ 47 }
 {
     let (from, to) = (place_at(places, from), place_at(places, to));
     ((from.max(to) - from.min(to)) as usize).max(24)
@@ -134,16 +137,7 @@ fn write_arrow_from(
     let middle = halfway(places, from, to);
     let height = 30 * number as u64 + 74;
     let room = room_between(places, from, to);
-    write_label(
-        alloc,
-        out,
-        Style::Plain,
-        middle,
-        height,
-        room,
-        words.as_slice(),
-        b"",
-    )
+    write_grounded(alloc, out, middle, height, room, words.as_slice())
 }
 
 /// The arrow of a communication, in this row.
@@ -169,18 +163,17 @@ fn write_arrow(
 fn write_break(
     alloc: Global,
     out: &mut Vec<u8>,
-    names: &[Vec<u8>],
+    heads: &[Head],
     places: &[u64],
     left: usize,
     number: usize,
-    columns: &[End],
 ) -> Result<(), AllocError>
     requires places { AreNear places.now }
     requires near { number ≤ 2 ^ 40 }
-    ensures { PutsBreak result out.old out.new names.now places.now left number columns.now }
+    ensures { PutsBreak result out.old out.new heads.now places.now left number }
 {
     if left == 0 {
-        return write_heads(alloc, out, names, places, 30 * number as u64 + 68, columns);
+        return write_heads(alloc, out, heads, places, 30 * number as u64 + 68);
     }
     Ok(())
 }
@@ -204,19 +197,19 @@ fn rows_left(left: usize) -> usize
 pub(crate) fn write_arrows(
     alloc: Global,
     out: &mut Vec<u8>,
-    names: &[Vec<u8>],
+    heads: &[Head],
     places: &[u64],
     columns: &[End],
     shown: &[Shown],
 ) -> Result<(), AllocError>
     requires places { AreNear places.now }
     requires near { length shown.now ≤ 990 }
-    ensures { PutsArrows result out.old out.new names.now places.now columns.now shown.now }
+    ensures { PutsArrows result out.old out.new heads.now places.now columns.now shown.now }
 {
     let (mut number, mut left) = (0, 30);
     let mut rest = shown;
     while let Some((first, others)) = rest.split_first() {
-        write_break(alloc, out, names, places, left, number, columns)?;
+        write_break(alloc, out, heads, places, left, number)?;
         let row = row_behind(left, number);
         write_arrow(alloc, out, places, columns, row, first)?;
         number = row + 1;

@@ -1,16 +1,21 @@
 //! The sequence chart of a run, in SVG.
 ghost use Rattle.std.specs.Prelude.{◌≡◌, ◌≤◌, ◌^◌, IfOk, OnOk, length};
-ghost use Rattle.occ_chart.specs.Charts.{AreNear, IsChartOf, above, row_below, foot, svg_opening, PutsFoot};
+ghost use Rattle.occ_chart.specs.Charts.{ChartOf, IsPicture, PutsFoot, above, after_of, after_words, before_of, before_words, ending_words, is_cut, row_below, svg_opening};
+ghost use Rattle.occ_chart.specs.Heads.{AreNear};
 ghost use Rattle.occ_shown.specs.Answers.{AddsText, HasBytes};
-ghost use Rattle.occ_chart.specs.Labels.{texts_of};
 
 use crate::arrows::{row, rows_of, write_arrows};
 use crate::columns::columns;
 use crate::feet::write_feet;
+use crate::headings::{Head, heads_over};
 use crate::heads::{write_heads, write_heads_again, write_lifelines};
-use crate::notes::{write_after, write_before, write_circle, write_ending};
-use crate::part::{Part, shown_of};
-use crate::places::{last_place, places_of};
+use crate::left_out::seen_feet;
+use crate::notes::{
+    Notes, after_words, before_words, ending_words, picture_letters, write_before, write_circle,
+    write_note,
+};
+use crate::part::{Part, count_seen, listed};
+use crate::places::places_of;
 use crate::stub::Stub;
 use crate::xml::write_number;
 use occ_board::Shown;
@@ -50,81 +55,26 @@ fn row_below(count: usize) -> u64
 fn above(
     alloc: Global,
     places: &[u64],
-    names: &[Vec<u8>],
+    heads: &[Head],
     columns: &[End],
     shown: &[Shown],
-    before: usize,
-    is_cut: bool,
+    letters: usize,
+    before: &[u8],
 ) -> Result<Vec<u8>, AllocError>
     requires places { AreNear places.now }
     requires near { length shown.now ≤ 990 }
+    requires wide { letters ≤ 2 ^ 47 }
     ensures { IfOk result
-        (HasBytes (above places.now (texts_of names.now) columns.now shown.now before is_cut)) }
+        (HasBytes (above places.now heads.now columns.now shown.now letters before.now)) }
 {
     let bottom = row_below(shown.len());
-    let width = 7 * last_place(places) + 84;
+    let width = 7 * letters as u64;
     let mut out = Vec::new(alloc);
     write_opening(alloc, &mut out, width, bottom + 132)?;
-    write_heads(alloc, &mut out, names, places, 18, columns)?;
+    write_heads(alloc, &mut out, heads, places, 18)?;
     write_lifelines(alloc, &mut out, places, bottom, columns)?;
-    write_before(alloc, &mut out, before, is_cut)?;
-    write_arrows(alloc, &mut out, names, places, columns, shown)?;
-    Ok(out)
-}
-
-/// The sequence chart of a run, as a text in SVG: a column for each process and each of the keyboard, the screen and
-/// the error channel that takes part, and from top to bottom an arrow for each of the communications that are asked for,
-/// with the channel's name and the message. At its foot stand those of `stubs`, how the run ended, how many more
-/// communications there were, and the circle of processes that wait for one another, where one is given. A process is
-/// called by its number and the name that `names` has at that place, if any.
-///
-/// # Errors
-///
-/// A refused growth.
-pub fn chart(
-    alloc: Global,
-    trace: &Trace,
-    channels: &[Channel],
-    part: Part,
-    ending: Ending,
-    names: &[Vec<u8>],
-    stubs: &[Stub],
-    circle: &[u32],
-) -> Result<Vec<u8>, AllocError>
-    ensures { IfOk result
-        (IsChartOf channels.now trace.now part ending names.now stubs.now circle.now) }
-{
-    let all = trace.len();
-    let list = shown_of(alloc, trace, channels, part)?;
-    let shown = list.as_slice();
-    let found = columns(alloc, shown, stubs)?;
-    let columns = found.as_slice();
-    let standing = places_of(alloc, names, stubs, columns)?;
-    let places = standing.as_slice();
-    let left = all - part.count(all);
-    let is_cut = part.is_cut(all);
-    let mut out = above(
-        alloc,
-        places,
-        names,
-        columns,
-        shown,
-        part.if_last(left),
-        is_cut,
-    )?;
-    write_below(
-        alloc,
-        &mut out,
-        places,
-        names,
-        columns,
-        shown.len(),
-        part.if_first(left),
-        is_cut,
-        stubs,
-        circle,
-        ending,
-    )?;
+    write_before(alloc, &mut out, before)?;
+    write_arrows(alloc, &mut out, heads, places, columns, shown)?;
     Ok(out)
 }
 
@@ -133,25 +83,118 @@ fn write_below(
     alloc: Global,
     out: &mut Vec<u8>,
     places: &[u64],
-    names: &[Vec<u8>],
+    heads: &[Head],
     columns: &[End],
     count: usize,
-    after: usize,
-    is_cut: bool,
     stubs: &[Stub],
+    letters: usize,
+    notes: &Notes,
     circle: &[u32],
-    ending: Ending,
 ) -> Result<(), AllocError>
     requires places { AreNear places.now }
     requires near { count ≤ 990 }
-    ensures { PutsFoot result out.old out.new places.now names.now columns.now count after is_cut
-        stubs.now circle.now ending }
+    ensures { PutsFoot result out.old out.new places.now heads.now columns.now count stubs.now
+        letters notes.now circle.now }
 {
     let bottom = row_below(count);
     write_feet(alloc, out, places, columns, bottom, stubs)?;
-    write_heads_again(alloc, out, names, places, bottom, count, columns)?;
-    write_ending(alloc, out, bottom, ending)?;
-    write_after(alloc, out, bottom, after, is_cut)?;
-    write_circle(alloc, out, places, bottom, circle)?;
+    write_heads_again(alloc, out, heads, places, bottom, count)?;
+    write_note(alloc, out, bottom + 80, notes.ending.as_slice())?;
+    write_note(alloc, out, bottom + 98, notes.after.as_slice())?;
+    write_circle(alloc, out, letters, bottom, circle)?;
     out.extend_from_slice(b"</svg>\n")
+}
+
+/// The whole: these communications and who stands at the foot, in these columns.
+fn picture(
+    alloc: Global,
+    heads: &[Head],
+    columns: &[End],
+    shown: &[Shown],
+    stubs: &[Stub],
+    notes: &Notes,
+    circle: &[u32],
+) -> Result<Vec<u8>, AllocError>
+    requires few { length heads.now ≤ 2 ^ 40 }
+    requires near { length shown.now ≤ 990 }
+    ensures { IfOk result
+        (IsPicture heads.now columns.now shown.now stubs.now notes.now circle.now) }
+{
+    let standing = places_of(alloc, heads)?;
+    let places = standing.as_slice();
+    let letters = picture_letters(places, notes);
+    let before = notes.before.as_slice();
+    let mut out = above(alloc, places, heads, columns, shown, letters, before)?;
+    let count = shown.len();
+    write_below(
+        alloc, &mut out, places, heads, columns, count, stubs, letters, notes, circle,
+    )?;
+    Ok(out)
+}
+
+/// What is noted of a run where so many of its communications are seen, and so many others are between processes that are left out.
+fn notes_of(
+    alloc: Global,
+    part: Part,
+    all: usize,
+    among: usize,
+    ending: Ending,
+) -> Result<Notes, AllocError>
+    ensures before { IfOk result (λ notes.
+        notes.before.items ≡ before_words (before_of part all) (is_cut part all)) }
+    ensures after { IfOk result (λ notes.
+        notes.after.items ≡ after_words (after_of part all) (is_cut part all)) }
+    ensures ending { IfOk result (λ notes. notes.ending.items ≡ ending_words ending among) }
+{
+    let (rest, is_cut) = (all - part.count(all), part.is_cut(all));
+    let before = before_words(alloc, part.if_last(rest), is_cut)?;
+    let after = after_words(alloc, part.if_first(rest), is_cut)?;
+    let ending = ending_words(alloc, ending, among)?;
+    Ok(Notes {
+        before,
+        after,
+        ending,
+    })
+}
+
+/// The sequence chart of a run, as a text in SVG: a column for each process and each of the keyboard, the screen and
+/// the error channel that takes part, and from top to bottom an arrow for each of the communications that are asked for,
+/// with the channel's name and the message. At its foot stand those of `stubs`, how the run ended, how many more
+/// communications there were, and the circle of processes that wait for one another, where one is given. A process is
+/// called by its number and the name that `names` has at that place, if any.
+///
+/// `left_out` says of each process, by its number, whether it has no column of its own. All such processes have one together. What one
+/// of them says to another, and what one of them waits for, is not drawn.
+///
+/// # Errors
+///
+/// A refused growth.
+pub fn chart(
+    alloc: Global,
+    trace: &Trace,
+    channels: &[Channel],
+    left_out: &[bool],
+    part: Part,
+    ending: Ending,
+    names: &[Vec<u8>],
+    stubs: &[Stub],
+    circle: &[u32],
+) -> Result<Vec<u8>, AllocError>
+    ensures { IfOk result
+        (ChartOf channels.now trace.now left_out.now part ending names.now stubs.now circle.now) }
+{
+    let entries = trace.entries();
+    let all = count_seen(&entries, left_out);
+    let (count, among) = (part.count(all), entries.len() - all);
+    let skipped = part.if_last(all - count);
+    let list = listed(alloc, &entries, left_out, skipped, count, channels)?;
+    let standing = seen_feet(alloc, stubs, left_out)?;
+    let (shown, feet) = (list.as_slice(), standing.as_slice());
+    let found = columns(alloc, shown, feet)?;
+    let columns = found.as_slice();
+    let over = heads_over(alloc, names, left_out, feet, columns)?;
+    let notes = notes_of(alloc, part, all, among, ending)?;
+    let heads = over.as_slice();
+    let bytes = picture(alloc, heads, columns, shown, feet, &notes, circle)?;
+    Ok(bytes)
 }

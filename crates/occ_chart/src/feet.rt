@@ -1,6 +1,7 @@
 //! Who stands at the foot of its column.
 ghost use Rattle.std.specs.Prelude.{◌≡◌, ◌++◌, ◌≤◌, ◌^◌, IfOk, OnOk, length};
-ghost use Rattle.occ_chart.specs.Charts.{AreNear, drawn_feet, foot_at};
+ghost use Rattle.occ_chart.specs.Charts.{drawn_feet, foot_at};
+ghost use Rattle.occ_chart.specs.Heads.{AreNear};
 ghost use Rattle.occ_chart.specs.Labels.{foot_words, await_words, offer_words};
 ghost use Rattle.occ_chart.specs.Shapes.{stub};
 ghost use Rattle.occ_chart.specs.Xml.{AddsElements};

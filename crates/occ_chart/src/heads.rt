@@ -1,11 +1,13 @@
 //! The heads of columns, and the lines down from them.
-ghost use Rattle.std.specs.Prelude.{◌≡◌, ◌≤◌, ◌^◌, IfOk, OnOk, codes, length};
-ghost use Rattle.occ_chart.specs.Charts.{AreNear, head_in, heads, lifelines, name_label, PutsHeadsAgain};
+ghost use Rattle.std.specs.Prelude.{◌≡◌, ◌≤◌, ◌^◌, IfOk, OnOk, codes};
+ghost use Rattle.occ_chart.specs.Charts.{drawn_head, drawn_heads, heads_again, lifelines, name_label};
+ghost use Rattle.occ_chart.specs.Heads.{AreNear};
 ghost use Rattle.occ_chart.specs.Labels.{end_name, texts_of};
 ghost use Rattle.occ_chart.specs.Shapes.{down, path};
 ghost use Rattle.occ_chart.specs.Xml.{AddsElement, AddsElements};
 ghost use Rattle.occ_shown.specs.Answers.{end_text, AddsText};
 
+use crate::headings::Head;
 use crate::labels::write_label;
 use crate::places::column;
 use crate::xml::{Style, write_path, write_text};
@@ -71,21 +73,20 @@ fn write_name(
     write_label(alloc, out, Style::Plain, x, y, 24, name, b"")
 }
 
+/// What stands over a column, at this place.
 #[tactic(auto, using(crate::proofs::Drawing::both_put))]
 fn write_head(
     alloc: Global,
     out: &mut Vec<u8>,
-    names: &[Vec<u8>],
     x: u64,
     y: u64,
-    end: End,
+    head: &Head,
 ) -> Result<(), AllocError>
     requires { y ≤ 2 ^ 46 }
-    ensures { OnOk result (AddsElements out.old out.new (head_in names.now x y end)) }
+    ensures { OnOk result (AddsElements out.old out.new (drawn_head x y head.now)) }
 {
-    write_name(alloc, out, x, y, name_of(names, end))?;
-    let words = end_text(alloc, end)?;
-    write_text(alloc, out, Style::Plain, x, y + 14, b"", words.as_slice())?;
+    write_name(alloc, out, x, y, head.name())?;
+    write_text(alloc, out, Style::Plain, x, y + 14, b"", head.below())?;
     Ok(())
 }
 
@@ -94,18 +95,17 @@ fn write_head(
 pub(crate) fn write_heads(
     alloc: Global,
     out: &mut Vec<u8>,
-    names: &[Vec<u8>],
+    heads: &[Head],
     places: &[u64],
     y: u64,
-    columns: &[End],
 ) -> Result<(), AllocError>
     requires near { AreNear places.now }
     requires high { y ≤ 2 ^ 46 }
     ensures { OnOk result
-        (AddsElements out.old out.new (heads (texts_of names.now) places.now y 0 columns.now)) }
+        (AddsElements out.old out.new (drawn_heads places.now y 0 heads.now)) }
 {
-    for i in 0..columns.len() {
-        write_head(alloc, out, names, column(places, i), y, columns[i])?;
+    for i in 0..heads.len() {
+        write_head(alloc, out, column(places, i), y, &heads[i])?;
     }
     Ok(())
 }
@@ -114,18 +114,18 @@ pub(crate) fn write_heads(
 pub(crate) fn write_heads_again(
     alloc: Global,
     out: &mut Vec<u8>,
-    names: &[Vec<u8>],
+    heads: &[Head],
     places: &[u64],
     y: u64,
     count: usize,
-    columns: &[End],
 ) -> Result<(), AllocError>
     requires near { AreNear places.now }
     requires bottom { y ≤ 2 ^ 40 }
-    ensures { PutsHeadsAgain result out.old out.new names.now places.now y count columns.now }
+    ensures { OnOk result
+        (AddsElements out.old out.new (heads_again heads.now places.now y count)) }
 {
     if count > 15 {
-        return write_heads(alloc, out, names, places, y + 46, columns);
+        return write_heads(alloc, out, heads, places, y + 46);
     }
     Ok(())
 }

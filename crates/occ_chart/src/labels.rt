@@ -1,9 +1,10 @@
 //! Writes words into the room that they have.
-ghost use Rattle.std.specs.Prelude.{◌≡◌, ◌++◌, ◌+◌, ◌<◌, ◌≤◌, IfOk, OnOk, length};
-ghost use Rattle.occ_chart.specs.Shapes.{cut, label};
-ghost use Rattle.occ_chart.specs.Xml.{AddsElement};
+ghost use Rattle.std.specs.Prelude.{◌≡◌, ◌++◌, ◌+◌, ◌<◌, ◌≤◌, ◌^◌, IfOk, OnOk, length};
+ghost use Rattle.occ_chart.specs.Charts.{grounded};
+ghost use Rattle.occ_chart.specs.Shapes.{area, cut, ground, label};
+ghost use Rattle.occ_chart.specs.Xml.{AddsElement, AddsElements};
 
-use crate::xml::{Style, write_text};
+use crate::xml::{Style, write_area, write_text};
 use std::alloc::{AllocError, Global};
 
 /// Words with a tail.
@@ -47,4 +48,45 @@ pub(crate) fn write_label(
     } else {
         write_text(alloc, out, style, x, y, b"", all.as_slice())
     }
+}
+
+/// The course round a part of a row.
+#[tactic(auto, unfolding(crate::specs::Shapes::ground))]
+fn ground(alloc: Global, x: u64, y: u64, width: u64) -> Result<String, AllocError>
+    ensures { IfOk result (λ text. text.bytes.items ≡ ground x y width) }
+{
+    let text = format!(in alloc; "M {x} {y} h {width} v 14 h -{width} z")?;
+    Ok(text)
+}
+
+/// A white part of a row.
+pub(crate) fn write_ground(
+    alloc: Global,
+    out: &mut Vec<u8>,
+    x: u64,
+    y: u64,
+    width: u64,
+) -> Result<(), AllocError>
+    ensures { OnOk result (AddsElement out.old out.new (area (ground x y width))) }
+{
+    let course = ground(alloc, x, y, width)?;
+    write_area(out, course.as_bytes())
+}
+
+/// Words in so much room, on a white ground of 6 points for each letter.
+pub(crate) fn write_grounded(
+    alloc: Global,
+    out: &mut Vec<u8>,
+    x: u64,
+    y: u64,
+    room: usize,
+    words: &[u8],
+) -> Result<(), AllocError>
+    requires { room ≤ 2 ^ 47 }
+    ensures { OnOk result (AddsElements out.old out.new (grounded x y room words.now)) }
+{
+    let letters = room.min(words.len()) as u64;
+    let left = x.saturating_sub(3 * letters);
+    write_ground(alloc, out, left, y.saturating_sub(11), 6 * letters)?;
+    write_label(alloc, out, Style::Plain, x, y, room, words, b"")
 }

@@ -1,15 +1,26 @@
 //! What is noted beside the arrows of a chart.
-ghost use Rattle.std.specs.Prelude.{◌≡◌, ◌++◌, ◌+◌, ◌-◌, ◌≤◌, ◌^◌, ◌∷◌, [], IfOk, OnOk, codes, length};
-ghost use Rattle.occ_chart.specs.Charts.{AreNear, circle_label, circle_words, cut_words, note_after, note_before, note_circle, note_ending};
+ghost use Rattle.std.specs.Prelude.{◌≡◌, ◌++◌, ◌+◌, ◌-◌, ◌≤◌, ◌^◌, ◌∷◌, [], IfOk, OnOk, codes, length, max, min};
+ghost use Rattle.occ_chart.specs.Charts.{after_words, among_words, before_words, circle_label, circle_words, cut_words, ending_words, letters_with, note, note_before, note_circle};
+ghost use Rattle.occ_chart.specs.Heads.{AreNear};
 ghost use Rattle.occ_chart.specs.Xml.{AddsElement, AddsElements};
-ghost use Rattle.occ_term.specs.Endings.{ending_text};
 
-use crate::labels::write_label;
+use crate::labels::{write_ground, write_label};
 use crate::places::last_place;
 use crate::xml::{Style, write_text};
 use occ_shown::write_numbers;
 use occ_term::Ending;
 use std::alloc::{AllocError, Global};
+
+/// What is noted of a run.
+#[derive(Drop)]
+pub(crate) struct Notes {
+    /// How many communications came before those that are drawn.
+    pub before: Vec<u8>,
+    /// How many come after them.
+    pub after: Vec<u8>,
+    /// How the run ended, and how many are not drawn in between.
+    pub ending: Vec<u8>,
+}
 
 /// What is said where fewer are drawn than were asked for.
 fn cut_words(is_cut: bool) -> &'static [u8]
@@ -22,50 +33,97 @@ fn cut_words(is_cut: bool) -> &'static [u8]
     }
 }
 
-/// How many communications came before those that are drawn, where some did.
-pub(crate) fn write_before(
-    alloc: Global,
-    out: &mut Vec<u8>,
-    count: usize,
-    is_cut: bool,
-) -> Result<(), AllocError>
-    ensures { OnOk result (AddsElements out.old out.new (note_before count is_cut)) }
+/// How many communications came before those that are drawn; nothing where none did.
+pub(crate) fn before_words(alloc: Global, count: usize, is_cut: bool) -> Result<Vec<u8>, AllocError>
+    ensures { IfOk result (λ words. words.items ≡ before_words count is_cut) }
 {
     if count == 0 {
-        return Ok(());
+        return Ok(Vec::new(alloc));
     }
     let text = format!(in alloc; "and {count} before")?;
     let mut words = Vec::from_slice(alloc, text.as_bytes())?;
     words.extend_from_slice(cut_words(is_cut))?;
-    write_text(alloc, out, Style::Note, 10, 48, b"", words.as_slice())
+    Ok(words)
 }
 
-/// How many communications come after those that are drawn, where some do.
-pub(crate) fn write_after(
-    alloc: Global,
-    out: &mut Vec<u8>,
-    bottom: u64,
-    count: usize,
-    is_cut: bool,
-) -> Result<(), AllocError>
-    requires { bottom ≤ 2 ^ 40 }
-    ensures { OnOk result (AddsElements out.old out.new (note_after bottom count is_cut)) }
+/// How many communications come after those that are drawn; nothing where none do.
+pub(crate) fn after_words(alloc: Global, count: usize, is_cut: bool) -> Result<Vec<u8>, AllocError>
+    ensures { IfOk result (λ words. words.items ≡ after_words count is_cut) }
 {
     if count == 0 {
-        return Ok(());
+        return Ok(Vec::new(alloc));
     }
     let text = format!(in alloc; "{count} more")?;
     let mut words = Vec::from_slice(alloc, text.as_bytes())?;
     words.extend_from_slice(cut_words(is_cut))?;
-    write_text(
-        alloc,
-        out,
-        Style::Note,
-        10,
-        bottom + 98,
-        b"",
-        words.as_slice(),
-    )
+    Ok(words)
+}
+
+/// How many are not drawn since both ends are left out; nothing where none are.
+fn among_words(alloc: Global, count: usize) -> Result<Vec<u8>, AllocError>
+    ensures { IfOk result (λ words. words.items ≡ among_words count) }
+{
+    if count == 0 {
+        return Ok(Vec::new(alloc));
+    }
+    let text = format!(in alloc; "; among the others {count} more")?;
+    Vec::from_slice(alloc, text.as_bytes())
+}
+
+/// How the run ended, and how many are not drawn since both ends are left out.
+pub(crate) fn ending_words(
+    alloc: Global,
+    ending: Ending,
+    among: usize,
+) -> Result<Vec<u8>, AllocError>
+    ensures { IfOk result (λ words. words.items ≡ ending_words ending among) }
+{
+    let text = format!(in alloc; "{ending}")?;
+    let more = among_words(alloc, among)?;
+    let mut words = Vec::from_slice(alloc, text.as_bytes())?;
+    words.extend_from_slice(more.as_slice())?;
+    Ok(words)
+}
+
+/// How wide a picture with these notes is, in letters.
+pub(crate) fn picture_letters(places: &[u64], notes: &Notes) -> usize
+    requires { AreNear places.now }
+    ensures is { result ≡ letters_with places.now notes.now }
+    ensures near { result ≤ 2 ^ 47 }
+{
+    let longest = notes
+        .before
+        .len()
+        .max(notes.after.len())
+        .max(notes.ending.len());
+    (last_place(places) as usize + 12).max(longest.min(100) + 3)
+}
+
+/// A note in this height, where there are words.
+pub(crate) fn write_note(
+    alloc: Global,
+    out: &mut Vec<u8>,
+    y: u64,
+    words: &[u8],
+) -> Result<(), AllocError>
+    ensures { OnOk result (AddsElements out.old out.new (note y words.now)) }
+{
+    if words.is_empty() {
+        return Ok(());
+    }
+    write_text(alloc, out, Style::Note, 10, y, b"", words)
+}
+
+/// A note over the lines of the columns, where there are words.
+pub(crate) fn write_before(alloc: Global, out: &mut Vec<u8>, words: &[u8]) -> Result<(), AllocError>
+    ensures { OnOk result (AddsElements out.old out.new (note_before words.now)) }
+{
+    if words.is_empty() {
+        return Ok(());
+    }
+    let width = 6 * words.len().min(100) as u64;
+    write_ground(alloc, out, 8, 38, width)?;
+    write_text(alloc, out, Style::Note, 10, 50, b"", words)
 }
 
 /// What is said of processes that wait for one another in a circle.
@@ -80,67 +138,34 @@ fn circle_words(alloc: Global, circle: &[u32]) -> Result<Vec<u8>, AllocError>
 fn write_circle_words(
     alloc: Global,
     out: &mut Vec<u8>,
-    places: &[u64],
+    letters: usize,
     bottom: u64,
     circle: &[u32],
 ) -> Result<(), AllocError>
-    requires places { AreNear places.now }
-    requires bottom { bottom ≤ 2 ^ 40 }
+    requires { bottom ≤ 2 ^ 40 }
     ensures { OnOk result
-        (AddsElement out.old out.new (circle_label places.now bottom circle.now)) }
+        (AddsElement out.old out.new (circle_label letters bottom circle.now)) }
 {
     let words = circle_words(alloc, circle)?;
-    let room = last_place(places) as usize + 12;
     let height = bottom + 116;
-    write_label(
-        alloc,
-        out,
-        Style::RedNote,
-        10,
-        height,
-        room,
-        words.as_slice(),
-        b"",
-    )
+    let text = words.as_slice();
+    write_label(alloc, out, Style::RedNote, 10, height, letters, text, b"")
 }
 
 /// A circle of processes that wait for one another, where one is given.
 pub(crate) fn write_circle(
     alloc: Global,
     out: &mut Vec<u8>,
-    places: &[u64],
+    letters: usize,
     bottom: u64,
     circle: &[u32],
 ) -> Result<(), AllocError>
-    requires places { AreNear places.now }
-    requires bottom { bottom ≤ 2 ^ 40 }
+    requires { bottom ≤ 2 ^ 40 }
     ensures { OnOk result
-        (AddsElements out.old out.new (note_circle places.now bottom circle.now)) }
+        (AddsElements out.old out.new (note_circle letters bottom circle.now)) }
 {
     match circle.split_first() {
-        Some(_) => write_circle_words(alloc, out, places, bottom, circle),
+        Some(_) => write_circle_words(alloc, out, letters, bottom, circle),
         None => Ok(()),
     }
-}
-
-/// How the run ended.
-pub(crate) fn write_ending(
-    alloc: Global,
-    out: &mut Vec<u8>,
-    bottom: u64,
-    ending: Ending,
-) -> Result<(), AllocError>
-    requires { bottom ≤ 2 ^ 40 }
-    ensures { OnOk result (AddsElements out.old out.new (note_ending bottom ending ∷ [])) }
-{
-    let words = format!(in alloc; "{ending}")?;
-    write_text(
-        alloc,
-        out,
-        Style::Note,
-        10,
-        bottom + 80,
-        b"",
-        words.as_bytes(),
-    )
 }

@@ -1,16 +1,16 @@
 //! Which communications of a run are drawn.
-ghost use Rattle.std.specs.Prelude.{◌≡◌, ◌≤◌, ◌&&◌, IfOk, drop, length, min, nat_lt};
-ghost use Rattle.occ_chart.specs.Charts.{asked, if_first, if_last, most_arrows, shown_of};
-ghost use Rattle.occ_shown.specs.Answers.{entries_in};
-ghost use Rattle.occ_term.specs.Runs.{entries};
+ghost use Rattle.std.specs.Prelude.{◌≡◌, ◌≤◌, IfOk, length};
+ghost use Rattle.occ_chart.specs.Charts.{asked, drawn_of, if_first, if_last, is_cut};
+ghost use Rattle.occ_chart.specs.LeftOut.{count_seen, listed};
 
+use crate::left_out::{is_between_others, seen};
 use occ_board::Shown;
-use occ_net_trace::{Entries, Trace};
+use occ_net_trace::Entries;
 use occ_shown::shown_as;
 use occ_term::Channel;
 use std::alloc::{AllocError, Global};
 
-/// The most arrows of a chart: with more it would be 30,000 points high, where programs that show SVG stop.
+/// The most arrows of a chart: with more it would be 32,000 points high, where programs that show SVG stop.
 pub const MOST_ARROWS: usize = 990;
 
 /// Which communications of a run are drawn.
@@ -35,7 +35,7 @@ impl Part {
 
     /// How many of so many are drawn.
     pub(crate) fn count(self, all: usize) -> usize
-        ensures count { result ≡ min (min (asked self) most_arrows) all }
+        ensures count { result ≡ drawn_of self all }
         ensures within { result ≤ all }
         ensures few { result ≤ 990 }
     {
@@ -44,7 +44,7 @@ impl Part {
 
     /// Whether of so many more are asked for than a picture has room for.
     pub(crate) fn is_cut(self, all: usize) -> bool
-        ensures { result ≡ nat_lt most_arrows (asked self) && nat_lt most_arrows all }
+        ensures { result ≡ is_cut self all }
     {
         self.asked() > MOST_ARROWS && all > MOST_ARROWS
     }
@@ -70,44 +70,48 @@ impl Part {
     }
 }
 
-/// These communications, numbered from 1, but for so many.
-fn listed(
+/// How many of these communications are seen where these processes are left out.
+pub(crate) fn count_seen(communications: &Entries<'_>, left_out: &[bool]) -> usize
+    ensures is { result ≡ count_seen left_out.now communications.now }
+    ensures within { result ≤ length communications.now }
+{
+    let mut count = 0;
+    for communication in communications.copy() {
+        if !is_between_others(left_out, &communication) {
+            count += 1;
+        }
+    }
+    count
+}
+
+/// So many of those that are seen, numbered from 1 with all others, but for the first ones.
+pub(crate) fn listed(
     alloc: Global,
     communications: &Entries<'_>,
+    left_out: &[bool],
     skipped: usize,
+    count: usize,
     channels: &[Channel],
 ) -> Result<Vec<Shown>, AllocError>
-    ensures { IfOk result
-        (λ list. list.items ≡ drop skipped (entries_in channels.now communications.now)) }
+    ensures are { IfOk result
+        (λ list. list.items ≡ listed left_out.now skipped count channels.now communications.now) }
+    ensures few { IfOk result (λ list. length list.items ≤ count) }
 {
     let mut list = Vec::new(alloc);
     let mut number = 0;
-    let mut left = skipped;
+    let (mut before, mut wanted) = (skipped, count);
     for communication in communications.copy() {
         number += 1;
-        if left > 0 {
-            left -= 1;
-        } else {
+        if is_between_others(left_out, &communication) {
+            continue;
+        }
+        if before > 0 {
+            before -= 1;
+        } else if wanted > 0 {
+            wanted -= 1;
             let shown = shown_as(alloc, number, &communication, channels)?;
-            list.push(shown)?;
+            list.push(seen(alloc, &shown, left_out)?)?;
         }
     }
     Ok(list)
-}
-
-/// The communications that are drawn.
-pub(crate) fn shown_of(
-    alloc: Global,
-    trace: &Trace,
-    channels: &[Channel],
-    part: Part,
-) -> Result<Vec<Shown>, AllocError>
-    ensures { IfOk result (λ list. list.items ≡ shown_of part (entries_in channels.now trace.now)) }
-{
-    let all = trace.len();
-    let count = part.count(all);
-    match part {
-        Part::First(_) => listed(alloc, &trace.entries().first(count), 0, channels),
-        Part::Last(_) => listed(alloc, &trace.entries(), all - count, channels),
-    }
 }

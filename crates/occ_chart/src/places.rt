@@ -1,59 +1,31 @@
 //! Where columns stand.
-ghost use Rattle.std.specs.Prelude.{◌≡◌, ◌≤◌, ◌^◌, IfOk, OnOk, length};
-ghost use Rattle.occ_chart.specs.Charts.{AreNear, column, foot_letters, last_place, room_for, place_at, places_of};
-ghost use Rattle.occ_chart.specs.Columns.{is_end};
-ghost use Rattle.occ_chart.specs.Labels.{end_name, texts_of};
-ghost use Rattle.occ_shown.specs.Answers.{end_text};
+ghost use Rattle.std.specs.Prelude.{◌≡◌, ◌≤◌, ◌^◌, IfOk, length};
+ghost use Rattle.occ_chart.specs.Heads.{AreNear, column, last_place, room_for, place_at, places_of};
 
-use crate::columns::is_end;
-use crate::heads::{end_text, name_of};
-use crate::stub::Stub;
-use occ_term::End;
+use crate::headings::Head;
 use std::alloc::{AllocError, Global};
 
-/// How many letters the words have that stand at the foot of a column.
-fn foot_letters(stubs: &[Stub], end: End) -> usize
-    ensures { result ≡ foot_letters stubs.now end }
+/// For how many letters a column has room: for its two lines and the words at its foot, but for 6 at least and 24 at most.
+fn room_for(head: &Head) -> u64
+    ensures is { result ≡ room_for head.now }
+    ensures few { result ≤ 24 }
 {
-    let mut rest = stubs;
-    while let Some((first, others)) = rest.split_first() {
-        if is_end(end, End::Process(first.process())) {
-            return first.words().len();
-        }
-        rest = others;
-    }
-    0
-}
-
-/// For how many letters a column has room: for its name, its number and the words at its foot, but for 6 at least and 24 at most.
-fn room_for(alloc: Global, names: &[Vec<u8>], stubs: &[Stub], end: End) -> Result<u64, AllocError>
-    ensures is { IfOk result (λ n. n ≡ room_for (texts_of names.now) stubs.now end) }
-    ensures few { IfOk result (λ n. n ≤ 24) }
-{
-    let name = name_of(names, end).len();
-    let number = end_text(alloc, end)?.len();
-    let widest = name.max(number).max(foot_letters(stubs, end));
-    Ok(widest.max(6).min(24) as u64)
+    let widest = head.name().len().max(head.below().len()).max(head.foot());
+    widest.max(6).min(24) as u64
 }
 
 /// Where each column stands, in letters from the left.
-pub(crate) fn places_of(
-    alloc: Global,
-    names: &[Vec<u8>],
-    stubs: &[Stub],
-    columns: &[End],
-) -> Result<Vec<u64>, AllocError>
-    requires { length columns.now ≤ 2 ^ 40 }
-    ensures are { IfOk result (λ places.
-        places.items ≡ places_of (texts_of names.now) stubs.now columns.now) }
+pub(crate) fn places_of(alloc: Global, heads: &[Head]) -> Result<Vec<u64>, AllocError>
+    requires { length heads.now ≤ 2 ^ 40 }
+    ensures are { IfOk result (λ places. places.items ≡ places_of heads.now) }
     ensures near { IfOk result (λ places. AreNear places.items) }
 {
     let mut places = Vec::new(alloc);
     let mut place = 0;
     let mut letters = 12;
-    let mut rest = columns;
+    let mut rest = heads;
     while let Some((first, others)) = rest.split_first() {
-        let next = room_for(alloc, names, stubs, *first)?;
+        let next = room_for(first);
         place += letters.max(next);
         places.push(place)?;
         letters = next;

@@ -1,7 +1,7 @@
 //! Writes elements of XML.
 ghost use Rattle.std.specs.Prelude.{◌≡◌, OnOk, codes};
 ghost use Rattle.std.specs.Fmt.{decimal};
-ghost use Rattle.occ_chart.specs.Shapes.{path, style_attributes, text_at};
+ghost use Rattle.occ_chart.specs.Shapes.{area, path, style_attributes, text_at};
 ghost use Rattle.occ_chart.specs.Xml.{attribute, attribute_text, attributes_text, element_text, xml_text, xml_byte, title_text, AddsElement, AddsAttribute};
 ghost use Rattle.occ_shown.specs.Answers.{AddsText};
 
@@ -143,5 +143,16 @@ pub(crate) fn write_path(out: &mut Vec<u8>, course: &[u8], colour: &[u8]) -> Res
     write_attribute(out, b"d", course)?;
     write_attribute(out, b"fill", b"none")?;
     write_attribute(out, b"stroke", colour)?;
+    out.extend_from_slice(b"></path>\n")
+}
+
+/// A white area of this course.
+#[tactic(auto, unfolding(crate::specs::Xml::element_text))]
+pub(crate) fn write_area(out: &mut Vec<u8>, course: &[u8]) -> Result<(), AllocError>
+    ensures { OnOk result (AddsElement out.old out.new (area course.now)) }
+{
+    out.extend_from_slice(b"<path")?;
+    write_attribute(out, b"d", course)?;
+    write_attribute(out, b"fill", b"white")?;
     out.extend_from_slice(b"></path>\n")
 }

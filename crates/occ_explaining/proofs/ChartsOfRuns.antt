@@ -1,5 +1,5 @@
 -- The chart of a replay is that of a run.
-use Rattle.std.proofs.Common.{◌≡◌, ◌∙◌, ◌++◌, ◌+◌, ◌<◌, ◌^◌, ℕ, List, [], ◌∷◌, length, map, min, suc, ap, subst, sym, arith}
+use Rattle.std.proofs.Common.{◌≡◌, ◌∙◌, ◌++◌, ◌+◌, ◌<◌, ◌^◌, Bool, ℕ, List, [], ◌∷◌, length, map, min, suc, ap, subst, sym, arith}
 use Rattle.std.specs.Prelude.{get_or, slice_get}
 use Rattle.occ_chart.specs.declared.part.Part.{Part}
 use Rattle.occ_chart.specs.Charts.{IsChart}
@@ -34,13 +34,13 @@ feet_step names tasks n before after e f =
     f ∙ ap (λ l. l ++ foot_in names n (slice_get tasks n)) e ∙ sym (ap (feet_of names tasks) next)
 
 -- what is drawn of the tables that a run leaves is the chart of its replay
-pub replay_chart : (p : Program) (kb : List ℕ) (list : List Choice) (part : Part) (names : List (List ℕ)) (circle : List ℕ) (r : Ran) (h : IsRan p kb list Given r) → length r.kept.items < 2 ^ 64
+pub replay_chart : (p : Program) (kb : List ℕ) (list : List Choice) (left : List Bool) (part : Part) (names : List (List ℕ)) (circle : List ℕ) (r : Ran) (h : IsRan p kb list Given r) → length r.kept.items < 2 ^ 64
     → (trace : List Communication) → ((k : List ℕ) (net : Net) → Holds p k r.tables net → net.trace ≡ trace)
     → (ss : List Footing) (count processes : ℕ) → count ≡ min processes 4294967295 → processes ≡ length p.bodies
     → ((q : Program) (k : List ℕ) (net : Net) → Holds q k r.tables net → ss ≡ feet_of (names_of p.channels) net.tasks count)
-    → (bytes : List ℕ) → IsChart (entries (names_of p.channels) 1 trace) part r.ending names ss circle bytes
-    → IsReplayChart p kb list part names circle bytes
-replay_chart p kb list part names circle r h small trace shows ss count processes least all stand bytes drawn =
+    → (bytes : List ℕ) → IsChart (entries (names_of p.channels) 1 trace) left part r.ending names ss circle bytes
+    → IsReplayChart p kb list left part names circle bytes
+replay_chart p kb list left part names circle r h small trace shows ss count processes least all stand bytes drawn =
     let net = h.run.net in
     let many : length net.tasks ≡ length p.bodies = ap length h.run.holds.tasks ∙ h.run.holds.sized.tasks_are in
     let told : count ≡ min (length net.tasks) 4294967295 = least ∙ ap (λ m. min m 4294967295) (all ∙ sym many) in
@@ -57,9 +57,9 @@ replay_chart p kb list part names circle r h small trace shows ss count processe
     }
 
 -- and of the run that goes with it
-pub run_chart : (options : Options) (source keyboard : List ℕ) (list : List Choice) (part : Part) (names : List (List ℕ)) (circle bytes : List ℕ) (p : Program)
-    → IsTextsCode options source p → AreBytes keyboard → IsReplayChart p keyboard list part names circle bytes → IsRunChart options source keyboard list part names circle bytes
-run_chart options source keyboard list part names circle bytes p text keys chart =
+pub run_chart : (options : Options) (source keyboard : List ℕ) (list : List Choice) (left : List Bool) (part : Part) (names : List (List ℕ)) (circle bytes : List ℕ) (p : Program)
+    → IsTextsCode options source p → AreBytes keyboard → IsReplayChart p keyboard list left part names circle bytes → IsRunChart options source keyboard list left part names circle bytes
+run_chart options source keyboard list left part names circle bytes p text keys chart =
     let u = text.program in
     let run = replays_are_runs u p options.quantum keyboard chart.used chart.net text.unfolds.well_formed text.lawful text.from.does keys chart.few chart.replays in
     record {

@@ -1,6 +1,6 @@
 -- The chart of the run of a source.
 -- Manual: nothing; this is (own).
-use Rattle.std.specs.Prelude.{List, None, Option, Some, [], length, min, slice_get, zero, suc, ℕ, ◌++◌, ◌<◌, ◌^◌, ◌≡◌, ◌∷◌, Vec, option_map}
+use Rattle.std.specs.Prelude.{Bool, List, None, Option, Some, [], length, min, slice_get, zero, suc, ℕ, ◌++◌, ◌<◌, ◌^◌, ◌≡◌, ◌∷◌, Vec, option_map}
 use Rattle.occ_chart.specs.declared.part.Part.{Part}
 use Rattle.occ_chart.specs.Charts.{IsChart}
 use Rattle.occ_chart.specs.Columns.{Footing, footing}
@@ -46,19 +46,19 @@ feet names tasks = feet_of names tasks (min (length tasks) 4294967295)
 
 -- The replay of the used choices, which are a beginning of the list, and the chart of its communications, with what each process
 -- stands at then.
-pub record IsReplayChart (p : Program) (keyboard : List ℕ) (list : List Choice) (part : Part) (names : List (List ℕ)) (circle bytes : List ℕ) : Type 0 where
+pub record IsReplayChart (p : Program) (keyboard : List ℕ) (list : List Choice) (left : List Bool) (part : Part) (names : List (List ℕ)) (circle bytes : List ℕ) : Type 0 where
   pub used : List Choice
   pub net : Net
   pub replays : Replays p keyboard used net
   pub few : length used < 2 ^ 64
   pub begins : Begins used list
   pub whole : ending_of p.errors net ≡ None → used ≡ list
-  pub is : IsChart (entries (names_of p.channels) 1 net.trace) part (or_limit (ending_of p.errors net)) names (feet (names_of p.channels) net.tasks) circle bytes
+  pub is : IsChart (entries (names_of p.channels) 1 net.trace) left part (or_limit (ending_of p.errors net)) names (feet (names_of p.channels) net.tasks) circle bytes
 
 -- A run of the text's program, by its system: it takes a turn for each of the used choices, which are a beginning of the list, by the
 -- process that the replay of the code says, and comes to the same communications and the same ending. The chart is of the
 -- communications that the run shows, of its ending, and of what each process of the replay stands at then.
-pub record IsRunChart (options : Options) (source keyboard : List ℕ) (list : List Choice) (part : Part) (names : List (List ℕ)) (circle bytes : List ℕ) : Type 0 where
+pub record IsRunChart (options : Options) (source keyboard : List ℕ) (list : List Choice) (left : List Bool) (part : Part) (names : List (List ℕ)) (circle bytes : List ℕ) : Type 0 where
   pub code : Program
   pub text : IsTextsCode options source code
   pub used : List Choice
@@ -68,13 +68,13 @@ pub record IsRunChart (options : Options) (source keyboard : List ℕ) (list : L
   pub whole : ending_of code.errors net ≡ None → used ≡ list
   pub run : Followed text.program keyboard options.quantum code.errors net
   pub is :
-      IsChart (shown (names_of text.program.channels) run.events).trace part (or_limit (ending_of code.errors net)) names
+      IsChart (shown (names_of text.program.channels) run.events).trace left part (or_limit (ending_of code.errors net)) names
       (feet (names_of text.program.channels) net.tasks) circle bytes
 
 -- ---- private contracts alone cite what follows
 
-abbrev pub IsReplayChartOf : {A : Type 0} → Program → List ℕ → Plan → Part → List (Vec ℕ A) → List ℕ → Vec ℕ A → Type 0
-IsReplayChartOf p keyboard plan part names circle bytes = IsReplayChart p keyboard (choices_of plan) part (texts_of names) circle bytes.items
+abbrev pub IsReplayChartOf : {A : Type 0} → Program → List ℕ → Plan → List Bool → Part → List (Vec ℕ A) → List ℕ → Vec ℕ A → Type 0
+IsReplayChartOf p keyboard plan left part names circle bytes = IsReplayChart p keyboard (choices_of plan) left part (texts_of names) circle bytes.items
 
 -- the words of a process, and of whatever network the tables hold
 abbrev pub AddsFooting : {A B : Type 0} → ℕ → Option (Vec ℕ A) → (old new : Vec Footing B) → Type 0

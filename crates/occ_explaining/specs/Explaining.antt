@@ -1,6 +1,7 @@
 -- What is told behind the line of a refusal, and behind the ending of a run.
 -- Manual: nothing; this is (own).
-use Rattle.std.specs.Prelude.{List, None, Option, Some, Vec, [], length, min, option_map, suc, zero, ℕ, ◌++◌, ◌∷◌, ◌≡◌, ◌≤◌}
+use Rattle.std.specs.Prelude.{List, None, Option, Some, Vec, [], length, min, option_map, ℕ, ◌≡◌, ◌≤◌}
+use Rattle.std.specs.Borrow.{Bor}
 use Rattle.std.specs.Str.Lines.{lines}
 use Rattle.occ_machine.specs.Compiled.{Program}
 use Rattle.occ_net_replay.specs.declared.choice.Choice.{Choice}
@@ -23,7 +24,8 @@ use Rattle.occ_explain.specs.Places.{IsNear, IsPlace, line_numbered}
 use Rattle.occ_explain.specs.Explanations.{explained_text}
 use Rattle.occ_chart.specs.declared.part.Part.{Part}
 use Rattle.occ_explaining.specs.Charting.{IsRunChart}
-use Rattle.occ_places.specs.Places.{Fits, Known, name_of}
+use Rattle.occ_explaining.specs.ColumnNames.{column_names, left_out_of}
+use Rattle.occ_places.specs.Places.{Fits, Known}
 use Rattle.occ_steps.specs.Steps.{IsSteps}
 use Rattle.occ_report.specs.Reports.{IsCircleOf, IsReport}
 
@@ -123,21 +125,18 @@ pub record ReportsOn (options : Options) (source keyboard : List ℕ) (list : Li
   pub are : IsKnown options source program known unfolded
   pub report : IsReport (meaning unfolded) program keyboard list known bytes
 
--- the names of the first so many processes, empty where they aren't known
-abbrev pub first_names : List Known → ℕ → List (List ℕ)
-first_names known zero = []
-first_names known (suc n) = first_names known n ++ name_of known n ∷ []
-
--- The chart of the run of a source by these choices, whose columns have the names of the table, and at whose foot stand processes that
--- wait in a circle, where there are some.
-pub record IsNamedChart (options : Options) (source keyboard : List ℕ) (list : List Choice) (part : Part) (bytes : List ℕ) : Type 0 where
+-- The chart of the run of a source by these choices, whose columns have the names of the table, but for what these words leave out, and at
+-- whose foot stand processes that wait in a circle, where there are some.
+pub record IsNamedChart (options : Options) (source keyboard : List ℕ) (list : List Choice) (part : Part) (only without : List (Bor (List ℕ))) (bytes : List ℕ) : Type 0 where
   pub program : Program
   pub known : List Known
   pub unfolded : UnfoldedProgram
   pub are : IsKnown options source program known unfolded
   pub circle : List ℕ
   pub waits : IsCircleOf (meaning unfolded) program keyboard list circle
-  pub chart : IsRunChart options source keyboard list part (first_names known (min (length program.bodies) 4294967295)) circle bytes
+  pub names : List (List ℕ)
+  pub called : names ≡ column_names known (min (length program.bodies) 4294967295)
+  pub chart : IsRunChart options source keyboard list (left_out_of only without names) part names circle bytes
 
 -- The turns of the run of a source by these choices, with the lines of the table at which processes stand.
 pub record StepsOf (options : Options) (source keyboard : List ℕ) (list : List Choice) (bytes : List ℕ) : Type 0 where

@@ -5,5 +5,6 @@ pub mod Typing
 pub mod Objects
 pub mod Unreached
 pub mod Traced
+pub mod ColumnNames
 pub mod Charting
 pub mod Studied

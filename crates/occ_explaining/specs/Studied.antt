@@ -1,6 +1,7 @@
 -- What is told of a run by what is known of its source.
 -- Manual: nothing; this is (own).
-use Rattle.std.specs.Prelude.{List, Option, Vec, map, ℕ, ◌≡◌}
+use Rattle.std.specs.Borrow.{Bor}
+use Rattle.std.specs.Prelude.{List, Option, Vec, length, map, min, ℕ, ◌≡◌}
 use Rattle.occ_chart.specs.declared.part.Part.{Part}
 use Rattle.occ_ends.specs.Ends.{all_using, noted_for}
 use Rattle.occ_json.specs.declared.pages.RunTexts.{RunTexts}
@@ -8,6 +9,7 @@ use Rattle.occ_net_replay.specs.declared.choice.Choice.{Choice}
 use Rattle.occ_play.specs.declared.playing.Options.{Options}
 use Rattle.occ_term.specs.UnfoldedProgram.{UnfoldedProgram, meaning}
 use Rattle.occ_explaining.specs.Explaining.{IsKnown, IsNamedChart, ReportsOn, StepsOf}
+use Rattle.occ_explaining.specs.ColumnNames.{column_names, nameless}
 use Rattle.occ_explaining.specs.Shown.{IsShownRun, NamesOf, PageOf}
 use Rattle.occ_explaining.specs.Traced.{IsTraced}
 use Rattle.occ_explaining.specs.Typing.{PastOf}
@@ -34,8 +36,12 @@ StepsBy s keyboard list bytes = ForSource s (λ options source. StepsOf options 
 abbrev pub TracesBy : {A : Type 0} → Studied → (keyboard : List ℕ) → List Choice → Form → Vec ℕ A → Type 0
 TracesBy s keyboard list form bytes = ForSource s (λ options source. IsTraced options source keyboard list form bytes.items)
 
-abbrev pub ChartsBy : {A : Type 0} → Studied → (keyboard : List ℕ) → List Choice → Part → Vec ℕ A → Type 0
-ChartsBy s keyboard list part bytes = ForSource s (λ options source. IsNamedChart options source keyboard list part bytes.items)
+abbrev pub ChartsBy : {A : Type 0} → Studied → (keyboard : List ℕ) → List Choice → Part → (only without : List (Bor (List ℕ))) → Vec ℕ A → Type 0
+ChartsBy s keyboard list part only without bytes = ForSource s (λ options source. IsNamedChart options source keyboard list part only without bytes.items)
+
+-- the first word, if any, that names none of its processes
+abbrev pub NamesNone : Studied → List (Bor (List ℕ)) → Option (List ℕ) → Type 0
+NamesNone s words word = word ≡ nameless (column_names s.places (min (length s.code.bodies) 4294967295)) words
 
 abbrev pub NamesBy : {A : Type 0} → Studied → Vec ℕ A → Type 0
 NamesBy s bytes = ForSource s (λ options source. NamesOf options source bytes.items)

@@ -1,9 +1,9 @@
 //! Charts whose columns have the names of the PROCs.
-ghost use Rattle.std.specs.Prelude.{◌≡◌, IfOk, map};
+ghost use Rattle.std.specs.Prelude.{IfOk};
 ghost use Rattle.occ_explaining.specs.Charting.{IsReplayChartOf};
-ghost use Rattle.occ_explaining.specs.Explaining.{first_names};
 ghost use Rattle.occ_explaining.specs.Studied.{ChartsBy};
 
+use crate::column_names::{MOST_NAMED, column_names, left_out};
 use crate::feet::feet;
 use crate::reported::plan_of;
 use crate::studied::Studied;
@@ -12,17 +12,16 @@ use occ_choices::Plan;
 use occ_machine::Code;
 use occ_net_replay::Choice;
 use occ_net_tables::{Keep, Ran, run_tables};
-use occ_places::Places;
 use occ_report::circle_of;
 use std::alloc::{AllocError, Global};
-
-/// How many processes have a name at most, and may stand at the foot.
-pub(crate) const MOST_NAMED: usize = 4_294_967_295;
 
 /// The sequence chart of the run of a source by these choices, as a text in SVG: a column for each process and each of the keyboard, the
 /// screen and the error channel that takes part, with the name of the PROC that the process runs, where it is known; an arrow for each
 /// of the first or the last communications; how many others there were, how the run ended, and in red what each process waits for
 /// that still waits, and processes that wait in a circle, where there are some.
+///
+/// Where some words stand in `only`, the processes that they name have a column of their own, and no other one has; nor has one that a word
+/// in `without` names. A word is a name that stands over a column, or the number of a process, as `3` or `p3`.
 ///
 /// # Errors
 ///
@@ -33,18 +32,23 @@ pub fn chart_of(
     keyboard: &[u8],
     choices: &[Choice],
     part: Part,
+    only: &[&str],
+    without: &[&str],
 ) -> Result<Vec<u8>, AllocError>
-    ensures { IfOk result (ChartsBy studied.now keyboard.now choices.now part) }
+    ensures { IfOk result
+        (ChartsBy studied.now keyboard.now choices.now part only.now without.now) }
 {
     let plan = plan_of(alloc, choices)?;
     let code = &studied.code;
     let uses = studied.uses.as_slice();
     let circle = circle_of(alloc, code, uses, keyboard, &plan)?;
     let count = code.len().min(MOST_NAMED) as u32;
-    let names = names_of(alloc, &studied.places, count)?;
+    let names = column_names(alloc, &studied.places, count)?;
     let members = circle.as_slice();
     let heads = names.as_slice();
-    let bytes = drawn(alloc, code, keyboard, &plan, part, heads, members)?;
+    let chosen = left_out(alloc, heads, only, without)?;
+    let left = chosen.as_slice();
+    let bytes = drawn(alloc, code, keyboard, &plan, left, part, heads, members)?;
     Ok(bytes)
 }
 
@@ -54,12 +58,13 @@ fn drawn(
     code: &Code,
     keyboard: &[u8],
     plan: &Plan,
+    left_out: &[bool],
     part: Part,
     names: &[Vec<u8>],
     circle: &[u32],
 ) -> Result<Vec<u8>, AllocError>
     ensures { IfOk result
-        (IsReplayChartOf code.now keyboard.now plan.now part names.now circle.now) }
+        (IsReplayChartOf code.now keyboard.now plan.now left_out.now part names.now circle.now) }
 {
     let Ran {
         ending,
@@ -74,6 +79,7 @@ fn drawn(
         alloc,
         tables.trace(),
         channels,
+        left_out,
         part,
         ending,
         names,
@@ -81,15 +87,4 @@ fn drawn(
         circle,
     )?;
     Ok(bytes)
-}
-
-/// The names of the first so many processes.
-fn names_of(alloc: Global, places: &Places, count: u32) -> Result<Vec<Vec<u8>>, AllocError>
-    ensures { IfOk result (λ names. map (λ v. v.items) names.items ≡ first_names places.now count) }
-{
-    let mut names = Vec::new(alloc);
-    for number in 0..count {
-        names.push(Vec::from_slice(alloc, places.name(number))?)?;
-    }
-    Ok(names)
 }

@@ -1,11 +1,12 @@
 //! What is told behind the first line of a refused text, and of a run: [`explained_fault`] has the explanation of a refusal,
 //! [`refusal_object`] the same as an object of JSON, [`unreached_told`] the PROCs that no call reaches. [`study`] reads a source once;
-//! by what it finds [`report_of`] tells what each process stands at that is left, [`chart_of`] draws a chart with the names of the PROCs,
+//! by what it finds [`report_of`] tells what each process stands at that is left, [`chart_of`] draws a chart with the names of the PROCs, [`nameless`] finds a word that names none of its columns,
 //! [`steps_of`] has the turns of a run, [`trace_of`] its trace for a file, [`run_texts`] what a page has of it that [`page_of`] makes, and [`past_of`] tells whether
 //! choices name who is ready. [`may_input`] tells whether what is typed can change anything.
 #![tactic(auto)]
 
 pub mod charted;
+pub mod column_names;
 mod feet;
 pub mod files;
 pub mod keyboard;
@@ -21,6 +22,7 @@ pub mod tracing;
 pub mod unreached;
 
 pub use charted::chart_of;
+pub use column_names::nameless;
 pub use files::{Files, beginnings};
 pub use keyboard::may_input;
 pub use objects::refusal_object;

@@ -3,7 +3,7 @@ ghost use Rattle.std.specs.Prelude.{◌≡◌, IfOk};
 ghost use Rattle.occ_explaining.specs.Shown.{HasNames};
 ghost use Rattle.occ_explaining.specs.Studied.{NamesBy, PagesBy, RunsBy};
 
-use crate::charted::MOST_NAMED;
+use crate::column_names::MOST_NAMED;
 use crate::reported::report_of;
 use crate::stepped::steps_of;
 use crate::studied::Studied;

@@ -14,6 +14,8 @@ enum Form {
     Flag,
     /// Behind two hyphens, with a value.
     Value,
+    /// Behind two hyphens, with values between commas.
+    List,
     /// Behind two hyphens, with a value behind `=` or none.
     Search,
     /// The files of the source.
@@ -37,7 +39,7 @@ struct Word {
 
 /// The words, in the order in which help tells of them.
 #[rattlefmt::skip]
-static WORDS: [Word; 26] = [
+static WORDS: [Word; 28] = [
     Word { name: "limit", form: Form::Value, value: "N", takes: ValueParser::Signed(0, MOST_TURNS as i64),
         needs: &[], apart: &[],
         help: "Ends the run after N turns, 0 to 10000000 [default: 1000000]" },
@@ -74,6 +76,12 @@ static WORDS: [Word; 26] = [
     Word { name: "last", form: Form::Value, value: "N", takes: ValueParser::Signed(0, 4_294_967_295),
         needs: &["chart"], apart: &["arrows"],
         help: "Draws only the last N communications" },
+    Word { name: "only", form: Form::List, value: "NAME,..", takes: ValueParser::String,
+        needs: &["chart"], apart: &["without"],
+        help: "Gives a column of their own only to processes of these names or numbers" },
+    Word { name: "without", form: Form::List, value: "NAME,..", takes: ValueParser::String,
+        needs: &["chart"], apart: &[],
+        help: "Gives no column of their own to processes of these names or numbers" },
     Word { name: "trace", form: Form::Flag, value: "", takes: ValueParser::String,
         needs: &[], apart: &[],
         help: "Prints each communication below what the screen got" },
@@ -102,18 +110,18 @@ static WORDS: [Word; 26] = [
         needs: &[], apart: &["explain"],
         help: "Leaves the explanation out on a terminal" },
     Word { name: "explore", form: Form::Search, value: "WHAT", takes: ValueParser::Names(&["answers", "endings", "full"]),
-        needs: &[], apart: &["json", "limit", "workers", "choices", "chart", "arrows", "last", "trace", "trace-to", "steps",
+        needs: &[], apart: &["json", "limit", "workers", "choices", "chart", "arrows", "last", "only", "without", "trace", "trace-to", "steps",
             "seed", "tries", "watch", "live", "typed"],
         help: "Tells the outcomes of all schedules: answers are endings with what the screen got, endings stand alone, full visits every state for its answers [default: answers]" },
     Word { name: "within", form: Form::Value, value: "SPEC", takes: ValueParser::String,
-        needs: &[], apart: &["json", "limit", "workers", "choices", "chart", "arrows", "last", "trace", "trace-to", "steps", "page",
+        needs: &[], apart: &["json", "limit", "workers", "choices", "chart", "arrows", "last", "only", "without", "trace", "trace-to", "steps", "page",
             "seed", "tries", "watch", "live", "typed"],
         help: "Tells whether each outcome of the program is one of the program in SPEC; with --explore=endings it compares endings alone" },
     Word { name: "states", form: Form::Value, value: "N", takes: ValueParser::Signed(1, MOST_STATES as i64),
         needs: &[], apart: &[],
         help: "Lets the search visit at most N states, 1 to 10000000 [default: 1000000]" },
     Word { name: "check", form: Form::Flag, value: "", takes: ValueParser::String,
-        needs: &[], apart: &["limit", "workers", "choices", "chart", "arrows", "last", "trace", "trace-to", "steps", "page", "seed", "tries", "watch",
+        needs: &[], apart: &["limit", "workers", "choices", "chart", "arrows", "last", "only", "without", "trace", "trace-to", "steps", "page", "seed", "tries", "watch",
             "live", "typed", "record", "explore", "within", "states"],
         help: "Says whether the source is refused, and plays nothing" },
     Word { name: "FILE", form: Form::Files, value: "", takes: ValueParser::String, needs: &[], apart: &[],
@@ -174,6 +182,7 @@ fn formed<'a>(arg: Arg<'a>, word: &Word) -> Arg<'a> {
     match word.form {
         Form::Flag => arg.long(word.name).action(ArgAction::SetTrue),
         Form::Value => valued(arg, word),
+        Form::List => valued(arg, word).value_delimiter(','),
         Form::Search => optional(valued(arg, word)),
         Form::Files => arg.num_args(1..).action(ArgAction::Append),
     }

@@ -1,13 +1,15 @@
 //! The words of the command line.
-ghost use Rattle.std.specs.Prelude.{◌≤◌, All};
+ghost use Rattle.std.specs.Prelude.{◌≡◌, ◌≤◌, ◌⊎◌, All};
 ghost use Rattle.std.specs.Option.{ForSome, option_copied};
 ghost use Rattle.occ_choices.specs.Crews.{IsCrew};
 ghost use Rattle.occ_code.specs.CodeOf.{IsQuantum};
+ghost use Rattle.occ_play_inputs.specs.Failures.{failure_status};
 ghost use Rattle.occ_play_inputs.specs.Modes.{IsMode};
 ghost use Rattle.occ_play_inputs.specs.Paths.{AreApart, HasOwnFile, IsPageApart, IsUnread, IsUntyped, IsUnwritten};
 ghost use Rattle.occ_play_inputs.specs.Searches.{IsFull, IsSearch};
 
 use crate::command::command;
+use crate::failure::Failure;
 use crate::numbers::numbers_of;
 use crate::paths::{Paths, paths_of};
 use clap::error::ErrorKind;
@@ -86,6 +88,10 @@ pub struct Words<'a> {
     pub arrows: u32,
     /// The most communications that it shows of the last ones; none where it shows the first ones.
     pub last: Option<u32>,
+    /// Which processes alone have a column of their own in the chart, by names or numbers; none where all have.
+    pub only: Vec<&'a str>,
+    /// Which processes have none.
+    pub without: Vec<&'a str>,
     /// The path of the file into which the trace is written.
     pub trace_to: Option<&'a str>,
     /// Whether that file has an object of JSON for each communication, or `check` writes one for what it finds.
@@ -166,7 +172,8 @@ fn read_by<'a>(
 ) -> Result<Words<'a>, Error> {
     let matches = command.try_get_matches_from_mut(words)?;
     let more = more_of(alloc, &matches)?;
-    match words_of(&matches, more) {
+    let columns = columns_of(alloc, &matches)?;
+    match words_of(&matches, more, columns) {
         Ok(words) => Ok(words),
         Err(told) => Err(refused(command, told)),
     }
@@ -178,6 +185,45 @@ fn more_of<'a>(alloc: Global, matches: &ArgMatches<'a>) -> Result<Vec<&'a str>, 
         Some([_, more @ ..]) => Vec::from_slice(alloc, more),
         _ => Ok(Vec::new(alloc)),
     }
+}
+
+/// Which processes have a column of their own in the chart, by names or numbers.
+#[derive(Drop)]
+struct Columns<'a> {
+    only: Vec<&'a str>,
+    without: Vec<&'a str>,
+}
+
+/// Which processes the words choose for columns.
+fn columns_of<'a>(alloc: Global, matches: &ArgMatches<'a>) -> Result<Columns<'a>, AllocError> {
+    let only = list_of(alloc, matches.get_strs("only"))?;
+    let without = list_of(alloc, matches.get_strs("without"))?;
+    Ok(Columns { only, without })
+}
+
+/// These values, or none.
+fn list_of<'a>(alloc: Global, given: Option<&[&'a str]>) -> Result<Vec<&'a str>, AllocError> {
+    match given {
+        Some(values) => Vec::from_slice(alloc, values),
+        None => Ok(Vec::new(alloc)),
+    }
+}
+
+/// Why nothing is played where a word names no process that could have a column.
+pub fn nameless(alloc: Global, word: &str) -> Failure
+    ensures { (failure_status result ≡ 7) ⊎ (result ≡ Failure.Memory) }
+{
+    match told_nameless(alloc, word) {
+        Ok(error) => Failure::Words(error),
+        Err(_) => Failure::Memory,
+    }
+}
+
+/// The error that tells so.
+fn told_nameless(alloc: Global, word: &str) -> Result<Error, Error> {
+    let mut command = command(alloc)?;
+    let told = format!(in alloc; "no process has the name or the number '{word}'")?;
+    Ok(refused(&mut command, told.as_str()))
 }
 
 /// The error that tells this of the words.
@@ -202,17 +248,26 @@ fn needed(matches: &ArgMatches<'_>) -> Option<&'static str> {
 }
 
 /// What the words say that were found, or what is told where one of them says what it may not.
-fn words_of<'a>(matches: &ArgMatches<'a>, more: Vec<&'a str>) -> Result<Words<'a>, &'static str> {
+fn words_of<'a>(
+    matches: &ArgMatches<'a>,
+    more: Vec<&'a str>,
+    columns: Columns<'a>,
+) -> Result<Words<'a>, &'static str> {
     if let Some(told) = needed(matches) {
         return Err(told);
     }
     let numbers = numbers_of(matches)?;
     let paths = paths_of(matches, more)?;
-    Ok(joined(matches, numbers, paths))
+    Ok(joined(matches, numbers, paths, columns))
 }
 
-/// These numbers and paths, with what else the words say.
-fn joined<'a>(matches: &ArgMatches<'a>, numbers: Numbers, paths: Paths<'a>) -> Words<'a> {
+/// These numbers, paths and columns, with what else the words say.
+fn joined<'a>(
+    matches: &ArgMatches<'a>,
+    numbers: Numbers,
+    paths: Paths<'a>,
+    columns: Columns<'a>,
+) -> Words<'a> {
     let explore = matches.get_str("explore");
     Words {
         limit: numbers.limit,
@@ -233,6 +288,8 @@ fn joined<'a>(matches: &ArgMatches<'a>, numbers: Numbers, paths: Paths<'a>) -> W
         chart: paths.chart,
         arrows: numbers.arrows,
         last: matches.get_one::<u32>("last"),
+        only: columns.only,
+        without: columns.without,
         trace_to: paths.trace_to,
         json: matches.get_flag("json"),
         steps: paths.steps,

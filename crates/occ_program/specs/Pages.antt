@@ -78,7 +78,7 @@ ShowsRun options source keyboard list text = (r : RunTexts) × IsShownRun option
 -- a chart of the run, its trace, its turns, or a page that shows it
 abbrev pub TellsRun : Told → Words → Inputs → Played → List ℕ → Type 0
 TellsRun told.Chart words inputs p text =
-    IsNamedChart (options_in words) inputs.source.items inputs.keyboard.items p.choices.items (part_in words.arrows words.last) text
+    IsNamedChart (options_in words) inputs.source.items inputs.keyboard.items p.choices.items (part_in words.arrows words.last) words.only.items words.without.items text
 TellsRun told.Trace words inputs p text = IsTraced (options_in words) inputs.source.items inputs.keyboard.items p.choices.items (form_in words.json) text
 TellsRun told.Turns words inputs p text = StepsOf (options_in words) inputs.source.items inputs.keyboard.items p.choices.items text
 TellsRun told.Page words inputs p text = ShowsRun (options_in words) inputs.source.items inputs.keyboard.items p.choices.items text

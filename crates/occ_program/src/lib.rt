@@ -4,6 +4,7 @@
 #![tactic(auto)]
 
 mod choosing;
+mod columns;
 mod counting;
 pub mod exit;
 mod explaining;

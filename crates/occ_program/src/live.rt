@@ -6,6 +6,7 @@ ghost use Rattle.occ_play_inputs.specs.Asked.{IsAskedBy};
 ghost use Rattle.occ_program.specs.Coming.{IsStatusFor, IsStatusOf};
 ghost use Rattle.occ_program.specs.Live.{RunsAlone, RefusesLive, live_failure, LivesTo, runs_live};
 
+use crate::columns::check_columns;
 use crate::program::{finish, options_of};
 use crate::reading::read_untyped;
 use occ_files::{CountedReader, Noting, Reason};
@@ -40,6 +41,7 @@ where
     ensures small { IfOk result (λ status. status ≤ 7) }
 {
     let mut inputs = read_untyped(rt, alloc, words)?;
+    check_columns(alloc, words, &inputs)?;
     match words.file {
         Some(_) => {
             let mut keys = CountedReader::new(rt.reader());

@@ -8,6 +8,7 @@ ghost use Rattle.occ_play_inputs.specs.Failures.{failure_status};
 ghost use Rattle.occ_program.specs.Lines.{run_line};
 
 use crate::choosing::explain_choices;
+use crate::columns::check_columns;
 use crate::explaining::explain;
 use crate::exploring::explore_words;
 use crate::keeping::keep_words;
@@ -198,6 +199,7 @@ fn run_inputs<R: Files + Print + Eprint + Threads + Wait + Sync>(
         (IsStatusOf words.now inputs.old.source.items inputs.old.keyboard.items) }
     ensures small { IfOk result (λ status. status ≤ 7) }
 {
+    check_columns(alloc, words, inputs)?;
     let seed = take_seed(alloc, words, inputs)?;
     let mut screen = Noting::new(io::writer(rt));
     let played = play_on(rt, alloc, words, inputs, &mut screen)?;

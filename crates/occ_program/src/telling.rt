@@ -147,7 +147,18 @@ fn text_of(
     let keyboard = inputs.keyboard.as_slice();
     let choices = played.choices.as_slice();
     match told {
-        Told::Chart => chart_of(studied, alloc, keyboard, choices, part_of(words)),
+        Told::Chart => {
+            let (only, without) = (words.only.as_slice(), words.without.as_slice());
+            chart_of(
+                studied,
+                alloc,
+                keyboard,
+                choices,
+                part_of(words),
+                only,
+                without,
+            )
+        }
         Told::Trace => trace_of(studied, alloc, keyboard, choices, form_of(words)),
         Told::Turns => steps_of(studied, alloc, keyboard, choices),
         Told::Page => shown(studied, alloc, inputs.source.as_slice(), keyboard, choices),

@@ -1,14 +1,21 @@
-use Rattle.std.proofs.Common.{◌∙◌, ◌-◌, List, length, refl, sym}
-use Rattle.occ_chart.proofs.Drawing.{charted_by, entries_length}
-use Rattle.occ_shown.specs.Answers.{names_of}
-use Rattle.occ_term.specs.Runs.{Entry, entries}
+use Rattle.std.proofs.Common.{◌∙◌, ◌-◌, List, ap, length, sym}
+use Rattle.occ_chart.proofs.Drawing.{charted, count_is, entries_length}
+use Rattle.occ_chart.specs.LeftOut.{count_seen, listed}
+use Rattle.occ_shown.specs.Answers.{entries_in, names_of}
+use Rattle.occ_term.specs.Runs.{Entry}
 use Rattle.occ_chart.proofs.charting.chart.Goals as goal
 
 pub returns : goal.returns
 returns c =
-    let es : List Entry = entries (names_of c.args.channels.now) 1 c.args.trace.now in
-    let all = c.len-all.ensures.len ∙ sym (entries_length (names_of c.args.channels.now) 1 c.args.trace.now) in
-    charted_by es c.in_ok-list.list.items c.as_slice-shown.result.now c.args.part c.args.ending _ _ _ c.in_ok-found.found.items c.as_slice-columns.result.now c.in_ok-standing.standing.items c.as_slice-places.result.now
-    c.len-all.result c.count.result (c.len-all.result - c.count.result) c.if_last.result c.if_first.result (length c.as_slice-shown.result.now) c.is_cut-is_cut.result c.in_ok-out.out.items _ c.in_ok-list.ensures c.as_slice-shown.ensures.value
-    all c.count.ensures.count refl c.in_ok-found.ensures.are c.as_slice-columns.ensures.value c.in_ok-standing.ensures.are c.as_slice-places.ensures.value c.if_last.ensures c.if_first.ensures c.is_cut-is_cut.ensures refl c.in_ok-out.ensures
-    c.in_ok-write_below.ensures
+    let cs = c.args.channels.now in
+    let left = c.args.left_out.now in
+    let trace = c.args.trace.now in
+    let es : List Entry = entries_in cs trace in
+    let given = c.entries-entries.ensures.entries in
+    let all = c.count_seen-all.ensures.is ∙ ap (count_seen left) given ∙ count_is left (names_of cs) 1 trace in
+    let list = c.in_ok-list.ensures.are ∙ ap (listed left c.if_last-skipped.result c.count-count.result cs) given in
+    let many = c.len.ensures ∙ ap length given ∙ sym (entries_length (names_of cs) 1 trace) in
+    charted es left c.args.part c.args.ending _ c.args.stubs.now c.in_ok-standing.standing.items c.as_slice-feet.result.now c.args.circle.now c.in_ok-list.list.items c.as_slice-shown.result.now c.in_ok-found.found.items c.as_slice-columns.result.now
+    c.in_ok-over.over.items c.as_slice-heads.result.now c.count_seen-all.result c.count-count.result c.if_last-skipped.result (c.len.result - c.count_seen-all.result) c.in_ok-notes.notes.before.items c.in_ok-notes.notes.after.items c.in_ok-notes.notes.ending.items c.in_ok-bytes.bytes.items
+    all c.count-count.ensures.count c.if_last-skipped.ensures list c.as_slice-shown.ensures.value c.in_ok-standing.ensures c.as_slice-feet.ensures.value c.in_ok-found.ensures.are c.as_slice-columns.ensures.value c.in_ok-over.ensures.are
+    c.as_slice-heads.ensures.value (ap (λ n. n - c.count_seen-all.result) many) c.in_ok-notes.ensures.before c.in_ok-notes.ensures.after c.in_ok-notes.ensures.ending c.in_ok-bytes.ensures

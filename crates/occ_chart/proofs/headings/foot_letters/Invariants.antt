@@ -1,6 +1,6 @@
 use Rattle.std.proofs.Common.{◌≡◌, length}
-use Rattle.occ_chart.specs.Charts.{foot_letters}
-use Rattle.occ_chart.proofs.places.foot_letters.Given as goal
+use Rattle.occ_chart.specs.Heads.{foot_letters}
+use Rattle.occ_chart.proofs.headings.foot_letters.Given as goal
 
 abbrev pub invariant-loop-first : goal.invariant-loop-first
 invariant-loop-first l = foot_letters l.rest l.end ≡ foot_letters l.fn.stubs l.end

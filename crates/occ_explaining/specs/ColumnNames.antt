@@ -1,0 +1,57 @@
+-- What processes are called over a chart, and which of them have a column of their own.
+-- Manual: nothing; this is (own).
+use Rattle.std.specs.Borrow.{Bor}
+use Rattle.std.specs.Fmt.{decimal}
+use Rattle.std.specs.List.{list_any}
+use Rattle.std.specs.Option.{option_copied}
+use Rattle.std.specs.Prelude.{Bool, List, None, Option, Some, [], bytes_eq, codes, false, if◌then◌else◌, nat_lt, not, suc, zero, ℕ, ◌&&◌, ◌++◌, ◌+◌, ◌||◌, ◌∷◌}
+use Rattle.occ_places.specs.Places.{Known, name_of, stops_of}
+use Rattle.occ_places.specs.declared.stop.Stop.{Stop}
+
+-- ---- what they are called
+
+-- the line of a process's first stop, where it is known
+abbrev pub line_or : (name : List ℕ) → List Stop → List ℕ
+line_or name [] = name
+line_or name (s ∷ ss) = codes "line " ++ decimal s.line
+
+-- by the PROC; a branch in the body of the main process, which has none of its own, by its line
+abbrev pub column_name : List Known → ℕ → List ℕ
+column_name known n = if nat_lt 0 n && bytes_eq (name_of known n) (name_of known 0) then line_or (name_of known n) (stops_of known n) else name_of known n
+
+-- the first so many
+abbrev pub column_names : List Known → ℕ → List (List ℕ)
+column_names known zero = []
+column_names known (suc n) = column_names known n ++ column_name known n ∷ []
+
+-- ---- who is named by a word: as `worker`, `3` or `p3`
+
+abbrev pub is_word_for : (name : List ℕ) → (n : ℕ) → Bor (List ℕ) → Bool
+is_word_for name n word = bytes_eq word.now name || bytes_eq word.now (decimal n) || bytes_eq word.now (112 ∷ decimal n)
+
+abbrev pub is_named_among : List (Bor (List ℕ)) → (name : List ℕ) → (n : ℕ) → Bool
+is_named_among words name n = list_any (is_word_for name n) words
+
+-- a word that names one of these at least, of which the first has this number
+abbrev pub names_some : ℕ → List (List ℕ) → Bor (List ℕ) → Bool
+names_some n [] word = false
+names_some n (name ∷ names) word = is_word_for name n word || names_some (n + 1) names word
+
+-- the first word that names none
+abbrev pub nameless : List (List ℕ) → List (Bor (List ℕ)) → Option (List ℕ)
+nameless names [] = None
+nameless names (word ∷ words) = if names_some 0 names word then nameless names words else Some word.now
+
+-- ---- who is left out
+
+-- where some are to have columns, the others; and those that are to have none
+abbrev pub leaves_out : (only without : List (Bor (List ℕ))) → (name : List ℕ) → (n : ℕ) → Bool
+leaves_out [] without name n = is_named_among without name n
+leaves_out (word ∷ words) without name n = not (is_named_among (word ∷ words) name n) || is_named_among without name n
+
+abbrev pub left_from : (only without : List (Bor (List ℕ))) → ℕ → List (List ℕ) → List Bool
+left_from only without n [] = []
+left_from only without n (name ∷ names) = leaves_out only without name n ∷ left_from only without (n + 1) names
+
+abbrev pub left_out_of : (only without : List (Bor (List ℕ))) → List (List ℕ) → List Bool
+left_out_of only without names = left_from only without 0 names
