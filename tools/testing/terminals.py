@@ -81,6 +81,7 @@ COMPLETED = [
     (["occam", "--pl"], "--plain"),
     (["occam", "--expl"], "--explain --explore"),
     (["occam", "--li"], "--limit --live"),
+    (["occam", "--fi"], "--first"),
 ]
 
 
@@ -110,6 +111,20 @@ def searched(program):
             yield f"{status} {shown!r}, and not {plain}"
 
 
+def told_at_once(program):
+    """What is wrong with a long search on a terminal: each answer stands there as it was found, above the list of all, which is that of
+    a pipe. Where the search ends at an answer that stands in no other line, and of two programs none is told."""
+    dining = TOP / "examples/faults/dining.occ"
+    with room({}) as folder:
+        for words, lines in [(["--explore=full"], slice(0, 7)), (["--explore=full", "--first"], slice(0, 0)), (["--explore=full", "--within", dining], slice(0, 0))]:
+            told = [*words, "--plain", dining]
+            status, shown, _ = shown_on([program, *told], folder)
+            plain = run_text(program, folder, told)
+            found = ["found: " + line.split(" ", 1)[1] for line in plain[1].splitlines(keepends=True)[lines]]
+            if (status, re.sub("\r( {20}\r|[0-9]+ states)", "", shown)) != (plain[0], "".join(found) + plain[1]):
+                yield f"{words}: {status} {shown!r}, and not {plain}"
+
+
 def completed(_):
     """What is wrong with the words that bash completes."""
     for given, wanted in COMPLETED:
@@ -125,4 +140,5 @@ def jobs():
         yield Job(f"terminals: {title}", lambda program, told=told: tried(program, *told))
     yield Job("terminals: pipes", piped)
     yield Job("terminals: a search", searched)
+    yield Job("terminals: answers at once", told_at_once)
     yield Job("terminals: completions", completed)

@@ -37,7 +37,7 @@ struct Word {
 
 /// The words, in the order in which help tells of them.
 #[rattlefmt::skip]
-static WORDS: [Word; 26] = [
+static WORDS: [Word; 27] = [
     Word { name: "limit", form: Form::Value, value: "N", takes: ValueParser::Signed(0, MOST_TURNS as i64),
         needs: &[], apart: &[],
         help: "Ends the run after N turns, 0 to 10000000 [default: 1000000]" },
@@ -105,6 +105,9 @@ static WORDS: [Word; 26] = [
         needs: &[], apart: &["json", "limit", "workers", "choices", "chart", "arrows", "last", "trace", "trace-to", "steps",
             "seed", "tries", "watch", "live", "typed"],
         help: "Tells the outcomes of all schedules: answers are endings with what the screen got, endings stand alone, full visits every state for its answers [default: answers]" },
+    Word { name: "first", form: Form::Flag, value: "", takes: ValueParser::String,
+        needs: &["explore"], apart: &["within"],
+        help: "Ends the search at the first fault, or stop that is not idle, and tells that answer alone" },
     Word { name: "within", form: Form::Value, value: "SPEC", takes: ValueParser::String,
         needs: &[], apart: &["json", "limit", "workers", "choices", "chart", "arrows", "last", "trace", "trace-to", "steps", "page",
             "seed", "tries", "watch", "live", "typed"],
