@@ -112,17 +112,18 @@ def searched(program):
 
 
 def told_at_once(program):
-    """What is wrong with a long search on a terminal: each answer stands there as it was found, above the list of all, which is that of
-    a pipe. Where the search ends at an answer that stands in no other line, and of two programs none is told."""
+    """What is wrong with a long search on a terminal: each answer behind which it goes on is told as it is found, above the answer of a
+    pipe. Beside a specification none is told."""
     dining = TOP / "examples/faults/dining.occ"
     with room({}) as folder:
-        for words, lines in [(["--explore=full"], slice(0, 7)), (["--explore=full", "--first"], slice(0, 0)), (["--explore=full", "--within", dining], slice(0, 0))]:
-            told = [*words, "--plain", dining]
-            status, shown, _ = shown_on([program, *told], folder)
-            plain = run_text(program, folder, told)
-            found = ["found: " + line.split(" ", 1)[1] for line in plain[1].splitlines(keepends=True)[lines]]
-            if (status, re.sub("\r( {20}\r|[0-9]+ states)", "", shown)) != (plain[0], "".join(found) + plain[1]):
-                yield f"{words}: {status} {shown!r}, and not {plain}"
+        answers = [line.split(" ", 1)[1] for line in run_text(program, folder, ["--explore=full", dining])[1].splitlines(keepends=True)[:7]]
+        stop = next(place for place, line in enumerate(answers) if line.startswith("stopped"))
+        for words, told in [(["--explore=full"], answers), (["--explore=full", "--first"], answers[:stop]), (["--explore=full", "--within", dining], [])]:
+            status, shown, _ = shown_on([program, *words, "--plain", dining], folder)
+            plain = run_text(program, folder, [*words, dining])
+            wanted = "".join(f"found: {line}" for line in told) + plain[1]
+            if (status, re.sub("\r( {20}\r|[0-9]+ states)", "", shown)) != (plain[0], wanted):
+                yield f"{words}: {status} {shown!r}, and not {plain[0]} {wanted!r}"
 
 
 def completed(_):

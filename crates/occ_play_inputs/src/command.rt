@@ -117,7 +117,7 @@ static WORDS: [Word; 27] = [
         help: "Lets the search visit at most N states, 1 to 10000000 [default: 1000000]" },
     Word { name: "check", form: Form::Flag, value: "", takes: ValueParser::String,
         needs: &[], apart: &["limit", "workers", "choices", "chart", "arrows", "last", "trace", "trace-to", "steps", "page", "seed", "tries", "watch",
-            "live", "typed", "record", "explore", "within", "states"],
+            "live", "typed", "record", "explore", "first", "within", "states"],
         help: "Says whether the source is refused, and plays nothing" },
     Word { name: "FILE", form: Form::Files, value: "", takes: ValueParser::String, needs: &[], apart: &[],
         help: "The source, in one file or more; standard input is then the keyboard. Without it, or with - in its place, standard input is the source" },
