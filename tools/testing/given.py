@@ -34,7 +34,7 @@ WRONG = [
     # a word that is not one of those allowed, none at all, and one too many
     "--errors=both", "--errors=STOP", "--explore=all", "--chart", "--trace=yes", "--nope", "-t", "-",
     # a word twice
-    "--limit=1 --limit=1", "--trace --trace",
+    "--limit=1 --limit=1", "--trace --trace", "--explore --first --first",
     # words of one run beside a search, or beside a check
     "--explore --limit=1", "--workers=2 --explore", "--explore --choices=c", "--explore --trace", "--explore --watch",
     "--explore --chart=s", "--explore --arrows=5", "--explore --steps=u", "--within=b.occ --page=p", "--explore --seed=1", "--explore --seed=1 --tries=2",
@@ -48,6 +48,7 @@ WRONG = [
     "--only=0", "--without=0", "--chart=s --only=0 --without=main", "--chart=s --only=0 --only=main",
     # a name or a number that no process has
     "--chart=s --only=maim", "--chart=s --only=main,1", "--chart=s --without=p1", "--chart=s --without=main,", "--chart=s --without=00", "--live --chart=s --only=screen",
+    "--first", "--first --states=5", "--within=b.occ --first", "--explore --within=b.occ --first", "--check --first", "--check --explore --first",
     # one file named twice
     "--record=x.occ", "--chart=x.occ", "--record=f --choices=f", "--chart=f --choices=f", "--record=f --chart=f", "--trace-to=x.occ",
     "--chart=f --trace-to=f", "--steps=x.occ", "--steps=f --trace-to=f", "--trace-to=c --choices=c", "--steps=c --choices=c",
@@ -58,7 +59,8 @@ WRONG = [
 # words that are allowed
 ALLOWED = [
     "--limit 10000000 --trace", "--trace --limit=2", "--errors halt", "--quantum=65536 --errors=stop --workers=64 --watch --explain",
-    "--chart=s.svg --arrows=0", "--explore", "--explore --page=p", "--explore=full", "--explore=endings --states=10000000 --quantum=7 --errors=stop --record=r",
+    "--chart=s.svg --arrows=0", "--explore", "--explore --page=p", "--explore=full", "--explore --first", "--first --explore=full --page=p --explain",
+    "--explore=endings --first --states=5 --record=r --plain", "--explore=endings --states=10000000 --quantum=7 --errors=stop --record=r",
     "--check", "--check --json", "--seed=1000000000 --tries=2 --trace-to=t --json --steps=u --chart=s --last=3", "--record=g --chart=h --steps=s --page=p",
     "--live", "--live --seed=3 --errors=stop --trace --explain --record=r --typed=k --trace-to=t --json --steps=u --chart=s --page=p",
     "--typed=k --workers=2", "--chart=s --only=main,0,p0", "--chart=s --without=0 --last=3", "--live --chart=s --without=main",

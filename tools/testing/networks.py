@@ -107,12 +107,28 @@ def searched(program, folder, keyboard, words):
     return status, {number: (ending, shown or "", kind) for number, ending, shown, _many, kind in ANSWER.findall(text)}, lasts and lasts[1], text + err.decode()
 
 
-def played(program, folder, keyboard, words, number, ending, shown):
-    """A fault where the choices of an answer don't come to it."""
-    status, out, _err = run(program, folder, [*words, "--choices", f"a.{number}.choices", "x.occ"], keyboard)
+def played(program, folder, keyboard, words, file, ending, shown):
+    """A fault where the choices of an answer, in this file, don't come to it."""
+    status, out, _err = run(program, folder, [*words, "--choices", file, "x.occ"], keyboard)
     wanted = shown + (("\n" if shown else "") + ending + "\n" if ending != "ended" else "")
     if status != ENDS[ending.split()[0]] or out.decode() != wanted:
-        yield f"choices of {number} {ending} \"{shown}\": {status} {out}"
+        yield f"{file} {ending} \"{shown}\": {status} {out}"
+
+
+def ended_early(program, folder, keyboard, words, what, whole):
+    """A fault where a search by --first tells another answer than a wrong one of those of the whole search, or if there is none not the
+    same."""
+    first = searched(program, folder, keyboard, [what, "--first", "--record", "f", *words])
+    wrong = [answer for answer in whole[1].values() if answer[0].startswith("fault") or answer[0].startswith("stopped") and answer[2] != "idle"]
+    if not wrong or "one answer" in whole[3]:
+        if first != whole:
+            yield f"{what} --first: {first[3]} and not {whole[3]}"
+        return
+    told = [*first[1].values()]
+    if len(told) != 1 or told[0] not in wrong or first[0] != ENDS[told[0][0].split()[0]] or "the search ended here" not in first[3]:
+        yield f"{what} --first: {first[3]} and not one of {whole[3]}"
+    else:
+        yield from played(program, folder, keyboard, words, "f.1.choices", *told[0][:2])
 
 
 def faults_of(program, seed, known=None):
@@ -134,7 +150,10 @@ def faults_of(program, seed, known=None):
         if sorted({(ending, kind) for ending, _, kind in full[1].values()}) != sorted((ending, kind) for ending, _, kind in ends[1].values()) or ends[2] != full[2]:
             yield f"seed {seed}: endings {ends[3]} and of all states {full[3]}"
         for number, (ending, shown, _kind) in few[1].items():
-            for fault in played(program, folder, keyboard, words, number, ending, shown):
+            for fault in played(program, folder, keyboard, words, f"a.{number}.choices", ending, shown):
+                yield f"seed {seed}: {fault}"
+        for what, whole in (("--explore", few), ("--explore=full", full)):
+            for fault in ended_early(program, folder, keyboard, words, what, whole):
                 yield f"seed {seed}: {fault}"
 
 

@@ -76,6 +76,7 @@ NOTICE = "the program reads the keyboard: type its input, then Ctrl-D on a line 
 USAGE = "Compiles and runs an occam 2 program.\n\nUsage: occam [FILE] [OPTIONS]\n\n`occam FILE` runs the program in FILE, `occam --help` lists the options\n"
 MISSING = "no such file or folder\n"
 NO_SOURCE = MISSING + "  `occam FILE` runs the program in FILE, `occam --help` lists the options\n"
+ENDED_AT = "the search ended here, after {} states: there may be other answers\n"
 STOPPED = '1 stopped "" by 1 choice: halted\neach run ends after 1 turn\none answer: the program has no ALT\n'
 SHARED_TOLD = """refused 50 SharedVariable line 5 x
 x.occ:5:5: `x` is written in one branch of a PAR and used in another
@@ -179,6 +180,17 @@ CASES = [
     of(ENDLESS, ["--explore"], 0, "some run goes on for ever\nall, 1 state\n"),
     of(EITHER, ["--explore"], 0, '1 ended "a" by 10 choices\n2 ended "b" by 10 choices\neach run ends within 10 turns\nall, 4 states\n'),
     of(EITHER, ["--explore=endings"], 0, "1 ended by 10 choices\neach run ends within 10 turns\nall, 4 states\n"),
+    of(FAULTS, ["--explore", "--first"], 3, f'1 fault ARITH line 3 "" by 1 choice\n{ENDED_AT.format(2)}'),
+    of(FAULTS, ["--explore=full", "--first"], 3, f'1 fault ARITH line 3 "" by 1 choice\n{ENDED_AT.format(2)}'),
+    of(FAULTS, ["--explore=endings", "--first", "--errors", "stop"], 2, f"1 stopped ARITH line 3 by 1 choice: halted\n{ENDED_AT.format(2)}"),
+    of(STOPS, ["--explore", "--first"], 2, STOPPED),
+    of(EITHER, ["--explore", "--first"], 0, '1 ended "a" by 10 choices\n2 ended "b" by 10 choices\neach run ends within 10 turns\nall, 4 states\n'),
+    of(ENDLESS, ["--explore", "--first"], 0, "some run goes on for ever\nall, 1 state\n"),
+    of(FAULTS, ["--explore", "--first", "--states", "1"], 4, "these at least: the bound of 1 state was passed\n"),
+    of(FAULTS, ["--explore", "--first", "--record", "none/x"], 6, f'1 fault ARITH line 3 "" by 1 choice\n{ENDED_AT.format(2)}', "write failed\n"),
+    of(LETTER, ["--first"], 7, "", None),
+    of(LETTER, ["--within", "x.occ", "--first"], 7, "", None),
+    of(SHARED, ["--explore", "--first"], 1, "", "refused 50 SharedVariable line 5 x\n"),
     of(SHARED, ["--explore"], 1, "", "refused 50 SharedVariable line 5 x\n"),
     of(LETTER, ["--explore"], 6, "", "write failed\n", to="/dev/full"),
     of(LETTER, ["--explore", "--record", "none/x"], 6, '1 ended "A" by 2 choices\neach run ends after 2 turns\none answer: the program has no ALT\n', "write failed\n"),

@@ -81,6 +81,7 @@ COMPLETED = [
     (["occam", "--pl"], "--plain"),
     (["occam", "--expl"], "--explain --explore"),
     (["occam", "--li"], "--limit --live"),
+    (["occam", "--fi"], "--first"),
 ]
 
 
@@ -110,6 +111,21 @@ def searched(program):
             yield f"{status} {shown!r}, and not {plain}"
 
 
+def told_at_once(program):
+    """What is wrong with a long search on a terminal: each answer behind which it goes on is told as it is found, above the answer of a
+    pipe. Beside a specification none is told."""
+    dining = TOP / "examples/faults/dining.occ"
+    with room({}) as folder:
+        answers = [line.split(" ", 1)[1] for line in run_text(program, folder, ["--explore=full", dining])[1].splitlines(keepends=True)[:7]]
+        stop = next(place for place, line in enumerate(answers) if line.startswith("stopped"))
+        for words, told in [(["--explore=full"], answers), (["--explore=full", "--first"], answers[:stop]), (["--explore=full", "--within", dining], [])]:
+            status, shown, _ = shown_on([program, *words, "--plain", dining], folder)
+            plain = run_text(program, folder, [*words, dining])
+            wanted = "".join(f"found: {line}" for line in told) + plain[1]
+            if (status, re.sub("\r( {20}\r|[0-9]+ states)", "", shown)) != (plain[0], wanted):
+                yield f"{words}: {status} {shown!r}, and not {plain[0]} {wanted!r}"
+
+
 def completed(_):
     """What is wrong with the words that bash completes."""
     for given, wanted in COMPLETED:
@@ -125,4 +141,5 @@ def jobs():
         yield Job(f"terminals: {title}", lambda program, told=told: tried(program, *told))
     yield Job("terminals: pipes", piped)
     yield Job("terminals: a search", searched)
+    yield Job("terminals: answers at once", told_at_once)
     yield Job("terminals: completions", completed)

@@ -1,6 +1,6 @@
 //! Says what a search has found.
 ghost use Rattle.std.specs.Prelude.{◌≡◌, ◌≤◌, IfOk, OnOk, length};
-ghost use Rattle.occ_exploring.specs.Texts.{all_text, answer_line, answer_lines, answers_text, bound_text, so_many, error_text, exploration_text, held_text, stop_kind_text, lasting_text, left_text, said_of};
+ghost use Rattle.occ_exploring.specs.Texts.{all_text, answer_line, answer_lines, answers_text, bound_text, so_many, error_text, exploration_text, first_text, found_line, held_text, rest_text, stop_kind_text, lasting_text, left_text, said_of};
 ghost use Rattle.occ_shown.specs.Answers.{AddsText};
 
 use crate::strings::write_string;
@@ -101,12 +101,39 @@ pub(crate) fn write_answer(
 {
     let head = format!(in alloc; "{number} {}", answer.ending)?;
     out.extend_from_slice(head.as_bytes())?;
+    write_rest(alloc, out, asked, answer)
+}
+
+/// What an answer holds, how many choices come to it, and of what kind its stop is.
+fn write_rest(
+    alloc: Global,
+    out: &mut Vec<u8>,
+    asked: Asked,
+    answer: &Answer,
+) -> Result<(), AllocError>
+    ensures { OnOk result (AddsText out.old out.new (rest_text asked answer.now)) }
+{
     write_held(alloc, out, asked, answer)?;
     out.extend_from_slice(b" by ")?;
     write_counted(alloc, out, answer.choices.len(), b"choice")?;
     out.extend_from_slice(kind_text(answer.kind))?;
     out.push(b'\n')?;
     Ok(())
+}
+
+/// What is told of an answer while the search goes on: that it was found, its ending, what is then held, how many choices come to it,
+/// and the kind of its stop. It has no number yet.
+///
+/// # Errors
+///
+/// A refused growth.
+pub fn found_line(alloc: Global, asked: Asked, answer: &Answer) -> Result<Vec<u8>, AllocError>
+    ensures { IfOk result (λ line. line.items ≡ found_line asked answer.now) }
+{
+    let head = format!(in alloc; "found: {}", answer.ending)?;
+    let mut line = head.into_bytes();
+    write_rest(alloc, &mut line, asked, answer)?;
+    Ok(line)
 }
 
 fn write_answers(
@@ -190,6 +217,16 @@ fn write_bound(alloc: Global, out: &mut Vec<u8>, most: u32) -> Result<(), AllocE
     Ok(())
 }
 
+/// That the search ended at the answer above, after so many states.
+fn write_ended(alloc: Global, out: &mut Vec<u8>, states: usize) -> Result<(), AllocError>
+    ensures { OnOk result (AddsText out.old out.new (first_text states)) }
+{
+    out.extend_from_slice(b"the search ended here, after ")?;
+    write_counted(alloc, out, states, b"state")?;
+    out.extend_from_slice(b": there may be other answers\n")?;
+    Ok(())
+}
+
 /// Whether these are all answers, and how long runs go on.
 fn write_verdict(
     alloc: Global,
@@ -206,6 +243,7 @@ fn write_verdict(
             write_all(alloc, out, exploration.states)
         }
         Verdict::More => write_bound(alloc, out, most),
+        Verdict::First => write_ended(alloc, out, exploration.states),
     }
 }
 

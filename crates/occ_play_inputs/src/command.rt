@@ -39,7 +39,7 @@ struct Word {
 
 /// The words, in the order in which help tells of them.
 #[rattlefmt::skip]
-static WORDS: [Word; 28] = [
+static WORDS: [Word; 29] = [
     Word { name: "limit", form: Form::Value, value: "N", takes: ValueParser::Signed(0, MOST_TURNS as i64),
         needs: &[], apart: &[],
         help: "Ends the run after N turns, 0 to 10000000 [default: 1000000]" },
@@ -113,6 +113,9 @@ static WORDS: [Word; 28] = [
         needs: &[], apart: &["json", "limit", "workers", "choices", "chart", "arrows", "last", "only", "without", "trace", "trace-to", "steps",
             "seed", "tries", "watch", "live", "typed"],
         help: "Tells the outcomes of all schedules: answers are endings with what the screen got, endings stand alone, full visits every state for its answers [default: answers]" },
+    Word { name: "first", form: Form::Flag, value: "", takes: ValueParser::String,
+        needs: &["explore"], apart: &["within"],
+        help: "Ends the search at the first fault, or stop that is not idle, and tells that answer alone" },
     Word { name: "within", form: Form::Value, value: "SPEC", takes: ValueParser::String,
         needs: &[], apart: &["json", "limit", "workers", "choices", "chart", "arrows", "last", "only", "without", "trace", "trace-to", "steps", "page",
             "seed", "tries", "watch", "live", "typed"],
@@ -122,7 +125,7 @@ static WORDS: [Word; 28] = [
         help: "Lets the search visit at most N states, 1 to 10000000 [default: 1000000]" },
     Word { name: "check", form: Form::Flag, value: "", takes: ValueParser::String,
         needs: &[], apart: &["limit", "workers", "choices", "chart", "arrows", "last", "only", "without", "trace", "trace-to", "steps", "page", "seed", "tries", "watch",
-            "live", "typed", "record", "explore", "within", "states"],
+            "live", "typed", "record", "explore", "first", "within", "states"],
         help: "Says whether the source is refused, and plays nothing" },
     Word { name: "FILE", form: Form::Files, value: "", takes: ValueParser::String, needs: &[], apart: &[],
         help: "The source, in one file or more; standard input is then the keyboard. Without it, or with - in its place, standard input is the source" },

@@ -105,6 +105,8 @@ pub struct Words<'a> {
     pub explore: Option<Asked>,
     /// Whether that search comes to all states, where else it comes to those that are enough.
     pub full: bool,
+    /// Whether that search ends at the first answer that is a fault, or a stop that is not idle.
+    pub first: bool,
     /// The path of the specification, with all of whose answers those of the source are compared; none where they are not. Then the
     /// words say the same as of a search, and `record` names the file of one answer.
     pub within: Option<&'a str>,
@@ -296,6 +298,7 @@ fn joined<'a>(
         page: paths.page,
         explore: explore_of(explore),
         full: is_full(explore),
+        first: matches.get_flag("first"),
         within: matches.get_str("within"),
         states: numbers.states,
         check: matches.get_flag("check"),

@@ -32,7 +32,8 @@ use Rattle.occ_explore.specs.declared.exploration.Answer.{Answer}
 use Rattle.occ_exploring.specs.Alone.{IsOnlyFor, IsUntoldFor, only_status}
 use Rattle.occ_exploring.specs.Explored.{IsExplored}
 use Rattle.occ_explore.specs.declared.exploration.Verdict.{Verdict}
-use Rattle.occ_explore.specs.declared.exploration.Verdict.TheVariants.{All, More}
+use Rattle.occ_explore.specs.declared.exploration.Verdict.TheVariants.{All, First, More}
+use Rattle.occ_explore.specs.Exploring.{EndsAtFirst}
 use Rattle.occ_exploring.specs.Statuses.{is_fault, has_stopped, search_status, some_ends, verdict_status}
 use Rattle.occ_exploring.specs.Within.{IsComparison, RefusesOne, SaysOfRuns, keeping_status, kept_status}
 use Rattle.occ_exploring.specs.declared.within.KeepFault.{KeepFault}
@@ -145,14 +146,14 @@ kept_small (Compared c) = keeping_small c.keeping
 kept_small SourcePassed = omega arith
 kept_small SpecificationPassed = omega arith
 
--- what a search came to, by its two clauses
+-- what a search came to, by its three clauses
 pub searched_to : (words : Asked) (source keyboard bytes keys : List ℕ) (asked : AskedFor) (options : Options) (found : Result Exploration PlayFault)
     → options ≡ options_in words → bytes ≡ source → keys ≡ keyboard
-    → IfOk found (IsExplored options bytes keys asked words.full words.states) → IfErr found (Refuses options bytes) → SearchedTo words source keyboard asked found
-searched_to words source keyboard bytes keys asked options (Ok e) same from typed h g =
-    subst (λ o. IsExplored o source keyboard asked words.full words.states e) same
-    (subst (λ k. IsExplored options source k asked words.full words.states e) typed (subst (λ s. IsExplored options s keys asked words.full words.states e) from h))
-searched_to words source keyboard bytes keys asked options (Err f) same from typed h g =
+    → IfOk found (IsExplored options bytes keys asked words.full words.states) → IfOk found (λ e. EndsAtFirst words.first e.answers.items e.verdict) → IfErr found (Refuses options bytes) → SearchedTo words source keyboard asked found
+searched_to words source keyboard bytes keys asked options (Ok e) same from typed h first g =
+    (subst (λ o. IsExplored o source keyboard asked words.full words.states e) same
+    (subst (λ k. IsExplored options source k asked words.full words.states e) typed (subst (λ s. IsExplored options s keys asked words.full words.states e) from h)), first)
+searched_to words source keyboard bytes keys asked options (Err f) same from typed h first g =
     subst (λ o. Refuses o source f) same (subst (λ s. Refuses options s f) from g)
 
 -- what one run told, by its two clauses
@@ -183,6 +184,7 @@ search_small e = by e.verdict
 
     by : (v : Verdict) → verdict_status e.answers.items v ≤ 7
     by (All lasting) = of (some_ends is_fault e.answers.items) (some_ends has_stopped e.answers.items)
+    by First = of (some_ends is_fault e.answers.items) (some_ends has_stopped e.answers.items)
     by More = omega arith
 
 pub found_small : (found : Result Exploration PlayFault) → found_status found ≤ 7

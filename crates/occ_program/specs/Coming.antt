@@ -19,6 +19,7 @@ use Rattle.occ_explore.specs.declared.exploration.Asked.{Asked}
 use Rattle.occ_explore.specs.declared.exploration.Asked.TheVariants.{Answers}
 use Rattle.occ_explore.specs.declared.exploration.Exploration.{Exploration}
 use Rattle.occ_explore.specs.declared.exploration.Answer.{Answer}
+use Rattle.occ_explore.specs.Exploring.{EndsAtFirst}
 use Rattle.occ_exploring.specs.Alone.{IsOnlyFor, IsUntoldFor, only_status}
 use Rattle.occ_exploring.specs.Explored.{IsExplored}
 use Rattle.occ_exploring.specs.Within.{IsComparison, RefusesOne, SaysOfRuns, kept_status}
@@ -90,7 +91,8 @@ IsStatusFor words s = (source : List ℕ) × (keyboard : List ℕ) × IsStatusOf
 
 -- what it came to, as the words ask
 abbrev pub SearchedTo : Words → (source keyboard : List ℕ) → Asked → Result Exploration PlayFault → Type 0
-SearchedTo words source keyboard asked (Ok e) = IsExplored (options_in words) source keyboard asked words.full words.states e
+SearchedTo words source keyboard asked (Ok e) =
+    IsExplored (options_in words) source keyboard asked words.full words.states e × EndsAtFirst words.first e.answers.items e.verdict
 SearchedTo words source keyboard asked (Err fault) = Refuses (options_in words) source fault
 
 abbrev pub found_status : Result Exploration PlayFault → ℕ

@@ -241,7 +241,7 @@ pub(crate) fn print_text<R: Eprint>(rt: &R, alloc: Global, words: &Words<'_>, te
 }
 
 /// Prints bytes to standard error; for those that are no UTF-8, as a source may have in its comments, stands U+FFFD.
-fn print_bytes<R: Eprint>(rt: &R, alloc: Global, text: &[u8]) {
+pub(crate) fn print_bytes<R: Eprint>(rt: &R, alloc: Global, text: &[u8]) {
     if let Ok(text) = String::from_utf8_lossy(alloc, text) {
         let _ = eprint!(rt; "{text}");
     }

@@ -110,7 +110,7 @@ fn searched<R: Files + Print + Eprint>(
     ensures came { IfOk result (IsSearchStatus words.now asked) }
     ensures small { IfOk result (λ status. status ≤ 7) }
 {
-    let mut counter = Counter::new(rt, on_terminal);
+    let mut counter = Counter::new(rt, alloc, Some(asked), on_terminal);
     let found = search(alloc, words, inputs, asked, &mut counter);
     counter.clear();
     tell_found(rt, alloc, words, asked, &found)?;
@@ -329,6 +329,7 @@ fn search<P: Progress>(
         inputs.keyboard.as_slice(),
         asked,
         words.full,
+        words.first,
         words.states,
         progress,
     )

@@ -62,7 +62,7 @@ fn keep_inputs<R: Files + Print + Eprint>(
     ensures came { IfOk result (IsKeepStatus words.now) }
     ensures small { IfOk result (λ status. status ≤ 7) }
 {
-    let mut counter = Counter::new(rt, on_terminal);
+    let mut counter = Counter::new(rt, alloc, None, on_terminal);
     let found = keep(alloc, words, specification, inputs, &mut counter);
     counter.clear();
     match found {

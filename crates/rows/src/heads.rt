@@ -67,6 +67,7 @@ fn schedules_are_searched(rt: HostRuntime) -> Result<(), Fail> {
         b"",
         asked,
         false,
+        false,
         1_000,
         &mut Untold,
     )?;
