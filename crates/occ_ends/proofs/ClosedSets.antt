@@ -22,12 +22,12 @@ use Rattle.occ_net_replay.proofs.Law.{d, procs, keyboard_protocol, belongs, all_
 use Rattle.occ_net_replay.proofs.Tables.{or_else}
 use Rattle.occ_explore_walks.proofs.Lists.{one_some}
 use Rattle.occ_ends.specs.Ends.{all_using, using}
-use Rattle.occ_ends.specs.ForGood.{ClosedSetsWaitForGood, IsClosedSet, IsLeftWithin, IsOutside, LeadsOn, Set, goes_on, stays}
+use Rattle.occ_ends.specs.ForGood.{ClosedSetsWaitForGood, IsClosedSet, IsLeftWithin, IsOutside, LeadsLater, Set, goes_on, stays}
 use Rattle.occ_ends.proofs.Unmet.{ComesTo, IsLeftAt, IsUnmet, in_or_out, meet_on, mover_may, unmet_sets_wait}
 
 -- ---- a replay and what follows it
 
-pub leads_replay : (p : Program) (kb : List ℕ) (cs : List Choice) (a : Net) (ds : List Choice) (b : Net) → Replays p kb cs a → LeadsOn p a ds b → Replays p kb (cs ++ ds) b
+pub leads_replay : (p : Program) (kb : List ℕ) (cs : List Choice) (a : Net) (ds : List Choice) (b : Net) → Replays p kb cs a → LeadsLater p a ds b → Replays p kb (cs ++ ds) b
 leads_replay p kb cs a ds b from stays = subst (λ xs. Replays p kb xs a) (sym (append-nil cs)) from
 leads_replay p kb cs a ds b from (goes_on {cs = es} {c = c} {b = x} leads going o) =
     subst (λ xs. Replays p kb xs b) (append_assoc cs es (c ∷ [])) (replays_on (leads_replay p kb cs a es x from leads) going o)

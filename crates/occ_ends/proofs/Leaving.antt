@@ -18,7 +18,7 @@ use Rattle.occ_ends.specs.declared.uses.ProcessUses.{ProcessUses}
 use Rattle.occ_ends.specs.Ends.{noted_for, MarkedIn, Using, first_with, or_first as first_of}
 use Rattle.occ_ends.specs.Endless.{flag}
 use Rattle.occ_ends.specs.Kinds.{AreThose, is_at_channel, task_is, those}
-use Rattle.occ_ends.specs.ForGood.{AreWaiting, HasLeft, IsClosedSet, IsLeftWithin, IsOutside, IsWaiting, IsWhole, NoneWithin, arm_is_unwritten, arms_are_unwritten, branch_left, is_left_by, is_nobody, is_unended, nobody_at, some_left, task_is_left, waits_at}
+use Rattle.occ_ends.specs.ForGood.{AreWaiting, HasLeft, IsClosedSet, IsLeftWithin, IsOutside, StandsInSet, OutWithAll, NoneWithin, arm_is_unwritten, arms_are_unwritten, branch_left, is_left_by, is_nobody, is_unended, nobody_at, some_left, task_is_left, waits_at}
 use Rattle.occ_ends.proofs.ClosedSets.{read_mapped}
 use Rattle.occ_ends.proofs.LeftOnes.{held_those, tested, test_of, those_held, those_rise}
 use Rattle.occ_ends.proofs.Marking.{at_start, lt_or_le, past_start}
@@ -102,24 +102,24 @@ notes_outside us flags channels kind start new begun m x c out h = none_outside 
 -- ---- loops
 
 pub record AreWholeTo (flags : List Bool) (us : List Using) (i : ℕ) : Type 0 where
-  pub whole : (k : ℕ) (x : Using) → k < i → slice_get us k ≡ Some x → IsWhole flags x.number x.within
+  pub whole : (k : ℕ) (x : Using) → k < i → slice_get us k ≡ Some x → OutWithAll flags x.number x.within
 
 pub whole_first : (flags : List Bool) (us : List Using) → AreWholeTo flags us 0
 whole_first flags us = record { whole = λ k x lt there. absurd (omega (arith, lt)) }
 
-pub whole_next : (flags : List Bool) (ps : List ProcessUses) (i : ℕ) (p : ProcessUses) → i < length ps → p ≡ get_or ps i p → IsWhole flags p.number p.within
+pub whole_next : (flags : List Bool) (ps : List ProcessUses) (i : ℕ) (p : ProcessUses) → i < length ps → p ≡ get_or ps i p → OutWithAll flags p.number p.within
     → AreWholeTo flags (map noted_for ps) i → AreWholeTo flags (map noted_for ps) (i + 1)
 whole_next flags ps i p within is one before = record { whole = λ k x lt there. by k x there (lt_or_le k i) lt }
   where
     here : slice_get (map noted_for ps) i ≡ Some (noted_for p)
     here = read_mapped noted_for ps i p (at_index ps i p within is)
 
-    by : (k : ℕ) (x : Using) → slice_get (map noted_for ps) k ≡ Some x → (k < i) ⊎ (i ≤ k) → k < i + 1 → IsWhole flags x.number x.within
+    by : (k : ℕ) (x : Using) → slice_get (map noted_for ps) k ≡ Some x → (k < i) ⊎ (i ≤ k) → k < i + 1 → OutWithAll flags x.number x.within
     by k x there (inl less) lt = before.whole k x less there
     by k x there (inr le) lt =
         let same : k ≡ i = omega (arith, lt, le) in
         let x_is : noted_for p ≡ x = one_some (sym here ∙ subst (λ z. slice_get (map noted_for ps) z ≡ Some x) same there) in
-        subst (λ y. IsWhole flags y.number y.within) x_is one
+        subst (λ y. OutWithAll flags y.number y.within) x_is one
 
 pub whole_all : (flags : List Bool) (ps : List ProcessUses) (i : ℕ) → length ps ≤ i → AreWholeTo flags (map noted_for ps) i → (x : Using) → IsOutside (map noted_for ps) (flag flags) x → NoneWithin flags x.number x.within
 whole_all flags ps i past h x out =
@@ -197,9 +197,9 @@ none_closed us net flags e =
 
 -- ---- those at channels
 
-pub are_waiting : (tasks : Tasks) (flags : List Bool) (count : ℕ) (ns : List ℕ) → count ≡ length tasks → ns ≡ those (waits_at flags tasks) count → AreThose (IsWaiting (flag flags) tasks) ns
+pub are_waiting : (tasks : Tasks) (flags : List Bool) (count : ℕ) (ns : List ℕ) → count ≡ length tasks → ns ≡ those (waits_at flags tasks) count → AreThose (StandsInSet (flag flags) tasks) ns
 are_waiting tasks flags count ns all is =
-    subst (AreThose (IsWaiting (flag flags) tasks)) (sym is)
+    subst (AreThose (StandsInSet (flag flags) tasks)) (sym is)
     (record {
       each = λ n h.
           let y = of_both (flag flags n) (task_is is_at_channel (slice_get tasks n)) (those_held (waits_at flags tasks) count n h).1 in
@@ -216,5 +216,5 @@ nobody_waits us net ns e =
     record {
       set = flag [];
       closed = none_closed us net [] refl;
-      are = subst (AreThose (IsWaiting (flag []) net.tasks)) (sym e) (record { each = λ n h. absurd (true≢false (sym h)); all = λ n x. absurd (true≢false (sym x.inside)); rising = tt });
+      are = subst (AreThose (StandsInSet (flag []) net.tasks)) (sym e) (record { each = λ n h. absurd (true≢false (sym h)); all = λ n x. absurd (true≢false (sym x.inside)); rising = tt });
     }

@@ -19,7 +19,7 @@ use Rattle.occ_net_replay.specs.Replay.{Net, Tasks, HasTask, OneTurn, may_go, en
 use Rattle.occ_net_replay.specs.Waiting.{listens_on}
 use Rattle.occ_net_replay.proofs.Arms.{chosen_listens}
 use Rattle.occ_net_replay.proofs.Tables.{set_same, set_other, task_once, or_first, or_second, or_else, ready_at}
-use Rattle.occ_ends.specs.ForGood.{HasLeft, IsKept, LeadsOn, Set, WaitForGood, goes_on, stays}
+use Rattle.occ_ends.specs.ForGood.{HasLeft, KeepsTasks, LeadsLater, Set, WaitForGood, goes_on, stays}
 
 -- ---- who cannot be released from outside
 
@@ -30,8 +30,8 @@ pub record ComesTo (p : Program) (most : ℕ) (a : Net) (set : Set) (n : ℕ) (w
   pub net : Net
   pub next : Net
   pub few : length choices < most
-  pub leads : LeadsOn p a choices net
-  pub kept : IsKept set a net
+  pub leads : LeadsLater p a choices net
+  pub kept : KeepsTasks set a net
   pub going : ending_of p.errors net ≡ None
   pub turn : OneTurn p choice net next
   pub number : turn.number ≡ n
@@ -261,13 +261,13 @@ module _ (p : Program) (most : ℕ) (from : Net) (set : Set) (closed : IsUnmet p
 
 -- ---- by whatever choices
 
-comes : (p : Program) (most : ℕ) (from : Net) (set : Set) {cs : List Choice} {c : Choice} {b d : Net} → length cs < most → LeadsOn p from cs b → IsKept set from b → ending_of p.errors b ≡ None → (o : OneTurn p c b d) → ComesTo p most from set o.number o.after.wait
+comes : (p : Program) (most : ℕ) (from : Net) (set : Set) {cs : List Choice} {c : Choice} {b d : Net} → length cs < most → LeadsLater p from cs b → KeepsTasks set from b → ending_of p.errors b ≡ None → (o : OneTurn p c b d) → ComesTo p most from set o.number o.after.wait
 comes p most from set {cs = cs} {c = c} {b = b} {d = d} few leads kept going o = record { choices = cs; choice = c; net = b; next = d; few = few; leads = leads; kept = kept; going = going; turn = o; number = refl; ends = refl }
 
 one_fewer : (most : ℕ) (cs : List Choice) (c : Choice) → length (cs ++ c ∷ []) ≤ most → length cs < most
 one_fewer most cs c h = omega (arith, h, length-append cs (c ∷ []))
 
-stay : (p : Program) (most : ℕ) (from : Net) (set : Set) → IsUnmet p most from set → (cs : List Choice) (b : Net) → length cs ≤ most → LeadsOn p from cs b → IsKept set from b
+stay : (p : Program) (most : ℕ) (from : Net) (set : Set) → IsUnmet p most from set → (cs : List Choice) (b : Net) → length cs ≤ most → LeadsLater p from cs b → KeepsTasks set from b
 stay p most from set closed cs b few stays n h = refl
 stay p most from set closed cs b few (goes_on {cs = ds} {c = c} {b = a} leads going o) n h =
     let less = one_fewer most ds c few in

@@ -21,22 +21,22 @@ use Rattle.occ_ends.specs.Endless.{HeldIn, flag}
 use Rattle.occ_ends.specs.Kinds.{AreThose, is_at_channel, task_is}
 
 -- further choices lead from a network to another one; none after an ending
-pub data LeadsOn (p : Program) (a : Net) : List Choice → Net → Type 0 where
-  stays : LeadsOn p a [] a
-  goes_on : {cs : List Choice} {c : Choice} {b d : Net} → LeadsOn p a cs b → ending_of p.errors b ≡ None → OneTurn p c b d → LeadsOn p a (cs ++ c ∷ []) d
+pub data LeadsLater (p : Program) (a : Net) : List Choice → Net → Type 0 where
+  stays : LeadsLater p a [] a
+  goes_on : {cs : List Choice} {c : Choice} {b d : Net} → LeadsLater p a cs b → ending_of p.errors b ≡ None → OneTurn p c b d → LeadsLater p a (cs ++ c ∷ []) d
 
 -- a set of processes, by their numbers
 abbrev pub Set : Type 0
 Set = ℕ → Bool
 
 -- who is in the set has the task that it had
-abbrev pub IsKept : Set → Net → Net → Type 0
-IsKept set a b = (n : ℕ) → IsTrue (set n) → slice_get b.tasks n ≡ slice_get a.tasks n
+abbrev pub KeepsTasks : Set → Net → Net → Type 0
+KeepsTasks set a b = (n : ℕ) → IsTrue (set n) → slice_get b.tasks n ≡ slice_get a.tasks n
 
 -- Whatever choices follow, so many at most: who is in the set has the task that it had, and no turn is its own.
 pub record WaitForGood (p : Program) (most : ℕ) (net : Net) (set : Set) : Type 0 where
-  pub as_they_are : (cs : List Choice) (b : Net) → length cs ≤ most → LeadsOn p net cs b → IsKept set net b
-  pub no_turn : (cs : List Choice) (c : Choice) (b d : Net) → length cs < most → LeadsOn p net cs b → ending_of p.errors b ≡ None → (o : OneTurn p c b d) → IsFalse (set o.number)
+  pub as_they_are : (cs : List Choice) (b : Net) → length cs ≤ most → LeadsLater p net cs b → KeepsTasks set net b
+  pub no_turn : (cs : List Choice) (c : Choice) (b d : Net) → length cs < most → LeadsLater p net cs b → ending_of p.errors b ≡ None → (o : OneTurn p c b d) → IsFalse (set o.number)
 
 -- ---- who waits for good, by what processes use
 
@@ -76,7 +76,7 @@ ClosedSetsWaitForGood =
     → IsReplay u p quantum keyboard cs net → length cs + most < 2 ^ 64 → IsClosedSet (all_using (meaning u)) net set → WaitForGood p most net set
 
 -- one of the set, which stands at a channel
-pub record IsWaiting (set : Set) (tasks : Tasks) (n : ℕ) : Type 0 where
+pub record StandsInSet (set : Set) (tasks : Tasks) (n : ℕ) : Type 0 where
   pub inside : IsTrue (set n)
   pub task : Task
   pub there : HasTask tasks n task
@@ -86,7 +86,7 @@ pub record IsWaiting (set : Set) (tasks : Tasks) (n : ℕ) : Type 0 where
 pub record AreWaiting (us : List Using) (net : Net) (ns : List ℕ) : Type 0 where
   pub set : Set
   pub closed : IsClosedSet us net set
-  pub are : AreThose (IsWaiting set net.tasks) ns
+  pub are : AreThose (StandsInSet set net.tasks) ns
 
 -- of whatever network of this program the tables hold
 abbrev pub AreWaitingIn : {A : Type 0} → List ProcessUses → Program → Tables → Vec ℕ A → Type 0
@@ -167,11 +167,11 @@ MarksOutside kind uses flags old new = MarkedIn (λ n. not (flag flags n)) kind 
 abbrev pub NoneWithin : List Bool → (n within : ℕ) → Type 0
 NoneWithin flags n within = (k : ℕ) → n < k → k < n + 1 + within → IsFalse (flag flags k)
 
-abbrev pub IsWhole : List Bool → (n within : ℕ) → Type 0
-IsWhole flags n within = IsFalse (flag flags n) → NoneWithin flags n within
+abbrev pub OutWithAll : List Bool → (n within : ℕ) → Type 0
+OutWithAll flags n within = IsFalse (flag flags n) → NoneWithin flags n within
 
-abbrev pub AreWhole : List ProcessUses → List Bool → Type 0
-AreWhole uses flags = (x : Using) → IsOutside (map noted_for uses) (flag flags) x → NoneWithin flags x.number x.within
+abbrev pub AreOutWithAll : List ProcessUses → List Bool → Type 0
+AreOutWithAll uses flags = (x : Using) → IsOutside (map noted_for uses) (flag flags) x → NoneWithin flags x.number x.within
 
 -- of whatever network the tables hold, the flagged ones are a closed set
 abbrev pub IsClosedIn : List ProcessUses → Program → Tables → List Bool → Type 0

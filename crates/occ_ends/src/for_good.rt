@@ -1,7 +1,7 @@
 //! Which processes wait for good: whatever choices follow, they take no turn.
 ghost use Rattle.std.specs.Prelude.{◌≡◌, IfOk, IsTrue, slice_get};
 ghost use Rattle.occ_net_tables.specs.Holding.{HeldBy};
-ghost use Rattle.occ_ends.specs.ForGood.{AreClosedIn, AreLeftBy, AreWaitingIn, AreWhole, ClosedSetsWaitForGood, IsClosedIn, IsWhole, LeftBy, MarksOutside, NoneWithin, NotesThoseOutside, TaskLeftBy, arm_is_unwritten, arms_are_unwritten, branch_left, is_unended, nobody_at, some_left, waits_at};
+ghost use Rattle.occ_ends.specs.ForGood.{AreClosedIn, AreLeftBy, AreWaitingIn, AreOutWithAll, ClosedSetsWaitForGood, IsClosedIn, OutWithAll, LeftBy, MarksOutside, NoneWithin, NotesThoseOutside, TaskLeftBy, arm_is_unwritten, arms_are_unwritten, branch_left, is_unended, nobody_at, some_left, waits_at};
 ghost use Rattle.occ_ends.specs.Kinds.{AreThoseIn, task_is};
 
 use crate::ends::{Ends, mark_uses, nobody};
@@ -164,14 +164,14 @@ fn none_within(flags: &[bool], number: u32, within: usize) -> bool
 
 /// The same where that number is not flagged.
 fn is_whole(flags: &[bool], number: u32, within: usize) -> bool
-    ensures { IsTrue result → IsWhole flags.now number within }
+    ensures { IsTrue result → OutWithAll flags.now number within }
 {
     is_flagged(flags, number) || none_within(flags, number, within)
 }
 
 /// Whether with each process outside the flagged ones all within it are outside.
 fn are_whole(uses: &[ProcessUses], flags: &[bool]) -> bool
-    ensures { IsTrue result → AreWhole uses.now flags.now }
+    ensures { IsTrue result → AreOutWithAll uses.now flags.now }
 {
     for process in uses {
         if !is_whole(flags, process.number, process.within) {
