@@ -26,21 +26,21 @@ column_names known (suc n) = column_names known n ++ column_name known n ∷ []
 
 -- ---- who is named by a word: as `worker`, `3` or `p3`
 
-abbrev pub is_word_for : (name : List ℕ) → (n : ℕ) → Bor (List ℕ) → Bool
-is_word_for name n word = bytes_eq word.now name || bytes_eq word.now (decimal n) || bytes_eq word.now (112 ∷ decimal n)
+abbrev pub is_word_for : (name : List ℕ) → (n : ℕ) → (word : List ℕ) → Bool
+is_word_for name n word = bytes_eq word name || bytes_eq word (decimal n) || bytes_eq word (112 ∷ decimal n)
 
 abbrev pub is_named_among : List (Bor (List ℕ)) → (name : List ℕ) → (n : ℕ) → Bool
-is_named_among words name n = list_any (is_word_for name n) words
+is_named_among words name n = list_any (λ word. is_word_for name n word.now) words
 
 -- a word that names one of these at least, of which the first has this number
-abbrev pub names_some : ℕ → List (List ℕ) → Bor (List ℕ) → Bool
+abbrev pub names_some : ℕ → List (List ℕ) → (word : List ℕ) → Bool
 names_some n [] word = false
 names_some n (name ∷ names) word = is_word_for name n word || names_some (n + 1) names word
 
 -- the first word that names none
 abbrev pub nameless : List (List ℕ) → List (Bor (List ℕ)) → Option (List ℕ)
 nameless names [] = None
-nameless names (word ∷ words) = if names_some 0 names word then nameless names words else Some word.now
+nameless names (word ∷ words) = if names_some 0 names word.now then nameless names words else Some word.now
 
 -- ---- who is left out
 

@@ -55,7 +55,7 @@ pub(crate) fn column_names(
 
 /// Whether a word names the process of this name and this number.
 fn is_word_for(alloc: Global, name: &[u8], number: usize, word: &str) -> Result<bool, AllocError>
-    ensures { IfOk result (λ named. named ≡ is_word_for name.now number word.entry) }
+    ensures { IfOk result (λ named. named ≡ is_word_for name.now number word.now) }
 {
     let text = format!(in alloc; "{number}")?;
     let behind = format!(in alloc; "p{number}")?;
@@ -122,7 +122,7 @@ pub(crate) fn left_out(
 
 /// Whether a word names one of the processes that have these names.
 fn names_some(alloc: Global, names: &[Vec<u8>], word: &str) -> Result<bool, AllocError>
-    ensures { IfOk result (λ some. some ≡ names_some 0 (texts_of names.now) word.entry) }
+    ensures { IfOk result (λ some. some ≡ names_some 0 (texts_of names.now) word.now) }
 {
     let mut number = 0;
     let mut rest = names;
