@@ -150,9 +150,11 @@ kept_small SpecificationPassed = omega arith
 pub searched_to : (words : Asked) (source keyboard bytes keys : List ℕ) (asked : AskedFor) (options : Options) (found : Result Exploration PlayFault)
     → options ≡ options_in words → bytes ≡ source → keys ≡ keyboard
     → IfOk found (IsExplored options bytes keys asked words.full words.states) → IfOk found (λ e. EndsAtFirst words.first e.answers.items e.verdict) → IfErr found (Refuses options bytes) → SearchedTo words source keyboard asked found
-searched_to words source keyboard bytes keys asked options (Ok e) same from typed h first g =
-    (subst (λ o. IsExplored o source keyboard asked words.full words.states e) same
-    (subst (λ k. IsExplored options source k asked words.full words.states e) typed (subst (λ s. IsExplored options s keys asked words.full words.states e) from h)), first)
+searched_to words source keyboard bytes keys asked options (Ok e) same from typed h first g = (
+  subst (λ o. IsExplored o source keyboard asked words.full words.states e) same
+      (subst (λ k. IsExplored options source k asked words.full words.states e) typed (subst (λ s. IsExplored options s keys asked words.full words.states e) from h)),
+  first,
+)
 searched_to words source keyboard bytes keys asked options (Err f) same from typed h first g =
     subst (λ o. Refuses o source f) same (subst (λ s. Refuses options s f) from g)
 
