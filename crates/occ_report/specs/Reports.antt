@@ -185,7 +185,7 @@ abbrev pub line_of_kind : Kind → Left → List ℕ
 line_of_kind stops.Circle left = circling_line left.circle.items
 line_of_kind stops.Halted left = halted_line left.halted.items
 line_of_kind stops.Unfinished left = unfinished_line left.unfinished.items
-line_of_kind stops.Idle left = codes "idle: who is left is endless, and waits for what has ended\n"
+line_of_kind stops.Idle left = codes "idle: who waits at a channel is in an endless loop\n"
 
 abbrev pub kind_line : Left → List ℕ
 kind_line left = line_of_kind (kind_of left) left
@@ -249,7 +249,7 @@ network_report names readers writers known left waiting net e =
     kind_told e left waiting ++ report_head (length net.trace) e ++ task_lines names readers writers known net.tasks (told_of net.tasks) ++ ended_line (ended_among net.tasks (told_of net.tasks)) ++ circle_text net.tasks left.circle.items
 
 -- The replay of the used choices, which are a beginning of the list, as a run of the list has it, and the report of its state: of what
--- kind a stop is, or, where the choices are used up, which processes take no turn whatever choices follow; each process that is left, who
+-- kind a stop is, or, where the choices are used up, processes that take no turn whatever choices follow; each process that is left, who
 -- is at the other ends of its channels by what the program's term uses; how many have ended; and a circle of those that wait, where
 -- there is one.
 pub record IsReport (t : Term) (p : Program) (keyboard : List ℕ) (list : List Choice) (known : List Known) (bytes : List ℕ) : Type 0 where

@@ -63,7 +63,7 @@ fn write_of(alloc: Global, out: &mut Vec<u8>, kind: Kind, left: &Left) -> Result
         Kind::Halted => write_halted(alloc, out, left.halted.as_slice()),
         Kind::Unfinished => write_unfinished(alloc, out, left.unfinished.as_slice()),
         Kind::Idle => {
-            out.extend_from_slice(b"idle: who is left is endless, and waits for what has ended\n")
+            out.extend_from_slice(b"idle: who waits at a channel is in an endless loop\n")
         }
     }
 }
