@@ -72,7 +72,7 @@ def manual():
     lines = [
         f'.TH OCCAM 1 "" "occam {version()}" "User Commands"',
         f".SH NAME\noccam \\- {about[0].lower()}{about[1:].rstrip('.')}",
-        ".SH SYNOPSIS\n.B occam\n[\\fIFILE\\fR] [\\fIOPTIONS\\fR]",
+        ".SH SYNOPSIS\n.B occam\n[\\fIFILE\\fR...] [\\fIOPTIONS\\fR]",
         f".SH DESCRIPTION\n{about}",
     ]
     options = []
@@ -91,6 +91,10 @@ def manual():
         lines.append(f".TP\n{status}\n{escaped(' '.join(said.split()))}")
     shown = escaped(example.split("\n", 1)[1].strip())
     lines.append(f".SH EXAMPLE\n.nf\n{shown}\n.fi")
+    lines.append(
+        ".SH FILES\nA package puts the documents, a course and the examples into\n.IR /usr/share/doc/occam .\nTo work with them, copy that folder:\n"
+        ".PP\n.nf\ncp \\-r /usr/share/doc/occam ~/occam; cd ~/occam\n.fi"
+    )
     return "\n".join(lines) + "\n"
 
 

@@ -4,20 +4,42 @@ use Rattle.std.specs.Borrow.{Bor}
 use Rattle.std.specs.Fmt.{decimal}
 use Rattle.std.specs.List.{list_any}
 use Rattle.std.specs.Option.{option_copied}
-use Rattle.std.specs.Prelude.{Bool, List, None, Option, Some, [], bytes_eq, codes, false, if◌then◌else◌, nat_lt, not, suc, zero, ℕ, ◌&&◌, ◌++◌, ◌+◌, ◌||◌, ◌∷◌}
+use Rattle.std.specs.Prelude.{Bool, List, None, Option, Some, [], bytes_eq, codes, false, if◌then◌else◌, min, nat_lt, not, suc, zero, ℕ, ◌&&◌, ◌++◌, ◌+◌, ◌||◌, ◌∷◌}
 use Rattle.occ_places.specs.Places.{Known, name_of, stops_of}
 use Rattle.occ_places.specs.declared.stop.Stop.{Stop}
 
 -- ---- what they are called
 
--- the line of a process's first stop, where it is known
-abbrev pub line_or : (name : List ℕ) → List Stop → List ℕ
-line_or name [] = name
-line_or name (s ∷ ss) = codes "line " ++ decimal s.line
+-- the lower of two lines, where there is a first one
+abbrev pub lower : Option ℕ → ℕ → ℕ
+lower None n = n
+lower (Some m) n = min m n
+
+-- the lowest line behind a line at which one of these stops stands
+abbrev pub lowest_behind : (line : ℕ) → (found : Option ℕ) → List Stop → Option ℕ
+lowest_behind line found [] = found
+lowest_behind line found (s ∷ ss) = lowest_behind line (if nat_lt line s.line then Some (lower found s.line) else found) ss
+
+abbrev pub line_of_first : List Stop → ℕ
+line_of_first [] = 0
+line_of_first (s ∷ ss) = s.line
+
+abbrev pub named_by_line : ℕ → List ℕ
+named_by_line n = codes "line " ++ decimal n
+
+-- That line; where a process stops at none, that of its first stop, where it is known.
+abbrev pub line_or : (name : List ℕ) → Option ℕ → List Stop → List ℕ
+line_or name (Some n) ss = named_by_line n
+line_or name None [] = name
+line_or name None (s ∷ ss) = named_by_line s.line
+
+-- a branch in the body of the main process by the lowest line at which it stops behind the first stop of that, which begins it
+abbrev pub branch_name : List Known → ℕ → List ℕ
+branch_name known n = line_or (name_of known n) (lowest_behind (line_of_first (stops_of known 0)) None (stops_of known n)) (stops_of known n)
 
 -- by the PROC; a branch in the body of the main process, which has none of its own, by its line
 abbrev pub column_name : List Known → ℕ → List ℕ
-column_name known n = if nat_lt 0 n && bytes_eq (name_of known n) (name_of known 0) then line_or (name_of known n) (stops_of known n) else name_of known n
+column_name known n = if nat_lt 0 n && bytes_eq (name_of known n) (name_of known 0) then branch_name known n else name_of known n
 
 -- the first so many
 abbrev pub column_names : List Known → ℕ → List (List ℕ)

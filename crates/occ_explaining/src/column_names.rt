@@ -1,7 +1,7 @@
 //! What processes are called over a chart, and which of them have a column of their own.
-ghost use Rattle.std.specs.Prelude.{◌≡◌, IfOk, map};
+ghost use Rattle.std.specs.Prelude.{◌≡◌, IfOk, None, map};
 ghost use Rattle.std.specs.Option.{option_copied};
-ghost use Rattle.occ_explaining.specs.ColumnNames.{column_names, column_name, is_named_among, is_word_for, leaves_out, left_out_of, line_or, nameless, names_some};
+ghost use Rattle.occ_explaining.specs.ColumnNames.{branch_name, column_names, column_name, line_of_first, is_named_among, is_word_for, leaves_out, left_out_of, line_or, named_by_line, lower, lowest_behind, nameless, names_some};
 ghost use Rattle.occ_explaining.specs.Studied.{NamesNone};
 ghost use Rattle.occ_chart.specs.Labels.{texts_of};
 
@@ -12,17 +12,72 @@ use std::alloc::{AllocError, Global};
 /// How many processes have a name at most, and may stand at the foot.
 pub(crate) const MOST_NAMED: usize = 4_294_967_295;
 
-/// The line of the first of these stops, and this name where there is none.
-fn line_or(alloc: Global, name: &[u8], stops: &[Stop]) -> Result<Vec<u8>, AllocError>
-    ensures { IfOk result (λ text. text.items ≡ line_or name.now stops.now) }
+/// The lower of two lines, where there is a first one.
+fn lower(found: Option<u32>, line: u32) -> u32
+    ensures { result ≡ lower found line }
+{
+    match found {
+        Some(other) => other.min(line),
+        None => line,
+    }
+}
+
+/// The lowest line behind a line at which one of these stops stands.
+fn lowest_behind(line: u32, stops: &[Stop]) -> Option<u32>
+    ensures { result ≡ lowest_behind line None stops.now }
+{
+    let mut found = None;
+    let mut rest = stops;
+    while let Some((stop, others)) = rest.split_first() {
+        if line < stop.line {
+            found = Some(lower(found, stop.line));
+        }
+        rest = others;
+    }
+    found
+}
+
+fn line_of_first(stops: &[Stop]) -> u32
+    ensures { result ≡ line_of_first stops.now }
 {
     match stops.split_first() {
-        Some((stop, _)) => {
-            let text = format!(in alloc; "line {}", stop.line)?;
-            Vec::from_slice(alloc, text.as_bytes())
-        }
+        Some((stop, _)) => stop.line,
+        None => 0,
+    }
+}
+
+fn named_by_line(alloc: Global, line: u32) -> Result<Vec<u8>, AllocError>
+    ensures { IfOk result (λ text. text.items ≡ named_by_line line) }
+{
+    let text = format!(in alloc; "line {line}")?;
+    Vec::from_slice(alloc, text.as_bytes())
+}
+
+/// That line; else that of the first of these stops, and this name where there is none.
+fn line_or(
+    alloc: Global,
+    name: &[u8],
+    line: Option<u32>,
+    stops: &[Stop],
+) -> Result<Vec<u8>, AllocError>
+    ensures { IfOk result (λ text. text.items ≡ line_or name.now line stops.now) }
+{
+    if let Some(line) = line {
+        return named_by_line(alloc, line);
+    }
+    match stops.split_first() {
+        Some((stop, _)) => named_by_line(alloc, stop.line),
         None => Vec::from_slice(alloc, name),
     }
+}
+
+/// What a branch in the body of the main process is called.
+fn branch_name(alloc: Global, places: &Places, number: u32) -> Result<Vec<u8>, AllocError>
+    ensures { IfOk result (λ text. text.items ≡ branch_name places.now number) }
+{
+    let stops = places.stops(number);
+    let line = lowest_behind(line_of_first(places.stops(0)), stops);
+    line_or(alloc, places.name(number), line, stops)
 }
 
 /// What a process is called: by its PROC, and by its line where that is the main one.
@@ -31,7 +86,7 @@ fn column_name(alloc: Global, places: &Places, number: u32) -> Result<Vec<u8>, A
 {
     let name = places.name(number);
     if number > 0 && name == places.name(0) {
-        line_or(alloc, name, places.stops(number))
+        branch_name(alloc, places, number)
     } else {
         Vec::from_slice(alloc, name)
     }
@@ -72,12 +127,10 @@ fn is_named_among(
 ) -> Result<bool, AllocError>
     ensures { IfOk result (λ named. named ≡ is_named_among words.now name.now number) }
 {
-    let mut rest = words;
-    while let Some((first, others)) = rest.split_first() {
-        if is_word_for(alloc, name, number, first)? {
+    for word in words {
+        if is_word_for(alloc, name, number, word)? {
             return Ok(true);
         }
-        rest = others;
     }
     Ok(false)
 }
@@ -150,12 +203,10 @@ pub fn nameless<'w>(
 {
     let count = studied.code.len().min(MOST_NAMED) as u32;
     let names = column_names(alloc, &studied.places, count)?;
-    let mut rest = words;
-    while let Some((first, others)) = rest.split_first() {
-        if !names_some(alloc, names.as_slice(), first)? {
-            return Ok(Some(*first));
+    for word in words {
+        if !names_some(alloc, names.as_slice(), word)? {
+            return Ok(Some(*word));
         }
-        rest = others;
     }
     Ok(None)
 }
