@@ -1,4 +1,4 @@
-use Rattle.std.proofs.Common.{◌≡◌, ◌∙◌, Bool, List, ap, length, map, min, subst}
+use Rattle.std.proofs.Common.{◌≡◌, ◌∙◌, Bool, List, ap, length, map, min, subst, ℕ}
 use Rattle.occ_choices.specs.Plans.{choices_of}
 use Rattle.occ_ends.specs.Ends.{all_using, noted_for}
 use Rattle.occ_net_replay.specs.Following.{AreBytes}
