@@ -112,9 +112,13 @@ arrow_from places j k i e =
 abbrev pub arrow : (places : List ℕ) → List End → ℕ → Entry → List Element
 arrow places columns i e = arrow_from places (column_of e.sender columns) (column_of e.receiver columns) i e
 
+-- a white ground for two lines, over the lines of all columns
+abbrev pub band : (places : List ℕ) → (y : ℕ) → List Element
+band places y = area (ground 0 y (7 * last_place places + 84)) ∷ area (ground 0 (y + 14) (7 * last_place places + 84)) ∷ []
+
 -- the heads again, in a row of their own, where no row is left before them
 abbrev pub break : List ColumnHead → (places : List ℕ) → (left i : ℕ) → List Element
-break hs places left i = if nat_eq left 0 then drawn_heads places (30 * i + 68) 0 hs else []
+break hs places left i = if nat_eq left 0 then band places (30 * i + 58) ++ drawn_heads places (30 * i + 70) 0 hs else []
 
 -- each communication in a row of its own; heads stand again before one after so many others, and then after each 30
 abbrev pub arrows : List ColumnHead → (places : List ℕ) → List End → (left i : ℕ) → List Entry → List Element

@@ -1,6 +1,6 @@
 //! The arrows of communications.
 ghost use Rattle.std.specs.Prelude.{◌≡◌, ◌++◌, ◌≤◌, ◌^◌, IfOk, OnOk, length};
-ghost use Rattle.occ_chart.specs.Charts.{PutsArrows, arrow, arrow_from, PutsBreak, rows_left, row, row_behind, rows_of};
+ghost use Rattle.occ_chart.specs.Charts.{PutsArrows, arrow, arrow_from, band, PutsBreak, rows_left, row, row_behind, rows_of};
 ghost use Rattle.occ_chart.specs.Heads.{AreNear, halfway, room_between};
 ghost use Rattle.occ_chart.specs.Labels.{arrow_words, numbered_words};
 ghost use Rattle.occ_chart.specs.Shapes.{along, leftward, rightward};
@@ -9,9 +9,9 @@ ghost use Rattle.occ_chart.specs.Xml.{AddsElements};
 use crate::columns::place_of;
 use crate::headings::Head;
 use crate::heads::write_heads;
-use crate::labels::write_grounded;
+use crate::labels::{write_ground, write_grounded};
 use crate::messages::write_items;
-use crate::places::{column, place_at};
+use crate::places::{column, last_place, place_at};
 use crate::xml::write_path;
 use occ_board::Shown;
 use occ_term::End;
@@ -159,6 +159,18 @@ fn write_arrow(
     write_arrow_from(alloc, out, places, from, to, number, shown)
 }
 
+/// A white ground for two lines, over the lines of all columns.
+fn write_band(alloc: Global, out: &mut Vec<u8>, places: &[u64], y: u64) -> Result<(), AllocError>
+    requires places { AreNear places.now }
+    requires near { y ≤ 2 ^ 60 }
+    ensures { OnOk result (AddsElements out.old out.new (band places.now y)) }
+{
+    let width = 7 * last_place(places) + 84;
+    write_ground(alloc, out, 0, y, width)?;
+    write_ground(alloc, out, 0, y + 14, width)?;
+    Ok(())
+}
+
 /// The heads again, in a row of their own, where no other row is left before them.
 fn write_break(
     alloc: Global,
@@ -173,7 +185,9 @@ fn write_break(
     ensures { PutsBreak result out.old out.new heads.now places.now left number }
 {
     if left == 0 {
-        return write_heads(alloc, out, heads, places, 30 * number as u64 + 68);
+        let above = 30 * number as u64;
+        write_band(alloc, out, places, above + 58)?;
+        return write_heads(alloc, out, heads, places, above + 70);
     }
     Ok(())
 }
