@@ -38,8 +38,17 @@ const plain = (text) => text.replace(/\\u([0-9a-f]{4})/g, (_, digits) => String.
 const [source, names, ...texts] = $("data").textContent.split("\f").map(plain).map(linesOf);
 const runs = [];
 for (let place = 0; place + 4 < texts.length; place += 4) runs.push(texts.slice(place, place + 4));
-/** The number of the run that is shown, from 0: `page.html#2.12` is turn 12 of the second one. */
-const chosen = Math.max(0, Math.min(runs.length - 1, (/^#(\d+)\./.exec(location.hash)?.[1] || 1) - 1));
+/** Whether the line of an answer tells a fault, or a stop that is not idle. */
+const isWrong = (head) => /^\d+ (fault|stopped)\b/.test(head) && !/^\d+ stopped .*: idle$/.test(head);
+
+/** The number of the run that the address names, from 0: `page.html#2.12` is turn 12 of the second one. Without a `#` it is the first
+    that went wrong, if one did. */
+function runAsked() {
+  if (!location.hash) return Math.max(0, runs.findIndex(([head]) => isWrong(head[0] || "")));
+  return Math.max(0, Math.min(runs.length - 1, (/^#(\d+)\./.exec(location.hash)?.[1] || 1) - 1));
+}
+
+const chosen = runAsked();
 const [, trace, turnLines, report] = runs[chosen] || [[], ['{"ending":"no run ends"}'], [], []];
 const made = trace.map((line) => JSON.parse(line));
 const ending = made.pop().ending;
@@ -67,6 +76,8 @@ let count = 0;
 const turns = turnLines.map(readTurn);
 const last = turns.length;
 
+/** Whether the run ends because no process can go on. */
+const isStop = report.some((line) => / no process can go on:$/.test(line));
 /** What is told of each process at the end: all but those that have ended. */
 const atEnd = new Map();
 let circle = [];
@@ -124,6 +135,18 @@ function countWhere(list, test) {
   return low;
 }
 
+/** How many processes have begun and not ended, at most. */
+function mostStanding() {
+  const changes = new Array(last + 1).fill(0);
+  for (const events of stands.values()) {
+    changes[events[0].turn]++;
+    if (events.at(-1).kind === "ended") changes[events.at(-1).turn]--;
+  }
+  let most = 0, standing = 0;
+  for (const change of changes) most = Math.max(most, (standing += change));
+  return most;
+}
+
 /** How many communications were made behind so many turns. */
 const madeBy = (at) => (at === 0 ? 0 : at < last ? turns[at].first : made.length);
 
@@ -157,11 +180,12 @@ function othersOf(one, at, here) {
   if (!["offers", "awaits", "chooses"].includes(one.kind)) return "";
   const places = communications.get(one.process) || [];
   const next = made[places[countWhere(places, (place) => place < madeBy(at))]];
-  if (next) return `${next.sender === one.process ? next.receiver : next.sender}, in turn ${next.turn}`;
+  if (next) return `${next.sender === one.process ? next.receiver : next.sender}, until turn ${next.turn}`;
   const told = atEnd.get(one.process);
+  const long = isStop ? "for ever" : "to the end of the run";
   const ends = told ? [...told.stop.matchAll(/, which (p\d+) (?:reads|writes)/g)].map((end) => end[1]) : [];
-  if (ends.length) return `${[...new Set(ends)].join(" ")}, to the end`;
-  return told && told.stop.includes("used up") ? "keyboard, used up" : "nobody, to the end";
+  if (ends.length) return `${[...new Set(ends)].join(" ")}, ${long}`;
+  return told && told.stop.includes("used up") ? "keyboard, used up" : `nobody, ${long}`;
 }
 
 /** From which turn on the processes in a circle stand where they stand at the end. */
@@ -244,9 +268,16 @@ function showRows(taken) {
   }
   if (shown.length > MOST_ROWS) add(add(rows, "tr"), "td", "", `and ${shown.length - MOST_ROWS} more`).colSpan = 4;
   $("rows").replaceChildren(rows);
-  $("circle").textContent = circle.length && now >= circleFrom ? `A circle waits: ${circle.join(" \u2192 ")} \u2192 ${circle[0]}` : "";
   const row = $("rows").querySelector("tr.now");
   if (row) reveal($("waiting").querySelector(".scrolls"), row.offsetTop, row.offsetHeight, 30);
+}
+
+/** Says above all that scrolls that the run stops here, and which processes wait in a circle. */
+function showCircle() {
+  const parts = [];
+  if (isStop && now === last) parts.push("The run stops: no process can go on.");
+  if (circle.length && now >= circleFrom) parts.push(`A circle waits: ${circle.join(" \u2192 ")} \u2192 ${circle[0]}`);
+  $("circle").textContent = parts.join(" ");
 }
 
 // ---- the chart
@@ -321,10 +352,12 @@ function showChart() {
 function tell(turn) {
   if (!turn) return `Before the first turn. ${last} turns and ${made.length} communications follow.`;
   const who = turn.ready.length === 1 ? "the only one ready" : `one of ${turn.ready.length} ready`;
-  const at = turn.line ? `stops at line ${turn.line}: ` : turn.stop.startsWith("fault") ? "meets a " : "";
+  const goesOn = turn.stop === "can go on";
+  const at = turn.line && !goesOn ? `stops at line ${turn.line}: ` : turn.stop.startsWith("fault") ? "meets a " : "";
+  const where = turn.line && goesOn ? `, at line ${turn.line}` : "";
   const told = (entry) => ` Communication ${entry.number}: ${entry.sender} > ${entry.receiver}, ${entry.words}.`;
   const parts = made.slice(turn.first, madeBy(turn.number)).map(told);
-  return `Turn ${turn.number}: ${called(turn.taken)}, ${who}. It ${at}${turn.stop}.${parts.join("")}`;
+  return `Turn ${turn.number}: ${called(turn.taken)}, ${who}. It ${at}${turn.stop}${where}.${parts.join("")}`;
 }
 
 /** Shows the run behind so many turns. */
@@ -336,6 +369,7 @@ function go(at) {
   $("slider").setAttribute("aria-valuetext", `turn ${now} of ${last}`);
   $("where").textContent = `${now} of ${last}`;
   $("told").textContent = tell(turn);
+  showCircle();
   showSource(turn?.taken);
   showRows(turn?.taken);
   reveal($("arrows"), Math.max(0, madeBy(now) - 3) * ROW, 5 * ROW + 60, 0);
@@ -377,7 +411,7 @@ $("body").addEventListener("click", (event) => {
 addEventListener("resize", showChart);
 /** The turn that the address names. */
 const turnAsked = () => +(/(\d+)$/.exec(location.hash)?.[1] || 0);
-addEventListener("hashchange", () => (location.hash.includes(".") ? location.reload() : go(turnAsked())));
+addEventListener("hashchange", () => (runAsked() === chosen ? go(turnAsked()) : location.reload()));
 if (runs.length > 1) {
   runs.forEach(([head], place) => (add($("answers"), "option", "", head[0]).value = place));
   $("answers").value = chosen;
@@ -400,5 +434,8 @@ addEventListener("afterprint", () => {
 });
 $("ending").textContent = `${ending}, ${made.length} communications`;
 $("body").style.height = `${heightTo(made.length)}px`;
+// what table and chart need, so that neither moves from turn to turn
+$("side").style.setProperty("--table", `${(mostStanding() + 1) * 26 + 34}px`);
+$("side").style.setProperty("--drawn", `${heightTo(made.length) + 92}px`);
 showHeads();
 go(turnAsked());

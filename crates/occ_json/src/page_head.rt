@@ -34,10 +34,12 @@ button { font: inherit; min-width: 40px; min-height: 34px; color: var(--ink); ba
 #where { white-space: nowrap; font-variant-numeric: tabular-nums; }
 #told { margin: 0; min-height: 2.7em; overflow-wrap: anywhere; }
 main { flex: 1; min-height: 0; display: grid; grid-template-columns: minmax(0, 9fr) minmax(0, 11fr);
-  grid-template-rows: minmax(0, 2fr) minmax(0, 3fr); gap: 0 16px; padding: 0 12px 8px; }
+  grid-template-rows: minmax(0, 1fr); gap: 0 16px; padding: 0 12px 8px; }
+/* each of the two has as much as it needs up to one half, and what the other leaves free */
+#side { min-height: 0; min-width: 0; display: grid; grid-template-columns: minmax(0, 1fr);
+  grid-template-rows: minmax(min(50%, var(--table, 0px)), max-content) minmax(min(50%, var(--drawn, 0px)), max-content); }
 section { min-height: 0; min-width: 0; display: flex; flex-direction: column; }
-#text { grid-row: 1 / 3; }
-.scrolls { overflow: auto; flex: 1; min-height: 0; position: relative; }
+.scrolls { overflow: auto; flex: 1 1 auto; min-height: 0; position: relative; }
 #lines { margin: 0; padding: 0; list-style: none; font: .95rem/1.4 "DejaVu Sans Mono", Consolas, Menlo, monospace; }
 #lines li { display: flex; gap: 8px; padding: 0 2px; }
 #lines li.stands { background: var(--band); }
@@ -56,7 +58,8 @@ th, td { padding: 1px 8px 1px 2px; vertical-align: top; border-bottom: 1px solid
 td:first-child, th:first-child { white-space: nowrap; }
 td.line { text-align: right; }
 tr.now td { background: var(--now); }
-#circle { margin: 2px 0; font-weight: bold; color: var(--stands); }
+#circle { margin: 2px 0; max-height: 20vh; overflow: auto; overflow-wrap: anywhere; font-weight: bold; color: var(--stands); }
+#circle:empty { margin: 0; }
 #chart svg { display: block; font: 13px "DejaVu Sans Mono", Consolas, Menlo, monospace; }
 #heads { position: sticky; top: 0; background: var(--ground); z-index: 1; border-bottom: 1px solid var(--rule); width: max-content; }
 #chart text { fill: var(--ink); }
@@ -75,16 +78,16 @@ tr.now td { background: var(--now); }
 @media (max-width: 820px) {
   body { height: auto; display: block; }
   header { position: sticky; top: 0; z-index: 2; max-height: 45vh; overflow: auto; }
-  main { display: block; }
+  main, #side { display: block; }
   .scrolls { max-height: 50vh; }
   #text .scrolls { max-height: 40vh; }
   #keys { display: none; }
 }
 @media print {
   :root { --ground: #ffffff; --ink: #000000; --soft: #444444; --rule: #999999; --band: #eeeeee; --now: #dddddd; }
-  body, main, section { display: block; height: auto; }
+  body, main, #side, section { display: block; height: auto; }
   #controls, #keys { display: none; }
-  .scrolls { overflow: visible; max-height: none; }
+  .scrolls, #circle { overflow: visible; max-height: none; }
   th, #heads { position: static; }
   tr, #lines li { break-inside: avoid; }
 }
@@ -102,15 +105,18 @@ tr.now td { background: var(--now); }
 <output id="where"></output>
 </div>
 <p id="told" aria-live="polite"></p>
+<p id="circle" aria-live="polite"></p>
 <p id="keys">Keys: left and right, a turn; with Shift, to a communication; Home and End. A click on an arrow goes to its turn.</p>
 </header>
 <main>
 <section id="text"><h2>Source</h2><div class="scrolls" tabindex="0" aria-label="Source"><ol id="lines"></ol></div></section>
-<section id="waiting"><h2>Who waits for whom</h2><div class="scrolls" tabindex="0" aria-label="Who waits for whom"><p id="circle"></p>
+<div id="side">
+<section id="waiting"><h2>Who waits for whom</h2><div class="scrolls" tabindex="0" aria-label="Who waits for whom">
 <table><thead><tr><th>Process</th><th>Line</th><th>Stands at</th><th>Waits for</th></tr></thead><tbody id="rows"></tbody></table>
 </div></section>
 <section id="chart"><h2>Communications</h2><div class="scrolls" id="arrows" tabindex="0" aria-label="Communications"><div id="heads"></div>
 <div id="body"></div></div></section>
+</div>
 </main>
 <noscript>This page needs its script to show the run.</noscript>
 <script type="text/plain" id="data">"##;
