@@ -141,7 +141,8 @@ def walked(shown, texts):
                 stop = stop.replace(f", {entries[count]['number']} ", f". Communication {entries[count]['number']}: ").replace(">", " > ")
                 stop = re.sub(r"(: \w+ > \w+) ", r"\1, ", stop)
                 count += 1
-            wanted = f"It {f'stops at line {at}: ' if at else 'meets a ' if stop.startswith('fault') else ''}{stop}."
+            before = "" if stop == "can go on" else f"stops at line {at}: " if at else "meets a " if stop.startswith("fault") else ""
+            wanted = f"It {before}{stop}{f', at line {at}' if at and stop == 'can go on' else ''}."
             if not (now["told"].startswith(f"Turn {number}: {taken}") and now["told"].endswith(wanted)):
                 yield f"turn {number}: {now['told']!r}, and not {wanted!r}"
         if now["made"] != count:
