@@ -72,11 +72,12 @@ class Browser:
         return next(metric["value"] for metric in self.do("Performance.getMetrics")["metrics"] if metric["name"] == "TaskDuration")
 
     def open(self, path, part=""):
-        """Opens a file, at a part of it."""
-        self.is_open = False
-        self.do("Page.navigate", url=f"file://{path}{part}")
-        while not self.is_open:
-            self.next()
+        """Opens a file, at a part of it. A page that is open is left first, so that it is read again where the part alone is another one."""
+        for url in ("about:blank", f"file://{path}{part}"):
+            self.is_open = False
+            self.do("Page.navigate", url=url)
+            while not self.is_open:
+                self.next()
 
     def of(self, expression):
         """What an expression of the page's script gives."""
