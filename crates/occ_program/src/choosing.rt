@@ -2,7 +2,7 @@
 ghost use Rattle.std.specs.Prelude.{◌≡◌, IfOk, IfSome};
 ghost use Rattle.occ_program.specs.Explained.{TellsPast, past_text};
 
-use crate::explaining::print_text;
+use crate::explaining::print_told;
 use crate::program::options_of;
 use occ_explaining::{past_of, study};
 use occ_files::printed_name;
@@ -23,9 +23,9 @@ pub(crate) fn explain_choices<R: Eprint>(
 ) {
     if words.explain
         && let (Some(path), Ok(played)) = (words.choices, came)
-        && let Some(text) = told_past(alloc, words, inputs, path, played)
     {
-        print_text(rt, alloc, words, text.as_slice());
+        let told = told_past(alloc, words, inputs, path, played);
+        print_told(rt, alloc, words, told);
     }
 }
 
@@ -36,24 +36,22 @@ fn told_past(
     inputs: &Inputs,
     path: &str,
     played: &Played,
-) -> Option<Vec<u8>>
-    ensures { IfSome result (λ text.
-        TellsPast words.now inputs.now path.now played.now.choices.items text.items) }
+) -> Result<Option<Vec<u8>>, AllocError>
+    ensures { IfOk result (λ told. IfSome told (λ text.
+        TellsPast words.now inputs.now path.now played.now.choices.items text.items)) }
 {
     let Ok(studied) = study(&options_of(words), alloc, inputs.source.as_slice()) else {
-        return None;
+        return Err(AllocError);
     };
     let (keyboard, choices) = (inputs.keyboard.as_slice(), played.choices.as_slice());
-    let Ok(Some(turn)) = past_of(&studied, alloc, keyboard, choices) else {
-        return None;
+    let Some(turn) = past_of(&studied, alloc, keyboard, choices)? else {
+        return Ok(None);
     };
-    if turn < 2 || counts_turns(played.choices.as_slice(), turn) {
-        return None;
+    if turn < 2 || counts_turns(choices, turn) {
+        return Ok(None);
     }
-    match past_text(alloc, path, turn) {
-        Ok(text) => Some(text),
-        Err(_) => None,
-    }
+    let text = past_text(alloc, path, turn)?;
+    Ok(Some(text))
 }
 
 /// Whether the choice of a turn has the number of the turns before it, as in a run that was played without choices.

@@ -30,10 +30,9 @@ pub(crate) fn explain<R: Eprint>(
     came: &Result<Played, PlayFault>,
     reason: Reason,
 ) {
-    if words.explain
-        && let Some(text) = explanation(alloc, words, inputs, came, reason)
-    {
-        print_text(rt, alloc, words, text.as_slice());
+    if words.explain {
+        let told = explanation(alloc, words, inputs, came, reason);
+        print_told(rt, alloc, words, told);
     }
 }
 
@@ -46,10 +45,9 @@ pub(crate) fn explain_fault<R: Eprint>(
     ends: &[u32],
     fault: &PlayFault,
 ) {
-    if words.explain
-        && let Some(text) = told_of(alloc, words, source, ends, fault)
-    {
-        print_text(rt, alloc, words, text.as_slice());
+    if words.explain {
+        let told = told_of(alloc, words, source, ends, fault);
+        print_told(rt, alloc, words, told);
     }
 }
 
@@ -69,16 +67,16 @@ fn told_of(
     source: &[u8],
     ends: &[u32],
     fault: &PlayFault,
-) -> Option<Vec<u8>>
-    ensures { IfSome result (λ text. TellsOf words.now source.now ends.now fault.now text.items) }
+) -> Result<Option<Vec<u8>>, AllocError>
+    ensures { IfOk result (λ told. IfSome told
+        (λ text. TellsOf words.now source.now ends.now fault.now text.items)) }
 {
     if words.more.is_empty() && is_no_text(source, fault) {
-        return no_text(alloc, words);
+        let text = no_text(alloc, path_or("-", words.file))?;
+        return Ok(Some(text));
     }
-    match explained_fault(alloc, source, &files_of(words, ends), fault) {
-        Ok(told) => told,
-        Err(_) => None,
-    }
+    let told = explained_fault(alloc, source, &files_of(words, ends), fault)?;
+    Ok(told)
 }
 
 /// Whether a source is refused for what it is, and has a byte that is 0, as no text has.
@@ -94,18 +92,8 @@ fn is_no_text(source: &[u8], fault: &PlayFault) -> bool
     }
 }
 
-/// What is told of a source that is no text.
-fn no_text(alloc: Global, words: &Words<'_>) -> Option<Vec<u8>>
-    ensures { IfSome result (λ text. text.items ≡ no_text (source_name words.now)) }
-{
-    match no_text_in(alloc, path_or("-", words.file)) {
-        Ok(text) => Some(text),
-        Err(_) => None,
-    }
-}
-
 /// What is told of a file that is no text.
-fn no_text_in(alloc: Global, file: &str) -> Result<Vec<u8>, AllocError>
+fn no_text(alloc: Global, file: &str) -> Result<Vec<u8>, AllocError>
     ensures { IfOk result (λ text. text.items ≡ no_text file.now) }
 {
     let mut text = printed_name(alloc, file.as_bytes())?;
@@ -120,8 +108,9 @@ fn why(
     inputs: &Inputs,
     fault: &PlayFault,
     reason: Reason,
-) -> Option<Vec<u8>>
-    ensures { IfSome result (λ text. TellsWhy words.now inputs.now reason fault.now text.items) }
+) -> Result<Option<Vec<u8>>, AllocError>
+    ensures { IfOk result (λ told. IfSome told
+        (λ text. TellsWhy words.now inputs.now reason fault.now text.items)) }
 {
     match fault {
         PlayFault::Write { .. } => unwritten(alloc, words, reason),
@@ -136,14 +125,17 @@ fn why(
 }
 
 /// Why standard output was not written.
-fn unwritten(alloc: Global, words: &Words<'_>, reason: Reason) -> Option<Vec<u8>>
-    ensures { IfSome result (λ text. text.items ≡ trouble_text words.now (trouble Output reason)) }
+fn unwritten(
+    alloc: Global,
+    words: &Words<'_>,
+    reason: Reason,
+) -> Result<Option<Vec<u8>>, AllocError>
+    ensures { IfOk result (λ told. IfSome told
+        (λ text. text.items ≡ trouble_text words.now (trouble Output reason))) }
 {
     let stream = Stream::Output;
-    match trouble_text(alloc, words, Trouble { stream, reason }) {
-        Ok(text) => Some(text),
-        Err(_) => None,
-    }
+    let text = trouble_text(alloc, words, Trouble { stream, reason })?;
+    Ok(Some(text))
 }
 
 /// What is told of what a play came to; nothing of a run that ended.
@@ -153,9 +145,9 @@ fn explanation(
     inputs: &Inputs,
     came: &Result<Played, PlayFault>,
     reason: Reason,
-) -> Option<Vec<u8>>
-    ensures { IfSome result (λ text.
-        Explains words.now inputs.now reason came.now text.items) }
+) -> Result<Option<Vec<u8>>, AllocError>
+    ensures { IfOk result (λ told. IfSome told
+        (λ text. Explains words.now inputs.now reason came.now text.items)) }
 {
     match came {
         Ok(played) => reported(alloc, words, inputs, played),
@@ -164,16 +156,23 @@ fn explanation(
 }
 
 /// What each process stands at where a run has not ended.
-fn reported(alloc: Global, words: &Words<'_>, inputs: &Inputs, played: &Played) -> Option<Vec<u8>>
-    ensures { IfSome result (λ text. ReportsEnd words.now inputs.now played.now text.items) }
+fn reported(
+    alloc: Global,
+    words: &Words<'_>,
+    inputs: &Inputs,
+    played: &Played,
+) -> Result<Option<Vec<u8>>, AllocError>
+    ensures { IfOk result (λ told. IfSome told
+        (λ text. ReportsEnd words.now inputs.now played.now text.items)) }
 {
     if let Ending::Ended = played.ending {
-        return None;
+        return Ok(None);
     }
-    match cut_report(alloc, words, inputs, played) {
-        Ok(report) => Some(report),
-        Err(_) => None,
-    }
+    let Ok(studied) = study(&options_of(words), alloc, inputs.source.as_slice()) else {
+        return Err(AllocError);
+    };
+    let text = cut_report(alloc, words, inputs, &studied, played)?;
+    Ok(Some(text))
 }
 
 /// The report of a run, and where its choices were used up what allows more turns.
@@ -181,12 +180,13 @@ fn cut_report(
     alloc: Global,
     words: &Words<'_>,
     inputs: &Inputs,
+    studied: &Studied,
     played: &Played,
-) -> Result<Vec<u8>, PlayFault>
+) -> Result<Vec<u8>, AllocError>
+    requires { IsStudied (options_in words.now) inputs.now.source.items studied.now }
     ensures { IfOk result (λ text. ReportsEnd words.now inputs.now played.now text.items) }
 {
-    let studied = study(&options_of(words), alloc, inputs.source.as_slice())?;
-    let mut text = run_report(alloc, words, inputs, &studied, played.choices.as_slice())?;
+    let mut text = run_report(alloc, words, inputs, studied, played.choices.as_slice())?;
     let below = told_below(words.choices, played.ending);
     text.extend_from_slice(below.as_bytes())?;
     Ok(text)
@@ -231,18 +231,43 @@ pub(crate) fn run_report(
     Ok(text)
 }
 
+/// Prints what is told, if anything is; and `memory` where there was none to tell it.
+pub(crate) fn print_told<R: Eprint>(
+    rt: &R,
+    alloc: Global,
+    words: &Words<'_>,
+    told: Result<Option<Vec<u8>>, AllocError>,
+) {
+    match told {
+        Ok(Some(text)) => print_text(rt, alloc, words, text.as_slice()),
+        Ok(None) => {}
+        Err(AllocError) => tell_memory(rt),
+    }
+}
+
+/// Prints that there was no memory for what is told.
+pub(crate) fn tell_memory<R: Eprint>(rt: &R) {
+    let _ = eprintln!(rt; "memory");
+}
+
 /// Prints a text to standard error, with its first line in bold where that is wanted.
 pub(crate) fn print_text<R: Eprint>(rt: &R, alloc: Global, words: &Words<'_>, text: &[u8]) {
     if !words.bold || text.is_empty() {
         print_bytes(rt, alloc, text);
-    } else if let Ok(shown) = in_bold(alloc, text) {
-        print_bytes(rt, alloc, shown.as_slice());
+    } else {
+        match in_bold(alloc, text) {
+            Ok(shown) => print_bytes(rt, alloc, shown.as_slice()),
+            Err(_) => tell_memory(rt),
+        }
     }
 }
 
 /// Prints bytes to standard error; for those that are no UTF-8, as a source may have in its comments, stands U+FFFD.
 pub(crate) fn print_bytes<R: Eprint>(rt: &R, alloc: Global, text: &[u8]) {
-    if let Ok(text) = String::from_utf8_lossy(alloc, text) {
-        let _ = eprint!(rt; "{text}");
+    match String::from_utf8_lossy(alloc, text) {
+        Ok(text) => {
+            let _ = eprint!(rt; "{text}");
+        }
+        Err(_) => tell_memory(rt),
     }
 }

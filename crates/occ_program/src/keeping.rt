@@ -8,7 +8,7 @@ ghost use Rattle.occ_program.specs.Pages.{RecordsOutside};
 ghost use Rattle.occ_shown.specs.Counting.{failures_of};
 
 use crate::counting::Counter;
-use crate::explaining::print_text;
+use crate::explaining::print_told;
 use crate::exploring::{check_printed, check_record, check_records, record_only, refused};
 use crate::program::{options_of, tell};
 use crate::reading::read_inputs;
@@ -171,26 +171,28 @@ fn refused_as<R: Eprint>(
 {
     let _ = eprint!(rt; "specification: ");
     tell(rt, &fault);
-    if words.explain
-        && let Some(text) = told_of(alloc, path, specification.bytes.as_slice(), &fault)
-    {
-        print_text(rt, alloc, words, text.as_slice());
+    if words.explain {
+        let told = told_of(alloc, path, specification.bytes.as_slice(), &fault);
+        print_told(rt, alloc, words, told);
     }
     status_of(&Err(fault))
 }
 
 /// The explanation of a fault, where it refuses the specification in the file of this path.
-fn told_of(alloc: Global, path: &str, source: &[u8], fault: &PlayFault) -> Option<Vec<u8>>
-    ensures { IfSome result (λ text.
-        TellsOfSpecification path.now source.now fault.now text.items) }
+fn told_of(
+    alloc: Global,
+    path: &str,
+    source: &[u8],
+    fault: &PlayFault,
+) -> Result<Option<Vec<u8>>, AllocError>
+    ensures { IfOk result (λ told. IfSome told
+        (λ text. TellsOfSpecification path.now source.now fault.now text.items)) }
 {
     let files = Named {
         first: path,
         more: &[],
         ends: &[],
     };
-    match explained_fault(alloc, source, &files, fault) {
-        Ok(told) => told,
-        Err(_) => None,
-    }
+    let told = explained_fault(alloc, source, &files, fault)?;
+    Ok(told)
 }

@@ -1,20 +1,20 @@
 //! Tells what each process stands at where an answer of a search has not ended.
-ghost use Rattle.std.specs.Prelude.{◌≡◌, ◌<◌, IfOk, IsFalse, IsTrue, ◌⊎◌, ◌≢◌, length};
+ghost use Rattle.std.specs.Prelude.{◌≡◌, ◌<◌, IfOk, IfSome, IsFalse, IsTrue, ◌⊎◌, ◌≢◌, length};
 ghost use Rattle.occ_term.specs.declared.ending.Ending.TheVariants.{Ended};
 ghost use Rattle.occ_explaining.specs.Studied.{IsStudied};
 ghost use Rattle.occ_program.specs.Coming.{options_in};
 ghost use Rattle.occ_program.specs.Explained.{EndsLike, IsReported, NoneEnds, SomeEnds, TellsAnswers, TellsAt, answer_head, below_ending};
 
-use crate::explaining::{print_text, run_report};
+use crate::explaining::{print_told, run_report};
 use crate::program::options_of;
 use occ_explaining::{Studied, study};
 use occ_exploring::Answer;
-use occ_play::{Ending, PlayFault};
+use occ_play::Ending;
 use occ_play_inputs::{Inputs, Words};
 use std::alloc::{AllocError, Global};
 
 /// Prints, where the words ask for it, the report of the first of these answers with each ending but that of a whole run, and of
-/// stops the first of each kind. Where memory runs out for that, nothing is printed.
+/// stops the first of each kind. Where memory runs out for that, `memory` is printed.
 pub(crate) fn explain_answers<R: Eprint>(
     rt: &R,
     alloc: Global,
@@ -22,10 +22,9 @@ pub(crate) fn explain_answers<R: Eprint>(
     inputs: &Inputs,
     answers: &[Answer],
 ) {
-    if words.explain
-        && let Ok(text) = answers_told(alloc, words, inputs, answers)
-    {
-        print_text(rt, alloc, words, text.as_slice());
+    if words.explain {
+        let told = answers_told(alloc, words, inputs, answers);
+        print_told(rt, alloc, words, told);
     }
 }
 
@@ -35,16 +34,19 @@ fn answers_told(
     words: &Words<'_>,
     inputs: &Inputs,
     answers: &[Answer],
-) -> Result<Vec<u8>, PlayFault>
-    ensures { IfOk result (λ text. TellsAnswers words.now inputs.now answers.now text.items) }
+) -> Result<Option<Vec<u8>>, AllocError>
+    ensures { IfOk result (λ told. IfSome told
+        (λ text. TellsAnswers words.now inputs.now answers.now text.items)) }
 {
-    let studied = study(&options_of(words), alloc, inputs.source.as_slice())?;
+    let Ok(studied) = study(&options_of(words), alloc, inputs.source.as_slice()) else {
+        return Err(AllocError);
+    };
     let mut text = Vec::new(alloc);
     for place in 0..answers.len() {
         let part = told_at(alloc, words, inputs, &studied, answers, place)?;
         text.extend_from_slice(part.as_slice())?;
     }
-    Ok(text)
+    Ok(Some(text))
 }
 
 /// What is told of the answer at this place, from 0.

@@ -3,7 +3,7 @@ ghost use Rattle.std.specs.Prelude.{◌≡◌, IfOk, string_bytes};
 ghost use Rattle.occ_program.specs.Pages.{answer_path};
 ghost use Rattle.occ_program.specs.Troubles.{advice, path_at, path_or, stream_name, trouble_in, trouble_text};
 
-use crate::explaining::print_text;
+use crate::explaining::{print_text, tell_memory};
 use occ_files::{Reason, printed_name};
 use occ_play_inputs::{Failure, Stream, Trouble, Words};
 use std::alloc::{AllocError, Global};
@@ -11,7 +11,7 @@ use std::alloc::{AllocError, Global};
 /// What is told below a source that is missing.
 const ADVICE: &str = "  `occam FILE` runs the program in FILE, `occam --help` lists the options\n";
 
-/// Prints, behind the line of a failure, which file or stream failed, and why. Where memory runs out for that, nothing more is printed.
+/// Prints, behind the line of a failure, which file or stream failed, and why. Where memory runs out for that, `memory` is printed.
 pub(crate) fn explain_failure<R: Eprint>(
     rt: &R,
     alloc: Global,
@@ -20,9 +20,11 @@ pub(crate) fn explain_failure<R: Eprint>(
 ) {
     if words.explain
         && let Some(trouble) = trouble_in(failure)
-        && let Ok(text) = trouble_text(alloc, words, trouble)
     {
-        print_text(rt, alloc, words, text.as_slice());
+        match trouble_text(alloc, words, trouble) {
+            Ok(text) => print_text(rt, alloc, words, text.as_slice()),
+            Err(_) => tell_memory(rt),
+        }
     }
 }
 
