@@ -116,6 +116,9 @@ def table():
             yield name, source, "", words
     for name, source in REFUSED:
         yield name, source, "", []
+    for name, source in [SOURCES[3], SOURCES[4], REFUSED[2]]:
+        yield name, source, "", ["--explain"]
+    yield *SOURCES[3], "", ["--explore", "--explain"]
     yield "a keyboard", ECHO, "hi", ["--trace"]
     yield "a keyboard", ECHO, "hi", ["--workers", "2"]
     yield "a keyboard", ECHO, "hi", ["--watch", "--choices", "zeros.choices"]
@@ -180,6 +183,8 @@ class Tried:
             return done.stdout == b"" and all(line in left for line in done.stderr.splitlines())
         if "--tries" in self.words and (done.returncode, done.stdout, done.stderr) == (whole.returncode, whole.stdout, b""):
             return True  # the line on the number is left out
+        if "--explain" in self.words and (done.returncode, done.stdout) == (whole.returncode, whole.stdout) and done.stderr.endswith(b"memory\n"):
+            return whole.stderr.startswith(done.stderr.removesuffix(b"memory\n"))  # in place of the report
         by_workers = "--workers" in self.words or "--watch" in self.words
         if by_workers and done.returncode == whole.returncode and done.stdout and self.is_seen(done.stderr, whole.stderr):
             return True
