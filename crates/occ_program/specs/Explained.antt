@@ -1,6 +1,6 @@
 -- What is told behind a refusal's line, behind an ending, and behind the answers of a search.
 -- Manual: nothing; this is (own).
-use Rattle.std.specs.Prelude.{Bool, Err, List, None, Ok, Option, Result, Some, [], codes, get_or, length, map, nat_eq, suc, take, true, zero, ℕ, ⊤, ◌++◌, ◌<◌, ◌≤◌, ◌∷◌, ◌≡◌, ◌≢◌, ◌⊎◌}
+use Rattle.std.specs.Prelude.{Bool, Err, List, None, Ok, Option, Result, Some, [], codes, get_or, length, map, nat_eq, suc, take, true, zero, ℕ, ⊤, ◌++◌, ◌<◌, ◌≤◌, ◌∷◌, ◌≡◌, ◌≢◌, ◌⊎◌, Vec}
 use Rattle.std.specs.Fmt.{decimal}
 use Rattle.std.specs.List.{list_any}
 use Rattle.occ_explaining.specs.Explaining.{ReportsOn, TellsRefusal, refusal_in}
@@ -23,6 +23,11 @@ use Rattle.occ_play_inputs.specs.declared.inputs.Inputs.{Inputs}
 use Rattle.occ_play_inputs.specs.declared.words.Words.{Words}
 use Rattle.occ_program.specs.Coming.{options_in}
 use Rattle.occ_program.specs.Troubles.{path_or, trouble_text}
+
+-- where something is told, it is so
+abbrev pub IfTold : {A : Type 0} → (List ℕ → Type 0) → Option (Vec ℕ A) → Type 0
+IfTold Says None = ⊤
+IfTold Says (Some text) = Says text.items
 
 -- the paths of the source's files, and a hyphen for standard input
 abbrev pub files_in : Words → (ends : List ℕ) → SourceFiles

@@ -1,6 +1,6 @@
 //! Tells where a file of choices may be that of another program.
-ghost use Rattle.std.specs.Prelude.{◌≡◌, IfOk, IfSome};
-ghost use Rattle.occ_program.specs.Explained.{TellsPast, past_text};
+ghost use Rattle.std.specs.Prelude.{◌≡◌, IfOk};
+ghost use Rattle.occ_program.specs.Explained.{IfTold, TellsPast, past_text};
 
 use crate::explaining::print_told;
 use crate::program::options_of;
@@ -37,8 +37,8 @@ fn told_past(
     path: &str,
     played: &Played,
 ) -> Result<Option<Vec<u8>>, AllocError>
-    ensures { IfOk result (λ told. IfSome told (λ text.
-        TellsPast words.now inputs.now path.now played.now.choices.items text.items)) }
+    ensures { IfOk result
+        (IfTold (TellsPast words.now inputs.now path.now played.now.choices.items)) }
 {
     let Ok(studied) = study(&options_of(words), alloc, inputs.source.as_slice()) else {
         return Err(AllocError);

@@ -1,8 +1,8 @@
 //! Tells more of a refusal and of an ending, where the words ask for it.
-ghost use Rattle.std.specs.Prelude.{◌≡◌, IfOk, IfSome, IsTrue, true};
+ghost use Rattle.std.specs.Prelude.{◌≡◌, IfOk, IsTrue, true};
 ghost use Rattle.occ_play_inputs.specs.Failures.{trouble};
 ghost use Rattle.occ_play_inputs.specs.declared.failure.Stream.TheVariants.{Output};
-ghost use Rattle.occ_program.specs.Explained.{Explains, RefusesBytes, ReportsEnd, ReportsRun, TellsOf, TellsWhy, files_in, has_zero, limit_told, no_text, source_name, told_below};
+ghost use Rattle.occ_program.specs.Explained.{Explains, IfTold, RefusesBytes, ReportsEnd, ReportsRun, TellsOf, TellsWhy, files_in, has_zero, limit_told, no_text, source_name, told_below};
 ghost use Rattle.occ_explaining.specs.Files.{files_of};
 ghost use Rattle.occ_explaining.specs.Studied.{IsStudied};
 ghost use Rattle.occ_program.specs.Coming.{options_in};
@@ -68,8 +68,7 @@ fn told_of(
     ends: &[u32],
     fault: &PlayFault,
 ) -> Result<Option<Vec<u8>>, AllocError>
-    ensures { IfOk result (λ told. IfSome told
-        (λ text. TellsOf words.now source.now ends.now fault.now text.items)) }
+    ensures { IfOk result (IfTold (TellsOf words.now source.now ends.now fault.now)) }
 {
     if words.more.is_empty() && is_no_text(source, fault) {
         let text = no_text(alloc, path_or("-", words.file))?;
@@ -109,8 +108,7 @@ fn why(
     fault: &PlayFault,
     reason: Reason,
 ) -> Result<Option<Vec<u8>>, AllocError>
-    ensures { IfOk result (λ told. IfSome told
-        (λ text. TellsWhy words.now inputs.now reason fault.now text.items)) }
+    ensures { IfOk result (IfTold (TellsWhy words.now inputs.now reason fault.now)) }
 {
     match fault {
         PlayFault::Write { .. } => unwritten(alloc, words, reason),
@@ -130,8 +128,8 @@ fn unwritten(
     words: &Words<'_>,
     reason: Reason,
 ) -> Result<Option<Vec<u8>>, AllocError>
-    ensures { IfOk result (λ told. IfSome told
-        (λ text. text.items ≡ trouble_text words.now (trouble Output reason))) }
+    ensures { IfOk result
+        (IfTold (λ text. text ≡ trouble_text words.now (trouble Output reason))) }
 {
     let stream = Stream::Output;
     let text = trouble_text(alloc, words, Trouble { stream, reason })?;
@@ -146,8 +144,7 @@ fn explanation(
     came: &Result<Played, PlayFault>,
     reason: Reason,
 ) -> Result<Option<Vec<u8>>, AllocError>
-    ensures { IfOk result (λ told. IfSome told
-        (λ text. Explains words.now inputs.now reason came.now text.items)) }
+    ensures { IfOk result (IfTold (Explains words.now inputs.now reason came.now)) }
 {
     match came {
         Ok(played) => reported(alloc, words, inputs, played),
@@ -162,8 +159,7 @@ fn reported(
     inputs: &Inputs,
     played: &Played,
 ) -> Result<Option<Vec<u8>>, AllocError>
-    ensures { IfOk result (λ told. IfSome told
-        (λ text. ReportsEnd words.now inputs.now played.now text.items)) }
+    ensures { IfOk result (IfTold (ReportsEnd words.now inputs.now played.now)) }
 {
     if let Ending::Ended = played.ending {
         return Ok(None);

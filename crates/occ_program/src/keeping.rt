@@ -1,9 +1,9 @@
 //! Tells whether all that a source can come to is what its specification can come to.
-ghost use Rattle.std.specs.Prelude.{◌≡◌, ◌≤◌, ◌<◌, ◌-◌, ◌^◌, IfOk, IfSome};
+ghost use Rattle.std.specs.Prelude.{◌≡◌, ◌≤◌, ◌<◌, ◌-◌, ◌^◌, IfOk};
 ghost use Rattle.occ_exploring.specs.Within.{kept_text};
 ghost use Rattle.occ_play.specs.Status.{fault_status};
 ghost use Rattle.occ_program.specs.Coming.{IsKeepStatus, KeptTo, Prints, asked_in};
-ghost use Rattle.occ_program.specs.Explained.{TellsOfSpecification};
+ghost use Rattle.occ_program.specs.Explained.{IfTold, TellsOfSpecification};
 ghost use Rattle.occ_program.specs.Pages.{RecordsOutside};
 ghost use Rattle.occ_shown.specs.Counting.{failures_of};
 
@@ -185,8 +185,7 @@ fn told_of(
     source: &[u8],
     fault: &PlayFault,
 ) -> Result<Option<Vec<u8>>, AllocError>
-    ensures { IfOk result (λ told. IfSome told
-        (λ text. TellsOfSpecification path.now source.now fault.now text.items)) }
+    ensures { IfOk result (IfTold (TellsOfSpecification path.now source.now fault.now)) }
 {
     let files = Named {
         first: path,

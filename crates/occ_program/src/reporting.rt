@@ -1,9 +1,9 @@
 //! Tells what each process stands at where an answer of a search has not ended.
-ghost use Rattle.std.specs.Prelude.{◌≡◌, ◌<◌, IfOk, IfSome, IsFalse, IsTrue, ◌⊎◌, ◌≢◌, length};
+ghost use Rattle.std.specs.Prelude.{◌≡◌, ◌<◌, IfOk, IsFalse, IsTrue, ◌⊎◌, ◌≢◌, length};
 ghost use Rattle.occ_term.specs.declared.ending.Ending.TheVariants.{Ended};
 ghost use Rattle.occ_explaining.specs.Studied.{IsStudied};
 ghost use Rattle.occ_program.specs.Coming.{options_in};
-ghost use Rattle.occ_program.specs.Explained.{EndsLike, IsReported, NoneEnds, SomeEnds, TellsAnswers, TellsAt, answer_head, below_ending};
+ghost use Rattle.occ_program.specs.Explained.{EndsLike, IfTold, IsReported, NoneEnds, SomeEnds, TellsAnswers, TellsAt, answer_head, below_ending};
 
 use crate::explaining::{print_told, run_report};
 use crate::program::options_of;
@@ -35,8 +35,7 @@ fn answers_told(
     inputs: &Inputs,
     answers: &[Answer],
 ) -> Result<Option<Vec<u8>>, AllocError>
-    ensures { IfOk result (λ told. IfSome told
-        (λ text. TellsAnswers words.now inputs.now answers.now text.items)) }
+    ensures { IfOk result (IfTold (TellsAnswers words.now inputs.now answers.now)) }
 {
     let Ok(studied) = study(&options_of(words), alloc, inputs.source.as_slice()) else {
         return Err(AllocError);
