@@ -111,9 +111,16 @@ fn outcome_of(rt: &impl Abort, alloc: Global, network: Network) -> Option<Outcom
     }
 }
 
+/// Process 0 alone may take a turn of a network that is new.
+fn check_new(rt: &impl Abort, network: &Network) {
+    assert!(rt; network.ready_count() == 1);
+    assert!(rt; matches!(network.ready_at(0), Some(task) if task.number == 0));
+}
+
 /// A network that meets a refused growth comes to what the row says.
 fn check_row(rt: &impl Abort, alloc: Global, row: &Row) {
     let mut network = network_of(rt, alloc, row.0, row.1);
+    check_new(rt, &network);
     take_turns(rt, alloc, &mut network);
     let outcome = outcome_of(rt, alloc, network).expect(rt, "no outcome");
     check_bytes(rt, "the screen", outcome.screen.as_slice(), row.2);

@@ -22,8 +22,6 @@ mod plans;
 #[cfg(test)]
 mod refused;
 #[cfg(test)]
-mod settled;
-#[cfg(test)]
 mod sources;
 #[cfg(test)]
 mod threads;
