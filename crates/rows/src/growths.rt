@@ -114,7 +114,8 @@ fn outcome_of(rt: &impl Abort, alloc: Global, network: Network) -> Option<Outcom
 /// Process 0 alone may take a turn of a network that is new.
 fn check_new(rt: &impl Abort, network: &Network) {
     assert!(rt; network.ready_count() == 1);
-    assert!(rt; matches!(network.ready_at(0), Some(task) if task.number == 0));
+    let first = network.ready_at(0).expect(rt, "no process");
+    assert!(rt; first.number == 0);
 }
 
 /// A network that meets a refused growth comes to what the row says.
