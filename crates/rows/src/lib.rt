@@ -22,6 +22,8 @@ mod plans;
 #[cfg(test)]
 mod refused;
 #[cfg(test)]
+mod settled;
+#[cfg(test)]
 mod sources;
 #[cfg(test)]
 mod threads;
