@@ -4,8 +4,7 @@ ghost use Rattle.occ_explaining.specs.Typing.{NeedsNoKeyboard, NeverInputs};
 ghost use Rattle.occ_play.specs.Playing.{Refuses};
 ghost use Rattle.occ_usage.specs.Noted.{between, use_of, uses_in};
 
-use crate::studied::unfolded_of;
-use occ_play::{Options, PlayFault, code_of, status_of_fault};
+use occ_play::{Options, PlayFault, code_of, status_of_fault, unfolded_of};
 use occ_usage::{Kind, Use, term_uses};
 use std::alloc::Global;
 

@@ -1,16 +1,14 @@
 //! What is known of a source before it runs.
 ghost use Rattle.std.specs.Prelude.{IfErr, IfOk};
 ghost use Rattle.occ_explaining.specs.Studied.{IsStudied};
-ghost use Rattle.occ_play.specs.Playing.{Refuses, RefusesText, Unfolds};
+ghost use Rattle.occ_play.specs.Playing.{Refuses, RefusesText};
 ghost use Rattle.occ_text.specs.Lines.{LinesOf};
 ghost use Rattle.occ_text.specs.Words.{logical_lines};
 
-use occ_check::unfold;
 use occ_ends::{ProcessUses, process_uses};
 use occ_machine::Code;
 use occ_places::{Places, places_of};
-use occ_play::{Options, PlayFault, code_of};
-use occ_term::Unfolded;
+use occ_play::{Options, PlayFault, code_of, unfolded_of};
 use occ_text::{Source, read_lines};
 use occ_tree::parse;
 use occ_tree_grammar::tree::process::Program;
@@ -63,16 +61,4 @@ fn tree_of(alloc: Global, source: &[u8]) -> Result<Program, PlayFault>
     let lines = read_lines(alloc, source)?;
     let tree = parse(alloc, &lines)?;
     Ok(tree)
-}
-
-/// The unfolded program of a source.
-pub(crate) fn unfolded_of(alloc: Global, source: &[u8]) -> Result<Unfolded, PlayFault>
-    ensures found { IfOk result (λ u. Unfolds source.now u) }
-    ensures refused { IfErr result (RefusesText source.now) }
-{
-    let lines = read_lines(alloc, source)?;
-    let tree = parse(alloc, &lines)?;
-    let unfolded = unfold(alloc, &tree)?;
-    unfolded.well_formed();
-    Ok(unfolded)
 }

@@ -24,6 +24,8 @@ pub use occ_net_replay::Choice;
 pub use occ_run::{FreeGate, Gate, RunFault};
 pub use occ_shown::{Counted, watch_lines};
 pub use occ_term::{Communication, End, Ending, Errors};
-pub use playing::{Options, Played, code_of, play, play_in, status_of, status_of_fault};
+pub use playing::{
+    Options, Played, code_of, play, play_in, status_of, status_of_fault, unfolded_of,
+};
 pub use watched::play_watched;
 pub use workers::{play_workers, play_workers_in};

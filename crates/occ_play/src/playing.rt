@@ -199,7 +199,7 @@ fn accepted(alloc: Global, source: &[u8]) -> Result<Checked, PlayFault>
     ensures found { IfOk result (λ c. Unfolds source.now c × Lawful c) }
     ensures refused { IfErr result (RefusesText source.now) }
 {
-    let unfolded = front(alloc, source)?;
+    let unfolded = unfolded_of(alloc, source)?;
     match check_usage(alloc, unfolded) {
         Ok(checked) => Ok(checked),
         Err(refused) => Err(PlayFault::Usage(reason(refused))),
@@ -214,7 +214,11 @@ fn reason(refused: Refused) -> UsageFault
 }
 
 /// The unfolded program of a source.
-fn front(alloc: Global, source: &[u8]) -> Result<Unfolded, PlayFault>
+///
+/// # Errors
+///
+/// `Text`, `Parse` and `Check` refuse the source, with a refused growth among their faults.
+pub fn unfolded_of(alloc: Global, source: &[u8]) -> Result<Unfolded, PlayFault>
     ensures found { IfOk result (λ u. Unfolds source.now u) }
     ensures refused { IfErr result (RefusesText source.now) }
 {
