@@ -73,7 +73,7 @@ pub(crate) fn write_ground(
     write_area(out, course.as_bytes())
 }
 
-/// Words in so much room, on a white ground of 6 points for each letter.
+/// Words in so much room, on a white ground of 7 points for each letter.
 pub(crate) fn write_grounded(
     alloc: Global,
     out: &mut Vec<u8>,
@@ -85,8 +85,8 @@ pub(crate) fn write_grounded(
     requires { room ≤ 2 ^ 47 }
     ensures { OnOk result (AddsElements out.old out.new (grounded x y room words.now)) }
 {
-    let letters = room.min(words.len()) as u64;
-    let left = x.saturating_sub(3 * letters);
-    write_ground(alloc, out, left, y.saturating_sub(11), 6 * letters)?;
+    let width = 7 * room.min(words.len()) as u64;
+    let left = x.saturating_sub(width / 2);
+    write_ground(alloc, out, left, y.saturating_sub(11), width)?;
     write_label(alloc, out, Style::Plain, x, y, room, words, b"")
 }

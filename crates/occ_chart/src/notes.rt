@@ -121,7 +121,7 @@ pub(crate) fn write_before(alloc: Global, out: &mut Vec<u8>, words: &[u8]) -> Re
     if words.is_empty() {
         return Ok(());
     }
-    let width = 6 * words.len().min(100) as u64;
+    let width = 7 * words.len().min(100) as u64;
     write_ground(alloc, out, 8, 38, width)?;
     write_text(alloc, out, Style::Note, 10, 50, b"", words)
 }
