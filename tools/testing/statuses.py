@@ -64,6 +64,10 @@ RACE = HEAD + """  [3]CHAN OF BYTE c:
 DEFAULTS = {"--limit": "1000000", "--quantum": "1", "--errors": "halt", "--tries": "1", "--arrows": "200", "--explore": "answers", "--states": "1000000"}
 MOST = "a picture has 990 arrows at most"
 SVG = "{http://www.w3.org/2000/svg}"
+NO_CHOICE = "a line has two numbers with one space between, as `0 3`\n"
+NO_PROCESS = """error: no process is called '{}': take a name over a column, as worker or 'line 14', or a number, as 3; keyboard, screen and error keep theirs
+occam --help says what is allowed
+"""
 STUCK = "unfinished: p0 was not at its end\nafter 2 communications no process can go on:\n"
 STUCK_TOO = "circle: p1 p2 wait for one another\nafter 1 communication no process can go on:\n"
 HALTED = "halted: p0 was halted\nafter 0 communications no process can go on:\n  p0 main, line 2: halted by STOP\n"
@@ -162,6 +166,9 @@ CASES = [
     of(LETTER, ["--choices", "a", "--chart", "a"], 7, "", None, files={"a": "0 0\n"}),
     of(LETTER, ["--record", "./x.occ"], 7, "", "--record, --typed, --chart, --trace-to, --steps and --page each write into a file of their own\n"),
     of(LETTER, ["--choices", "a"], 7, "", "refused 90 BadChoice line 2\n", files={"a": "0 0\n0\n"}),
+    of(LETTER, ["--choices", "a\x1b", "--explain"], 7, "", f"refused 90 BadChoice line 2\na\\x1b:2: {NO_CHOICE}", files={"a\x1b": "0 0\n0\n"}),
+    of(LETTER, ["--chart", "a", "--only", "main,screen"], 7, "", NO_PROCESS.format("screen")),
+    of(LETTER, ["--chart", "a", "--without", "1", "--explain"], 7, "", NO_PROCESS.format("1")),
     Case([b"\xff.occ"], 7, "", "an argument is no UTF-8\n"),
     of(LETTER, ["--trace"], 0, "A\n1 c1 screen p0>screen 65\nended\n"),
     of(LETTER, ["--watch"], 0, "A", "1 c1 screen p0>screen 65\n"),

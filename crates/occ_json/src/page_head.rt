@@ -89,6 +89,8 @@ tr.now td { background: var(--now); }
   #controls, #keys { display: none; }
   .scrolls, #circle { overflow: visible; max-height: none; }
   th, #heads { position: static; }
+  #heads { width: auto; }
+  #chart svg { max-width: 100%; height: auto; }
   tr, #lines li { break-inside: avoid; }
 }
 </style>
