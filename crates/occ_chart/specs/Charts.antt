@@ -86,7 +86,7 @@ row_below count = row (rows_of 30 0 count)
 -- the name of the PROC that a process runs, where it has one
 abbrev pub name_label : (x y : ℕ) → List ℕ → List Element
 name_label x y [] = []
-name_label x y (b ∷ bs) = label Plain x y 24 (b ∷ bs) [] ∷ []
+name_label x y (b ∷ bs) = label Plain x y 24 (b ∷ bs) ∷ []
 
 abbrev pub drawn_head : (x y : ℕ) → ColumnHead → List Element
 drawn_head x y h = name_label x y h.name ++ text_at Plain x (y + 14) [] h.below ∷ []
@@ -102,7 +102,7 @@ lifelines places bottom k (x ∷ xs) = path (down (column places k) bottom) (cod
 
 -- words in so much room round a place, on a ground of 7 points for each letter, over the lines that stand there
 abbrev pub grounded : (x y room : ℕ) → List ℕ → List Element
-grounded x y room words = area (ground (x - (7 * min room (length words) / 2)) (y - 11) (7 * min room (length words))) ∷ label Plain x y room words [] ∷ []
+grounded x y room words = area (ground (x - (7 * min room (length words) / 2)) (y - 11) (7 * min room (length words))) ∷ label Plain x y room words ∷ []
 
 -- an arrow from the sender's column to the receiver's, under its number, the channel's name and the message
 abbrev pub arrow_from : (places : List ℕ) → (j k i : ℕ) → Entry → List Element
@@ -128,7 +128,7 @@ arrows hs places columns left i (e ∷ es) =
 
 -- who stands at the foot of its column, and why
 abbrev pub foot_at : (x bottom : ℕ) → List ℕ → List Element
-foot_at x bottom words = path (stub x bottom) (codes "red") ∷ label Red x (bottom + 28) 24 words [] ∷ []
+foot_at x bottom words = path (stub x bottom) (codes "red") ∷ label Red x (bottom + 28) 24 words ∷ []
 
 abbrev pub drawn_feet : (places : List ℕ) → List End → (bottom : ℕ) → List Footing → List Element
 drawn_feet places columns bottom [] = []
@@ -172,7 +172,7 @@ abbrev pub circle_words : List ℕ → List ℕ
 circle_words ns = codes "a circle waits:" ++ numbers_text ns
 
 abbrev pub circle_label : (letters bottom : ℕ) → List ℕ → Element
-circle_label letters bottom ns = label RedNote 10 (bottom + 116) letters (circle_words ns) []
+circle_label letters bottom ns = label RedNote 10 (bottom + 116) letters (circle_words ns)
 
 -- processes that wait for one another in a circle, where such are given
 abbrev pub note_circle : (letters bottom : ℕ) → List ℕ → List Element

@@ -149,7 +149,7 @@ fn write_circle_words(
     let words = circle_words(alloc, circle)?;
     let height = bottom + 116;
     let text = words.as_slice();
-    write_label(alloc, out, Style::RedNote, 10, height, letters, text, b"")
+    write_label(alloc, out, Style::RedNote, 10, height, letters, text)
 }
 
 /// A circle of processes that wait for one another, where one is given.

@@ -41,6 +41,7 @@ fn place_for_words(places: &[u64], reach: Reach) -> u64
 }
 
 /// The same for those of all arrows.
+#[tactic(auto, using(crate::proofs::Placing::one_more))]
 fn place_for_all(places: &[u64], reaches: &[Reach]) -> u64
     requires { AreNear places.now }
     ensures is { result ≡ place_for_all places.now reaches.now }
