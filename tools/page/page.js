@@ -335,23 +335,23 @@ function arrow(svg, place, done, current) {
   draw(group, "title", {}, `${entry.number}: ${called(entry.sender)} > ${called(entry.receiver)}, ${entry.words}, turn ${entry.turn}`);
 }
 
-/** Draws the communications from one place to another. */
-function showArrows(from, to) {
+/** A picture of the communications from one place to another. */
+function arrows(from, to) {
   const svg = draw(document.createDocumentFragment(), "svg", { width, height: heightTo(made.length) });
   const done = madeBy(now), before = now ? madeBy(now - 1) : 0;
-  const top = from * ROW, bottom = heightTo(to);
+  const top = Math.max(0, from - 1) * ROW, bottom = heightTo(to);
   for (const end of columns) draw(svg, "path", { class: "life", d: `M${middles.get(end)} ${top}V${bottom}` });
   for (let place = from; place < Math.min(to, made.length); place++) arrow(svg, place, done, place >= before && place < done);
   const y = done * ROW + 3;
   draw(svg, "path", { class: "rule", d: `M0 ${y}H${width}` });
-  $("body").replaceChildren(svg);
   return svg;
 }
 
+/** Draws those that can be seen: none of which a part stands under the heads. */
 function showChart() {
   const box = $("arrows");
-  const from = Math.max(0, Math.floor(box.scrollTop / ROW) - 5);
-  showArrows(from, from + Math.ceil(box.clientHeight / ROW) + 10);
+  const from = Math.max(0, Math.ceil((box.scrollTop - 8) / ROW));
+  $("body").replaceChildren(arrows(from, from + Math.ceil(box.clientHeight / ROW) + 10));
 }
 
 // ---- going through the turns
@@ -428,14 +428,21 @@ if (runs.length > 1) {
   $("answers").hidden = false;
   $("answers").addEventListener("change", () => (location.hash = `${+$("answers").value + 1}.0`));
 }
-// the printed chart has what surrounds this turn
-addEventListener("beforeprint", () => {
-  const from = Math.max(0, madeBy(now) - 40);
-  const to = Math.min(made.length, from + 60);
-  const svg = showArrows(from, to);
-  const height = heightTo(to) - from * ROW;
+/** A part of the printed chart, under the heads. */
+function printed(from, to) {
+  const part = add(document.createDocumentFragment(), "div", "printed");
+  const svg = arrows(from, to), height = (to - from) * ROW + 14;
   svg.setAttribute("viewBox", `0 ${from * ROW} ${width} ${height}`);
   svg.setAttribute("height", height);
+  part.append($("heads").firstChild.cloneNode(true), svg);
+  return part;
+}
+
+// the printed chart has what surrounds this turn
+addEventListener("beforeprint", () => {
+  const from = Math.max(0, madeBy(now) - 40), to = Math.min(made.length, from + 60);
+  $("body").replaceChildren();
+  for (let place = from; place < to; place += 20) $("body").append(printed(place, Math.min(to, place + 20)));
   $("body").style.height = "auto";
 });
 addEventListener("afterprint", () => {
