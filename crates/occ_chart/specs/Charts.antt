@@ -212,7 +212,7 @@ abbrev pub picture : List ColumnHead → List End → List Entry → List Footin
 picture hs columns es ss before after ending circle =
     above (places_of (reaches_of columns es) hs) hs columns es (picture_letters (places_of (reaches_of columns es) hs) before after ending) before
     ++ foot (places_of (reaches_of columns es) hs) hs columns (row_below (length es)) (length es) ss (picture_letters (places_of (reaches_of columns es) hs) before after ending) after
-        ending circle
+    ending circle
 
 -- how many are not drawn, since both ends are left out
 abbrev pub among_others : List Bool → List Entry → ℕ

@@ -71,7 +71,15 @@ fn shown(
     };
     let more = more_text(alloc, answers)?;
     let first = first_answers(answers);
-    let runs = runs_of(alloc, words, asked, inputs, &studied, more.as_slice(), first)?;
+    let runs = runs_of(
+        alloc,
+        words,
+        asked,
+        inputs,
+        &studied,
+        more.as_slice(),
+        first,
+    )?;
     let text = page_of(&studied, alloc, source, runs.as_slice())?;
     Ok(text)
 }

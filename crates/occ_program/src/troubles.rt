@@ -74,7 +74,9 @@ fn bad_choice(alloc: Global, line: u32) -> Result<String, AllocError>
     ensures { IfOk result (λ told.
         string_bytes told ≡ wrong_choices (ChoiceFault.BadChoice line)) }
 {
-    let told = format!(in alloc; ":{line}: a line has two numbers with one space between, as `0 3`\n")?;
+    let told = format!(in alloc;
+        ":{line}: a line has two numbers with one space between, as `0 3`\n"
+    )?;
     Ok(told)
 }
 
