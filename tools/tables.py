@@ -89,11 +89,11 @@ def manual():
     lines += [".SH OPTIONS", *options, ".SH EXIT STATUS"]
     for status, said in re.findall(r"(?m)^  (\d)  ((?:.*)(?:\n     .*)*)", statuses):
         lines.append(f".TP\n{status}\n{escaped(' '.join(said.split()))}")
-    shown = escaped(example.split("\n", 1)[1].strip())
-    lines.append(f".SH EXAMPLE\n.nf\n{shown}\n.fi")
+    shown = escaped("\n".join(line.strip() for line in example.split("\n") if line.startswith("  ")))
+    lines.append(f".SH EXAMPLES\n.nf\n{shown}\n.fi")
     lines.append(
         ".SH FILES\nA package puts the documents, a course and the examples into\n.IR /usr/share/doc/occam .\nTo work with them, copy that folder:\n"
-        ".PP\n.nf\ncp \\-r /usr/share/doc/occam ~/occam; cd ~/occam\n.fi"
+        ".PP\n.nf\ncp \\-r /usr/share/doc/occam ~/occam; cd ~/occam\n.fi\n.PP\nThe first hour is\n.I docs/tutorial.md\nthere, and the course\n.IR docs/course/README.md ."
     )
     return "\n".join(lines) + "\n"
 

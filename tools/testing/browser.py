@@ -5,6 +5,7 @@ import os
 import shutil
 import subprocess
 import tempfile
+import time
 
 NAMES = ["chromium", "chromium-browser", "google-chrome", "google-chrome-stable"]
 WORDS = ["--headless", "--no-sandbox", "--disable-gpu", "--disable-dev-shm-usage", "--remote-debugging-pipe", "about:blank"]
@@ -78,6 +79,11 @@ class Browser:
             self.do("Page.navigate", url=url)
             while not self.is_open:
                 self.next()
+
+    def follow(self, part):
+        """Follows a link to another part of the page that is open, which it may read again for that."""
+        self.of(f"location.hash = {json.dumps(part)}")
+        time.sleep(0.5)
 
     def of(self, expression):
         """What an expression of the page's script gives."""

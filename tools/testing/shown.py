@@ -36,6 +36,21 @@ LONG = """PROC main (CHAN OF BYTE keyboard, screen)
       two ? x
 :
 """
+# 120 answers
+MANY = """PROC main (CHAN OF BYTE keyboard, screen)
+  [5]CHAN OF BYTE c:
+  PAR
+    PAR i = 0 FOR 5
+      c[i] ! BYTE (i + 97)
+    BYTE x:
+    SEQ k = 0 FOR 5
+      SEQ
+        ALT i = 0 FOR 5
+          c[i] ? x
+            SKIP
+        screen ! x
+:
+"""
 # what the page shows: the words on the turn, the rows of processes as texts, and how many communications are behind it
 SEEN = """JSON.stringify({told: $("told").textContent, where: $("where").textContent,
   rows: [...$("rows").rows].map((row) => [...row.cells].map((cell) => cell.textContent)), made: madeBy(now)})"""
@@ -107,6 +122,7 @@ def searched(program, source):
         (folder / "x.occ").write_text(source)
         lines = run(program, folder, ["--explore", "--record", "found", "--page", "page.html", "x.occ"])[1].splitlines(keepends=True)
         answers = [line for line in lines if re.match(rb"\d+ (ended|stopped|fault)", line)]
+        more = b"".join(line for line in lines if re.match(rb"and \d+ more\n", line))
         page = (folder / "page.html").read_bytes()
         head, foot = parts()
         texts = page[len(head) : len(page) - len(foot)].split(b"\x0c")
@@ -115,7 +131,7 @@ def searched(program, source):
             return
         for number, line in enumerate(answers):
             run(program, folder, ["--choices", f"found.{number + 1}.choices", "--trace-to", "trace", "--json", "--steps", "turns", "x.occ"])
-            wanted = [line, (folder / "trace").read_bytes(), (folder / "turns").read_bytes()]
+            wanted = [line + more, (folder / "trace").read_bytes(), (folder / "turns").read_bytes()]
             for place, text in enumerate(wanted):
                 if texts[2 + 4 * number + place] + b"\x0c" != kept(text):
                     yield f"answer {number + 1}: the text {place} is another one"
@@ -195,6 +211,16 @@ def looked_at(program, path):
         if told != [line for line in lines if " by " in line] or shown.of('$("answers").value') != "1" or shown.of("now") != 16:
             yield f"a search: {told}"
         yield from laid_out(shown, "a search")
+        for part, run_shown, turn in (("#2.3", 1, 3), ("#1.5", 0, 5), ("#4.0", 3, 0)):
+            shown.follow(part)
+            if (shown.of("chosen"), shown.of("now"), shown.of('$("answers").value')) != (run_shown, turn, str(run_shown)):
+                yield f"a link to {part} shows run {shown.of('chosen')} behind turn {shown.of('now')}"
+        (folder / "x.occ").write_text(MANY)
+        run(program, folder, ["--explore", "--page", "page.html", "x.occ"])
+        shown.open(folder / "page.html")
+        last = shown.of('(({length, [length - 1]: one}) => [length, one.textContent, one.disabled])([...$("answers").options])')
+        if last != [101, "and 20 more", True]:
+            yield f"120 answers: {last}"
         made(program, folder, LONG)
         before = shown.busy()
         shown.open(folder / "page.html")
@@ -216,6 +242,7 @@ def jobs():
     for name in ("faults/dining", "faults/door", "first_steps/relay", "selection/merge"):
         source = (TOP / f"examples/{name}.occ").read_text()
         yield Job(f"page of a search: {name}", lambda program, source=source: searched(program, source))
+    yield Job("page of a search with 120 answers", lambda program: searched(program, MANY))
     yield Job("page: markup", lambda program: composed(program, MARKUP))
     path = found()
     if path:

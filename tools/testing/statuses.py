@@ -62,8 +62,17 @@ RACE = HEAD + """  [3]CHAN OF BYTE c:
 :
 """
 DEFAULTS = {"--limit": "1000000", "--quantum": "1", "--errors": "halt", "--tries": "1", "--arrows": "200", "--explore": "answers", "--states": "1000000"}
+# examples with words for their charts
+PICTURES = {
+    "faults/dining": [], "sharing/farm": [], "sharing/pool": ["--last", "40"], "pipelines/primes": [], "pipelines/squash": [], "first_steps/relay": [], "selection/stack": [],
+    "pipelines/matrix": ["--without", "component"],
+}
 MOST = "a picture has 990 arrows at most"
 SVG = "{http://www.w3.org/2000/svg}"
+NO_CHOICE = "a line has two numbers with one space between, as `0 3`\n"
+NO_PROCESS = """error: no process is called '{}': take a name over a column, as worker or 'line 14', or a number, as 3; keyboard, screen and error keep theirs
+occam --help says what is allowed
+"""
 STUCK = "unfinished: p0 was not at its end\nafter 2 communications no process can go on:\n"
 STUCK_TOO = "circle: p1 p2 wait for one another\nafter 1 communication no process can go on:\n"
 HALTED = "halted: p0 was halted\nafter 0 communications no process can go on:\n  p0 main, line 2: halted by STOP\n"
@@ -162,6 +171,9 @@ CASES = [
     of(LETTER, ["--choices", "a", "--chart", "a"], 7, "", None, files={"a": "0 0\n"}),
     of(LETTER, ["--record", "./x.occ"], 7, "", "--record, --typed, --chart, --trace-to, --steps and --page each write into a file of their own\n"),
     of(LETTER, ["--choices", "a"], 7, "", "refused 90 BadChoice line 2\n", files={"a": "0 0\n0\n"}),
+    of(LETTER, ["--choices", "a\x1b", "--explain"], 7, "", f"refused 90 BadChoice line 2\na\\x1b:2: {NO_CHOICE}", files={"a\x1b": "0 0\n0\n"}),
+    of(LETTER, ["--chart", "a", "--only", "main,screen"], 7, "", NO_PROCESS.format("screen")),
+    of(LETTER, ["--chart", "a", "--without", "1", "--explain"], 7, "", NO_PROCESS.format("1")),
     Case([b"\xff.occ"], 7, "", "an argument is no UTF-8\n"),
     of(LETTER, ["--trace"], 0, "A\n1 c1 screen p0>screen 65\nended\n"),
     of(LETTER, ["--watch"], 0, "A", "1 c1 screen p0>screen 65\n"),
@@ -491,6 +503,38 @@ def starving(program, room, source):
         yield f"turns: {told}"
 
 
+def words_at(text):
+    """The words that an element of a picture shows, and where they begin and end: a letter has 7 points."""
+    words = text[-1].tail if len(text) else text.text
+    left = int(text.get("x")) - (0 if text.get("text-anchor") else 7 * len(words) / 2)
+    return words, left, left + 7 * len(words)
+
+
+def fitting(program):
+    """What is wrong with the room of words in pictures, or nothing: those of an arrow stand between its ends, no two of one height overlap,
+    and a browser may scale the picture, which fits a slide."""
+    with room_of() as room:
+        wrong = []
+        for name, words in PICTURES.items():
+            run(program, room, ["--chart", "a.svg", *words, TOP / f"examples/{name}.occ"], "a line\n")
+            picture = tree.parse(room / "a.svg").getroot()
+            if picture.get("viewBox") != f"0 0 {picture.get('width')} {picture.get('height')}" or int(picture.get("width")) > 2000:
+                wrong.append(f"{name}: {picture.attrib}")
+            shapes, rows = list(picture), {}
+            for line, text in zip(shapes, shapes[2:]):
+                if line.get("stroke") == "black":
+                    ends = sorted(map(int, re.match(r"M (\d+) \d+ H (\d+)", line.get("d")).groups()))
+                    shown, left, right = words_at(text)
+                    if left < ends[0] or right > ends[1]:
+                        wrong.append(f"{name}: {shown}, {left} to {right}, and its arrow {ends}")
+            for text in picture.iter(f"{SVG}text"):
+                rows.setdefault(text.get("y"), []).append(words_at(text))
+            for row in rows.values():
+                row.sort(key=lambda found: found[1])
+                wrong += [f"{name}: {one} and {other} overlap" for one, other in zip(row, row[1:]) if one[2] > other[1]]
+        return "; ".join(wrong[:5]) or None
+
+
 def seeded(program):
     """What is wrong with seeds that are tried, or nothing: the first is found by which philosophers starve, and is recorded; its
     choices are those that docs/formats.md says how to make."""
@@ -531,7 +575,7 @@ def helped(program):
         return None if is_well and defaults == DEFAULTS else f"--help: {status} {out!r} {err!r}"
 
 
-CHECKS = [recorded, explored, reported, typed, counted, written, by_workers, waited, drawn, seeded, helped]
+CHECKS = [recorded, explored, reported, typed, counted, written, by_workers, waited, drawn, fitting, seeded, helped]
 
 
 def jobs():

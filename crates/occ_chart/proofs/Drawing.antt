@@ -8,7 +8,8 @@ use Rattle.occ_term.specs.declared.ending.Ending.{Ending}
 use Rattle.occ_chart.specs.declared.part.Part.{Part}
 use Rattle.occ_chart.specs.Charts.{IsChart, above, after_of, after_words, before_of, before_words, drawn_of, ending_words, foot, if_last, is_cut, picture_letters, picture, row_below, shown_of, arrow, arrows, break, rows_left, row_behind, rows_of}
 use Rattle.occ_chart.specs.Columns.{AreColumns, Footing}
-use Rattle.occ_chart.specs.Heads.{ColumnHead, heads_over, places_of}
+use Rattle.occ_chart.specs.Heads.{ColumnHead, heads_over, places_of, reaches_of}
+use Rattle.occ_chart.specs.declared.reaches.Reach.{Reach}
 use Rattle.occ_chart.specs.LeftOut.{count_seen, is_between_others, seen_entries, seen_entry, seen_feet}
 use Rattle.occ_chart.specs.Xml.{Element, element_text, elements_text}
 
@@ -47,17 +48,20 @@ list_next left names i (suc k) before list new x iter xs e w split plain some no
     ∙ sym (ap (λ m. list ++ take (suc k) (drop m (seen_entries left (entries names i iter)))) none)
     ∙ h
 
-pub four_more : (o a b c d x y z w : List ℕ) → x ≡ o ++ a → y ≡ x ++ b → z ≡ y ++ c → w ≡ z ++ d → w ≡ o ++ (((a ++ b) ++ c) ++ d)
+four_more : (o a b c d x y z w : List ℕ) → x ≡ o ++ a → y ≡ x ++ b → z ≡ y ++ c → w ≡ z ++ d → w ≡ o ++ (((a ++ b) ++ c) ++ d)
 four_more o a b c d x y z w e f g h =
     h ∙ ap (λ l. l ++ d) (g ∙ ap (λ l. l ++ c) (f ∙ ap (λ l. l ++ b) e ∙ append_assoc o a b) ∙ append_assoc o (a ++ b) c)
     ∙ append_assoc o ((a ++ b) ++ c) d
 
+pub five_more : (o a b c d e x y z v w : List ℕ) → x ≡ o ++ a → y ≡ x ++ b → z ≡ y ++ c → v ≡ z ++ d → w ≡ v ++ e → w ≡ o ++ ((((a ++ b) ++ c) ++ d) ++ e)
+five_more o a b c d e x y z v w f g h i j = j ∙ ap (λ l. l ++ e) (four_more o a b c d x y z v f g h i) ∙ append_assoc o (((a ++ b) ++ c) ++ d) e
+
 -- the parts of the code are known by what they are
-pub pictured : (hs : List ColumnHead) (columns : List End) (es : List Entry) (ss : List Footing) (before before' after ending circle places places' : List ℕ) (letters count : ℕ) (top bytes : List ℕ)
-    → places ≡ places_of hs → places' ≡ places → letters ≡ picture_letters places' before after ending → before' ≡ before → count ≡ length es
+pub pictured : (hs : List ColumnHead) (columns : List End) (es : List Entry) (ss : List Footing) (before before' after ending circle places places' : List ℕ) (between between' : List Reach) (letters count : ℕ) (top bytes : List ℕ)
+    → between ≡ reaches_of columns es → between' ≡ between → places ≡ places_of between' hs → places' ≡ places → letters ≡ picture_letters places' before after ending → before' ≡ before → count ≡ length es
     → top ≡ above places' hs columns es letters before' → bytes ≡ top ++ foot places' hs columns (row_below count) count ss letters after ending circle
     → bytes ≡ picture hs columns es ss before after ending circle
-pictured hs columns es ss before before' after ending circle places places' letters count top bytes stand own wide same many first second =
+pictured hs columns es ss before before' after ending circle places places' between between' letters count top bytes reach these stand own wide same many first second =
     second
     ∙ ap (λ t. t ++ foot places' hs columns (row_below count) count ss letters after ending circle) (first ∙ ap (above places' hs columns es letters) same)
     ∙ ap (λ k. above places' hs columns es letters before ++ foot places' hs columns (row_below k) k ss letters after ending circle) many
@@ -66,7 +70,7 @@ pictured hs columns es ss before before' after ending circle places places' lett
     (λ ps.
     above ps hs columns es (picture_letters ps before after ending) before
     ++ foot ps hs columns (row_below (length es)) (length es) ss (picture_letters ps before after ending) after ending circle)
-    (own ∙ stand)
+    (own ∙ stand ∙ ap (λ l. places_of l hs) (these ∙ reach))
 
 pub charted : (all : List Entry) (left : List Bool) (part : Part) (ending : Ending) (names : List (List ℕ)) (standing ss ss' : List Footing) (circle : List ℕ) (shown shown' : List Entry) (columns columns' : List End) (hs hs' : List ColumnHead) (count drawn skipped among : ℕ) (before after noted bytes : List ℕ)
     → count ≡ length (seen_entries left all) → drawn ≡ drawn_of part count → skipped ≡ if_last part (count - drawn)

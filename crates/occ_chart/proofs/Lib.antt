@@ -1,2 +1,3 @@
 pub mod Ordering
 mod Drawing
+mod Placing

@@ -1,7 +1,7 @@
 -- The sequence chart of a run, in SVG: a column for each end that takes part, from top to bottom an arrow for each communication, and at
 -- the foot what each process waits for.
 -- Manual: nothing; this is (own).
-use Rattle.std.specs.Prelude.{Bool, List, OnOk, Result, [], codes, drop, false, if◌then◌else◌, length, max, min, nat_eq, nat_lt, suc, take, true, zero, ℕ, ◌&&◌, ◌++◌, ◌+◌, ◌-◌, ◌*◌, ◌∷◌, ◌≡◌, Vec}
+use Rattle.std.specs.Prelude.{Bool, List, OnOk, Result, [], codes, drop, false, if◌then◌else◌, length, max, min, nat_eq, nat_lt, suc, take, true, zero, ℕ, ◌&&◌, ◌++◌, ◌+◌, ◌-◌, ◌*◌, ◌/◌, ◌∷◌, ◌≡◌, Vec}
 use Rattle.std.specs.Fmt.{decimal}
 use Rattle.occ_term.specs.declared.communication.End.{End}
 use Rattle.occ_term.specs.declared.communication.End.TheVariants.{Process as OfProcess}
@@ -14,7 +14,7 @@ use Rattle.occ_chart.specs.declared.part.Part.{Part}
 use Rattle.occ_chart.specs.declared.part.Part.TheVariants.{First, Last}
 use Rattle.occ_chart.specs.declared.xml.Style.TheVariants.{Plain, Red, Note, RedNote}
 use Rattle.occ_chart.specs.Columns.{AreColumns, Footing, column_of}
-use Rattle.occ_chart.specs.Heads.{ColumnHead, column, halfway, heads_over, last_place, places_of, room_between}
+use Rattle.occ_chart.specs.Heads.{ColumnHead, column, halfway, heads_over, last_place, places_of, room_between, reaches_of}
 use Rattle.occ_chart.specs.Labels.{numbered_words, texts_of}
 use Rattle.occ_chart.specs.LeftOut.{seen_entries, seen_feet}
 use Rattle.occ_chart.specs.Shapes.{along, area, down, ground, label, path, stub, text_at}
@@ -86,7 +86,7 @@ row_below count = row (rows_of 30 0 count)
 -- the name of the PROC that a process runs, where it has one
 abbrev pub name_label : (x y : ℕ) → List ℕ → List Element
 name_label x y [] = []
-name_label x y (b ∷ bs) = label Plain x y 24 (b ∷ bs) [] ∷ []
+name_label x y (b ∷ bs) = label Plain x y 24 (b ∷ bs) ∷ []
 
 abbrev pub drawn_head : (x y : ℕ) → ColumnHead → List Element
 drawn_head x y h = name_label x y h.name ++ text_at Plain x (y + 14) [] h.below ∷ []
@@ -100,9 +100,9 @@ abbrev pub lifelines : (places : List ℕ) → (bottom k : ℕ) → List End →
 lifelines places bottom k [] = []
 lifelines places bottom k (x ∷ xs) = path (down (column places k) bottom) (codes "silver") ∷ lifelines places bottom (k + 1) xs
 
--- words in so much room round a place, on a ground of 6 points for each letter, over the lines that stand there
+-- words in so much room round a place, on a ground of 7 points for each letter, over the lines that stand there
 abbrev pub grounded : (x y room : ℕ) → List ℕ → List Element
-grounded x y room words = area (ground (x - 3 * min room (length words)) (y - 11) (6 * min room (length words))) ∷ label Plain x y room words [] ∷ []
+grounded x y room words = area (ground (x - (7 * min room (length words) / 2)) (y - 11) (7 * min room (length words))) ∷ label Plain x y room words ∷ []
 
 -- an arrow from the sender's column to the receiver's, under its number, the channel's name and the message
 abbrev pub arrow_from : (places : List ℕ) → (j k i : ℕ) → Entry → List Element
@@ -128,7 +128,7 @@ arrows hs places columns left i (e ∷ es) =
 
 -- who stands at the foot of its column, and why
 abbrev pub foot_at : (x bottom : ℕ) → List ℕ → List Element
-foot_at x bottom words = path (stub x bottom) (codes "red") ∷ label Red x (bottom + 28) 24 words [] ∷ []
+foot_at x bottom words = path (stub x bottom) (codes "red") ∷ label Red x (bottom + 28) 24 words ∷ []
 
 abbrev pub drawn_feet : (places : List ℕ) → List End → (bottom : ℕ) → List Footing → List Element
 drawn_feet places columns bottom [] = []
@@ -166,13 +166,13 @@ note y (b ∷ bs) = text_at Note 10 y [] (b ∷ bs) ∷ []
 -- over the lines of the columns
 abbrev pub note_before : List ℕ → List Element
 note_before [] = []
-note_before (b ∷ bs) = area (ground 8 38 (6 * min 100 (length (b ∷ bs)))) ∷ text_at Note 10 50 [] (b ∷ bs) ∷ []
+note_before (b ∷ bs) = area (ground 8 38 (7 * min 100 (length (b ∷ bs)))) ∷ text_at Note 10 50 [] (b ∷ bs) ∷ []
 
 abbrev pub circle_words : List ℕ → List ℕ
 circle_words ns = codes "a circle waits:" ++ numbers_text ns
 
 abbrev pub circle_label : (letters bottom : ℕ) → List ℕ → Element
-circle_label letters bottom ns = label RedNote 10 (bottom + 116) letters (circle_words ns) []
+circle_label letters bottom ns = label RedNote 10 (bottom + 116) letters (circle_words ns)
 
 -- processes that wait for one another in a circle, where such are given
 abbrev pub note_circle : (letters bottom : ℕ) → List ℕ → List Element
@@ -185,11 +185,16 @@ note_circle letters bottom (n ∷ ns) = circle_label letters bottom (n ∷ ns) �
 abbrev pub picture_letters : (places : List ℕ) → (before after ending : List ℕ) → ℕ
 picture_letters places before after ending = max (last_place places + 12) (min 100 (max (max (length before) (length after)) (length ending)) + 3)
 
--- a white ground
+-- its corners, by which a browser scales it
+unfoldable pub corners : (width height : ℕ) → List ℕ
+corners width height = codes "0 0 " ++ (decimal width ++ (codes " " ++ decimal height))
+
+-- a white ground; a letter of 11 points is less than 7 wide
 unfoldable pub svg_opening : (width height : ℕ) → List ℕ
 svg_opening width height =
     codes "<svg xmlns=\"http://www.w3.org/2000/svg\"" ++ attribute_text (attribute (codes "width") (decimal width)) ++ attribute_text (attribute (codes "height") (decimal height))
-    ++ codes " font-family=\"sans-serif\" font-size=\"12\" text-anchor=\"middle\">\n<rect width=\"100%\" height=\"100%\" fill=\"white\"></rect>\n"
+    ++ attribute_text (attribute (codes "viewBox") (corners width height))
+    ++ codes " font-family=\"DejaVu Sans Mono, Consolas, Menlo, monospace\" font-size=\"11\" text-anchor=\"middle\">\n<rect width=\"100%\" height=\"100%\" fill=\"white\"></rect>\n"
 
 -- over the foot
 abbrev pub above : (places : List ℕ) → List ColumnHead → List End → List Entry → (letters : ℕ) → (before : List ℕ) → List ℕ
@@ -205,8 +210,9 @@ foot places hs columns bottom count ss letters after ending circle =
 -- these communications, these feet and these notes, in columns that have these heads
 abbrev pub picture : List ColumnHead → List End → List Entry → List Footing → (before after ending circle : List ℕ) → List ℕ
 picture hs columns es ss before after ending circle =
-    above (places_of hs) hs columns es (picture_letters (places_of hs) before after ending) before
-    ++ foot (places_of hs) hs columns (row_below (length es)) (length es) ss (picture_letters (places_of hs) before after ending) after ending circle
+    above (places_of (reaches_of columns es) hs) hs columns es (picture_letters (places_of (reaches_of columns es) hs) before after ending) before
+    ++ foot (places_of (reaches_of columns es) hs) hs columns (row_below (length es)) (length es) ss (picture_letters (places_of (reaches_of columns es) hs) before after ending) after
+    ending circle
 
 -- how many are not drawn, since both ends are left out
 abbrev pub among_others : List Bool → List Entry → ℕ

@@ -1,6 +1,6 @@
 -- Which columns a chart has: one for each that takes part.
 -- Manual: nothing; this is (own).
-use Rattle.std.specs.Prelude.{Bool, List, [], false, if◌then◌else◌, nat_eq, nat_lt, slice_get, true, ℕ, ⊤, ◌&&◌, ◌+◌, ◌||◌, ◌∷◌, ◌≡◌, ◌⊎◌, ◌↔◌, OnOk, Result, Vec, length, ◌^◌, ◌≤◌}
+use Rattle.std.specs.Prelude.{Bool, List, [], false, if◌then◌else◌, nat_eq, nat_lt, slice_get, true, ℕ, ⊤, ◌&&◌, ◌+◌, ◌||◌, ◌∷◌, ◌≡◌, ◌⊎◌, ◌↔◌, Vec}
 use Rattle.std.specs.Option.{option_map_or}
 use Rattle.occ_term.specs.declared.communication.End.{End}
 use Rattle.occ_term.specs.declared.communication.End.TheVariants.{Process as OfProcess, Keyboard, Screen, Error}
@@ -102,7 +102,3 @@ AddsEnds old new es = new.items ≡ with_ends old.items es
 
 abbrev pub AddsFootings : {A : Type 0} → (old new : Vec End A) → List Footing → Type 0
 AddsFootings old new ss = new.items ≡ with_standing old.items ss
-
--- few columns stay few
-abbrev pub StayFew : {A : Type 0} → {E : Type 0} → Result ⊤ E → (old new : Vec End A) → Type 0
-StayFew result old new = length old.items ≤ 2 ^ 40 → OnOk result (length new.items ≤ 2 ^ 40)

@@ -1,6 +1,6 @@
 -- The shapes of a picture in SVG: words and lines.
 -- Manual: nothing; this is (own).
-use Rattle.std.specs.Prelude.{List, [], codes, if◌then◌else◌, length, nat_lt, take, ℕ, ◌++◌, ◌+◌, ◌-◌, ◌∷◌}
+use Rattle.std.specs.Prelude.{List, [], codes, if◌then◌else◌, length, nat_lt, take, ℕ, ◌++◌, ◌-◌, ◌∷◌}
 use Rattle.std.specs.Fmt.{decimal}
 use Rattle.occ_chart.specs.declared.xml.Style.{Style}
 use Rattle.occ_chart.specs.declared.xml.Style.TheVariants.{Plain, Red, Note, RedNote}
@@ -18,14 +18,13 @@ abbrev pub text_at : Style → (x y : ℕ) → (title words : List ℕ) → Elem
 text_at style x y title words =
     element (codes "text") (attribute (codes "x") (decimal x) ∷ attribute (codes "y") (decimal y) ∷ style_attributes style) title words
 
--- words that fit into so many letters, before a tail that is kept
-abbrev pub cut : (room : ℕ) → (words tail : List ℕ) → List ℕ
-cut room words tail = take (room - 3 - length tail) words ++ codes "..." ++ tail
+-- so many letters, of which the last three are dots
+abbrev pub cut : (room : ℕ) → (words : List ℕ) → List ℕ
+cut room words = take (room - 3) words ++ codes "..."
 
--- words and a tail in so much room: where they are longer, they are cut, and whole in the title
-abbrev pub label : Style → (x y room : ℕ) → (words tail : List ℕ) → Element
-label style x y room words tail =
-    if nat_lt room (length words + length tail) then text_at style x y (words ++ tail) (cut room words tail) else text_at style x y [] (words ++ tail)
+-- words in so much room: where they are longer, they are cut, and whole in the title
+abbrev pub label : Style → (x y room : ℕ) → (words : List ℕ) → Element
+label style x y room words = if nat_lt room (length words) then text_at style x y words (cut room words) else text_at style x y [] words
 
 -- ---- lines
 

@@ -73,7 +73,7 @@ pub fn words_of(alloc: Global, shown: &Shown) -> Result<Vec<u8>, AllocError>
 }
 
 /// The number of a communication in the trace, and those words.
-fn numbered_words(alloc: Global, shown: &Shown) -> Result<Vec<u8>, AllocError>
+pub(crate) fn numbered_words(alloc: Global, shown: &Shown) -> Result<Vec<u8>, AllocError>
     ensures { IfOk result (λ words. words.items ≡ numbered_words shown.now) }
 {
     let number = format!(in alloc; "{}: ", shown.number())?;
@@ -83,14 +83,14 @@ fn numbered_words(alloc: Global, shown: &Shown) -> Result<Vec<u8>, AllocError>
     Ok(text)
 }
 
-/// How many letters have room between two columns.
+/// How many letters have room between two columns, with one free on either side.
 fn room_between(places: &[u64], from: usize, to: usize) -> usize
     requires { AreNear places.now }
     ensures is { result ≡ room_between places.now from to }
     ensures few { result ≤ 2 ^ 47 }
 {
     let (from, to) = (place_at(places, from), place_at(places, to));
-    ((from.max(to) - from.min(to)) as usize).max(24)
+    ((from.max(to) - from.min(to)) as usize).saturating_sub(2)
 }
 
 /// The place halfway between two columns.

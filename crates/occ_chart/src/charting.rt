@@ -1,7 +1,8 @@
 //! The sequence chart of a run, in SVG.
-ghost use Rattle.std.specs.Prelude.{◌≡◌, ◌≤◌, ◌^◌, IfOk, OnOk, length};
-ghost use Rattle.occ_chart.specs.Charts.{ChartOf, IsPicture, PutsFoot, above, after_of, after_words, before_of, before_words, ending_words, is_cut, row_below, svg_opening};
+ghost use Rattle.std.specs.Prelude.{◌≡◌, ◌≤◌, ◌^◌, IfOk, OnOk, codes, length};
+ghost use Rattle.occ_chart.specs.Charts.{ChartOf, IsPicture, PutsFoot, above, after_of, after_words, before_of, before_words, corners, ending_words, is_cut, row_below, svg_opening};
 ghost use Rattle.occ_chart.specs.Heads.{AreNear};
+ghost use Rattle.occ_chart.specs.Xml.{AddsAttribute};
 ghost use Rattle.occ_shown.specs.Answers.{AddsText, HasBytes};
 
 use crate::arrows::{row, rows_of, write_arrows};
@@ -16,12 +17,36 @@ use crate::notes::{
 };
 use crate::part::{Part, count_seen, listed};
 use crate::places::places_of;
+use crate::reaches::reaches_of;
 use crate::stub::Stub;
-use crate::xml::write_number;
+use crate::xml::{write_attribute, write_number};
 use occ_board::Shown;
 use occ_net_trace::Trace;
 use occ_term::{Channel, End, Ending};
 use std::alloc::{AllocError, Global};
+
+/// The corners of a picture.
+#[tactic(auto, unfolding(crate::specs::Charts::corners))]
+fn corners(alloc: Global, width: u64, height: u64) -> Result<String, AllocError>
+    ensures { IfOk result (λ text. text.bytes.items ≡ corners width height) }
+{
+    let text = format!(in alloc; "0 0 {width} {height}")?;
+    Ok(text)
+}
+
+/// By which a browser scales it.
+fn write_corners(
+    alloc: Global,
+    out: &mut Vec<u8>,
+    width: u64,
+    height: u64,
+) -> Result<(), AllocError>
+    ensures { OnOk result
+        (AddsAttribute out.old out.new (codes "viewBox") (corners width height)) }
+{
+    let text = corners(alloc, width, height)?;
+    write_attribute(out, b"viewBox", text.as_bytes())
+}
 
 /// The opening tag, and the ground.
 #[tactic(auto, unfolding(crate::specs::Charts::svg_opening))]
@@ -36,8 +61,9 @@ fn write_opening(
     out.extend_from_slice(b"<svg xmlns=\"http://www.w3.org/2000/svg\"")?;
     write_number(alloc, out, b"width", width)?;
     write_number(alloc, out, b"height", height)?;
+    write_corners(alloc, out, width, height)?;
     out.extend_from_slice(
-        b" font-family=\"sans-serif\" font-size=\"12\" text-anchor=\"middle\">\n<rect width=\"100%\" height=\"100%\" fill=\"white\"></rect>\n",
+        b" font-family=\"DejaVu Sans Mono, Consolas, Menlo, monospace\" font-size=\"11\" text-anchor=\"middle\">\n<rect width=\"100%\" height=\"100%\" fill=\"white\"></rect>\n",
     )?;
     Ok(())
 }
@@ -115,12 +141,12 @@ fn picture(
     notes: &Notes,
     circle: &[u32],
 ) -> Result<Vec<u8>, AllocError>
-    requires few { length heads.now ≤ 2 ^ 40 }
-    requires near { length shown.now ≤ 990 }
+    requires { length shown.now ≤ 990 }
     ensures { IfOk result
         (IsPicture heads.now columns.now shown.now stubs.now notes.now circle.now) }
 {
-    let standing = places_of(alloc, heads)?;
+    let between = reaches_of(alloc, columns, shown)?;
+    let standing = places_of(alloc, between.as_slice(), heads)?;
     let places = standing.as_slice();
     let letters = picture_letters(places, notes);
     let before = notes.before.as_slice();

@@ -1,14 +1,11 @@
 //! Who takes part in a chart.
-ghost use Rattle.std.specs.Prelude.{◌≡◌, ◌≤◌, ◌<◌, ◌^◌, IfOk, OnOk, length};
-ghost use Rattle.occ_chart.specs.Columns.{AreColumns, group, is_before, is_end, number, place_for, column_of, is_column, AddsEnd, AddsEnds, AddsFootings, StayFew};
+ghost use Rattle.std.specs.Prelude.{◌≡◌, ◌≤◌, IfOk, OnOk, length};
+ghost use Rattle.occ_chart.specs.Columns.{AreColumns, group, is_before, is_end, number, place_for, column_of, is_column, AddsEnd, AddsEnds, AddsFootings};
 
 use crate::stub::Stub;
 use occ_board::Shown;
 use occ_term::End;
 use std::alloc::{AllocError, Global};
-
-/// The most columns for which there may be memory.
-const MOST_COLUMNS: usize = 1 << 40;
 
 /// First the keyboard, then the processes, then the screen, then the error channel.
 fn group(end: End) -> u32
@@ -84,15 +81,11 @@ fn is_at(columns: &[End], place: usize, end: End) -> bool
 
 /// Adds an end that was not among them, in its place.
 fn add(columns: &mut Vec<End>, end: End) -> Result<(), AllocError>
-    ensures added { OnOk result (AddsEnd columns.old columns.new end) }
-    ensures few { StayFew result columns.old columns.new }
+    ensures { OnOk result (AddsEnd columns.old columns.new end) }
 {
     let place = place_for(columns.as_slice(), end);
     if is_at(columns.as_slice(), place, end) {
         return Ok(());
-    }
-    if columns.len() >= MOST_COLUMNS {
-        return Err(AllocError);
     }
     columns.insert(place, end)?;
     Ok(())
@@ -100,8 +93,7 @@ fn add(columns: &mut Vec<End>, end: End) -> Result<(), AllocError>
 
 /// Adds those that send or receive.
 fn add_ends(columns: &mut Vec<End>, shown: &[Shown]) -> Result<(), AllocError>
-    ensures added { OnOk result (AddsEnds columns.old columns.new shown.now) }
-    ensures few { StayFew result columns.old columns.new }
+    ensures { OnOk result (AddsEnds columns.old columns.new shown.now) }
 {
     let mut rest = shown;
     while let Some((first, others)) = rest.split_first() {
@@ -114,8 +106,7 @@ fn add_ends(columns: &mut Vec<End>, shown: &[Shown]) -> Result<(), AllocError>
 
 /// Adds those that stand at the foot.
 fn add_stubs(columns: &mut Vec<End>, stubs: &[Stub]) -> Result<(), AllocError>
-    ensures added { OnOk result (AddsFootings columns.old columns.new stubs.now) }
-    ensures few { StayFew result columns.old columns.new }
+    ensures { OnOk result (AddsFootings columns.old columns.new stubs.now) }
 {
     let mut rest = stubs;
     while let Some((first, others)) = rest.split_first() {
@@ -131,9 +122,7 @@ pub(crate) fn columns(
     shown: &[Shown],
     stubs: &[Stub],
 ) -> Result<Vec<End>, AllocError>
-    ensures are { IfOk result
-        (λ columns. AreColumns shown.now stubs.now columns.items) }
-    ensures few { IfOk result (λ columns. length columns.items ≤ 2 ^ 40) }
+    ensures { IfOk result (λ columns. AreColumns shown.now stubs.now columns.items) }
 {
     let mut columns = Vec::new(alloc);
     add_ends(&mut columns, shown)?;

@@ -109,7 +109,7 @@ fn write_foot(
 {
     let course = stub(alloc, x, bottom)?;
     write_path(out, course.as_bytes(), b"red")?;
-    write_label(alloc, out, Style::Red, x, bottom + 28, 24, words, b"")
+    write_label(alloc, out, Style::Red, x, bottom + 28, 24, words)
 }
 
 /// Each that stands at the foot, in its column.

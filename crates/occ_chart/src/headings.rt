@@ -1,5 +1,5 @@
 //! What stands over a column.
-ghost use Rattle.std.specs.Prelude.{◌≡◌, IfOk, length};
+ghost use Rattle.std.specs.Prelude.{◌≡◌, IfOk};
 ghost use Rattle.occ_chart.specs.Heads.{foot_letters, head, head_over, heads_in, others_words};
 ghost use Rattle.occ_chart.specs.Labels.{texts_of};
 
@@ -123,9 +123,8 @@ pub(crate) fn heads_over(
     stubs: &[Stub],
     columns: &[End],
 ) -> Result<Vec<Head>, AllocError>
-    ensures are { IfOk result (λ heads.
+    ensures { IfOk result (λ heads.
         heads.items ≡ heads_in names.now left_out.now stubs.now columns.now) }
-    ensures many { IfOk result (λ heads. length heads.items ≡ length columns.now) }
 {
     let mut heads = Vec::new(alloc);
     let mut rest = columns;

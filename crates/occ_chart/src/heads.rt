@@ -70,7 +70,7 @@ fn write_name(
     if name.is_empty() {
         return Ok(());
     }
-    write_label(alloc, out, Style::Plain, x, y, 24, name, b"")
+    write_label(alloc, out, Style::Plain, x, y, 24, name)
 }
 
 /// What stands over a column, at this place.

@@ -1,5 +1,5 @@
 //! Writes words into the room that they have.
-ghost use Rattle.std.specs.Prelude.{◌≡◌, ◌++◌, ◌+◌, ◌<◌, ◌≤◌, ◌^◌, IfOk, OnOk, length};
+ghost use Rattle.std.specs.Prelude.{◌≡◌, ◌<◌, ◌≤◌, ◌^◌, IfOk, OnOk, length};
 ghost use Rattle.occ_chart.specs.Charts.{grounded};
 ghost use Rattle.occ_chart.specs.Shapes.{area, cut, ground, label};
 ghost use Rattle.occ_chart.specs.Xml.{AddsElement, AddsElements};
@@ -7,28 +7,18 @@ ghost use Rattle.occ_chart.specs.Xml.{AddsElement, AddsElements};
 use crate::xml::{Style, write_area, write_text};
 use std::alloc::{AllocError, Global};
 
-/// Words with a tail.
-fn whole(alloc: Global, words: &[u8], tail: &[u8]) -> Result<Vec<u8>, AllocError>
-    ensures { IfOk result (λ text. text.items ≡ words.now ++ tail.now) }
+/// The first letters, and dots.
+fn cut(alloc: Global, room: usize, words: &[u8]) -> Result<Vec<u8>, AllocError>
+    requires { room < length words.now }
+    ensures { IfOk result (λ text. text.items ≡ cut room words.now) }
 {
-    let mut text = Vec::from_slice(alloc, words)?;
-    text.extend_from_slice(tail)?;
-    Ok(text)
-}
-
-/// The first words, dots, and the tail.
-fn cut(alloc: Global, room: usize, words: &[u8], tail: &[u8]) -> Result<Vec<u8>, AllocError>
-    requires { room < length words.now + length tail.now }
-    ensures { IfOk result (λ text. text.items ≡ cut room words.now tail.now) }
-{
-    let kept = room.saturating_sub(3).saturating_sub(tail.len());
+    let kept = room.saturating_sub(3);
     let mut text = Vec::from_slice(alloc, &words[..kept])?;
     text.extend_from_slice(b"...")?;
-    text.extend_from_slice(tail)?;
     Ok(text)
 }
 
-/// Words and a tail in so much room. Where they are longer, the words are cut, and stand whole in the title.
+/// Words in so much room. Where they are longer, they are cut, and stand whole in the title.
 pub(crate) fn write_label(
     alloc: Global,
     out: &mut Vec<u8>,
@@ -37,16 +27,14 @@ pub(crate) fn write_label(
     y: u64,
     room: usize,
     words: &[u8],
-    tail: &[u8],
 ) -> Result<(), AllocError>
-    ensures { OnOk result (AddsElement out.old out.new (label style x y room words.now tail.now)) }
+    ensures { OnOk result (AddsElement out.old out.new (label style x y room words.now)) }
 {
-    let all = whole(alloc, words, tail)?;
-    if room < all.len() {
-        let short = cut(alloc, room, words, tail)?;
-        write_text(alloc, out, style, x, y, all.as_slice(), short.as_slice())
+    if room < words.len() {
+        let short = cut(alloc, room, words)?;
+        write_text(alloc, out, style, x, y, words, short.as_slice())
     } else {
-        write_text(alloc, out, style, x, y, b"", all.as_slice())
+        write_text(alloc, out, style, x, y, b"", words)
     }
 }
 
@@ -73,7 +61,7 @@ pub(crate) fn write_ground(
     write_area(out, course.as_bytes())
 }
 
-/// Words in so much room, on a white ground of 6 points for each letter.
+/// Words in so much room, on a white ground of 7 points for each letter.
 pub(crate) fn write_grounded(
     alloc: Global,
     out: &mut Vec<u8>,
@@ -85,8 +73,8 @@ pub(crate) fn write_grounded(
     requires { room ≤ 2 ^ 47 }
     ensures { OnOk result (AddsElements out.old out.new (grounded x y room words.now)) }
 {
-    let letters = room.min(words.len()) as u64;
-    let left = x.saturating_sub(3 * letters);
-    write_ground(alloc, out, left, y.saturating_sub(11), 6 * letters)?;
-    write_label(alloc, out, Style::Plain, x, y, room, words, b"")
+    let width = 7 * room.min(words.len()) as u64;
+    let left = x.saturating_sub(width / 2);
+    write_ground(alloc, out, left, y.saturating_sub(11), width)?;
+    write_label(alloc, out, Style::Plain, x, y, room, words)
 }

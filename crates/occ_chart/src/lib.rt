@@ -15,6 +15,7 @@ mod messages;
 mod notes;
 mod part;
 mod places;
+mod reaches;
 mod stub;
 mod xml;
 

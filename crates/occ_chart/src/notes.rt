@@ -121,7 +121,7 @@ pub(crate) fn write_before(alloc: Global, out: &mut Vec<u8>, words: &[u8]) -> Re
     if words.is_empty() {
         return Ok(());
     }
-    let width = 6 * words.len().min(100) as u64;
+    let width = 7 * words.len().min(100) as u64;
     write_ground(alloc, out, 8, 38, width)?;
     write_text(alloc, out, Style::Note, 10, 50, b"", words)
 }
@@ -149,7 +149,7 @@ fn write_circle_words(
     let words = circle_words(alloc, circle)?;
     let height = bottom + 116;
     let text = words.as_slice();
-    write_label(alloc, out, Style::RedNote, 10, height, letters, text, b"")
+    write_label(alloc, out, Style::RedNote, 10, height, letters, text)
 }
 
 /// A circle of processes that wait for one another, where one is given.

@@ -47,7 +47,11 @@ fn write_escaped(out: &mut Vec<u8>, bytes: &[u8]) -> Result<(), AllocError>
 
 /// An attribute after a space.
 #[tactic(auto, unfolding(crate::specs::Xml::attribute_text))]
-fn write_attribute(out: &mut Vec<u8>, name: &[u8], value: &[u8]) -> Result<(), AllocError>
+pub(crate) fn write_attribute(
+    out: &mut Vec<u8>,
+    name: &[u8],
+    value: &[u8],
+) -> Result<(), AllocError>
     ensures { OnOk result (AddsAttribute out.old out.new name.now value.now) }
 {
     out.push(b' ')?;

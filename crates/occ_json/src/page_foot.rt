@@ -205,7 +205,7 @@ function called(end) {
 
 const SIGNS = { ready: "\u25b6", offers: "!", awaits: "?", chooses: "ALT", waits: "PAR", halted: "\u25a0", fault: "\u00d7" };
 const MOST_ROWS = 400;
-const ROW = 34, LETTER = 7.85;
+const ROW = 34, LETTER = 7.85, MOST_LETTERS = 36;
 const GUTTER = Math.max(4, String(made.length).length + 1) * LETTER;
 let now = 0;
 let shown = [];
@@ -289,19 +289,29 @@ function showCircle() {
 const RANKS = { keyboard: -1, screen: 1e9, error: 1e9 + 1 };
 const rankOf = (end) => RANKS[end] ?? +end.slice(1);
 const columns = [...communications.keys()].sort((one, other) => rankOf(one) - rankOf(other));
+const wordsOf = (entry) => entry.words || entry.name;
 const namedBy = (end) => (/^p\d/.test(end) && names[end.slice(1)]) || "";
 const widths = columns.map((end) => Math.max(72, Math.min(18, Math.max(end.length, namedBy(end).length)) * LETTER + 14));
+/** For each column the room that words need which stand between it and others on its left. */
+const rooms = new Map(columns.map((end) => [end, new Map()]));
+for (const entry of made) {
+  const [left, right] = [entry.sender, entry.receiver].sort((one, other) => rankOf(one) - rankOf(other));
+  const room = Math.min(MOST_LETTERS, wordsOf(entry).length) * LETTER + 24;
+  rooms.get(right).set(left, Math.max(room, rooms.get(right).get(left) ?? 0));
+}
 const middles = new Map();
 let width = GUTTER;
 columns.forEach((end, place) => {
-  middles.set(end, width + widths[place] / 2);
-  width += widths[place];
+  let middle = width + widths[place] / 2;
+  for (const [left, room] of rooms.get(end)) middle = Math.max(middle, middles.get(left) + room);
+  middles.set(end, middle);
+  width = middle + widths[place] / 2;
 });
 width += 8;
 const cut = (text, most) => (text.length > most ? `${text.slice(0, Math.max(1, most - 1))}\u2026` : text);
 
 function showHeads() {
-  const svg = draw($("heads"), "svg", { width, height: 40 });
+  const svg = draw($("heads"), "svg", { width, height: 40, viewBox: `0 0 ${width} 40` });
   for (const end of columns) {
     const head = draw(svg, "text", { x: middles.get(end), y: 15, "text-anchor": "middle", "font-weight": "bold" }, end);
     draw(svg, "text", { x: middles.get(end), y: 33, "text-anchor": "middle" }, cut(namedBy(end), 18));
@@ -324,30 +334,28 @@ function arrow(svg, place, done, current) {
   draw(group, "text", { class: "number", x: GUTTER - LETTER, y: y + 4 }, entry.number);
   draw(group, "path", { class: "arrow", d: `M${from} ${y}H${to - side * 6}` });
   draw(group, "path", { class: "head", d: `M${to} ${y}l${-side * 10} -5v10z` });
-  const words = cut(entry.words || entry.name, Math.floor((width - GUTTER) / LETTER));
-  const half = (words.length * LETTER) / 2;
-  const middle = Math.max(GUTTER + half, Math.min(width - half - 2, (from + to) / 2));
-  draw(group, "text", { class: "label", x: middle, y: y - 6, "text-anchor": "middle" }, words);
+  const words = cut(wordsOf(entry), Math.floor((side * (to - from) - 20) / LETTER));
+  draw(group, "text", { class: "label", x: (from + to) / 2, y: y - 6, "text-anchor": "middle" }, words);
   draw(group, "title", {}, `${entry.number}: ${called(entry.sender)} > ${called(entry.receiver)}, ${entry.words}, turn ${entry.turn}`);
 }
 
-/** Draws the communications from one place to another. */
-function showArrows(from, to) {
+/** A picture of the communications from one place to another. */
+function arrows(from, to) {
   const svg = draw(document.createDocumentFragment(), "svg", { width, height: heightTo(made.length) });
   const done = madeBy(now), before = now ? madeBy(now - 1) : 0;
-  const top = from * ROW, bottom = heightTo(to);
+  const top = Math.max(0, from - 1) * ROW, bottom = heightTo(to);
   for (const end of columns) draw(svg, "path", { class: "life", d: `M${middles.get(end)} ${top}V${bottom}` });
   for (let place = from; place < Math.min(to, made.length); place++) arrow(svg, place, done, place >= before && place < done);
-  const y = done * ROW + 10;
+  const y = done * ROW + 3;
   draw(svg, "path", { class: "rule", d: `M0 ${y}H${width}` });
-  $("body").replaceChildren(svg);
   return svg;
 }
 
+/** Draws those that can be seen: none of which a part stands under the heads. */
 function showChart() {
   const box = $("arrows");
-  const from = Math.max(0, Math.floor(box.scrollTop / ROW) - 5);
-  showArrows(from, from + Math.ceil(box.clientHeight / ROW) + 10);
+  const from = Math.max(0, Math.ceil((box.scrollTop - 8) / ROW));
+  $("body").replaceChildren(arrows(from, from + Math.ceil(box.clientHeight / ROW) + 10));
 }
 
 // ---- going through the turns
@@ -418,18 +426,27 @@ const turnAsked = () => +(/(\d+)$/.exec(location.hash)?.[1] || 0);
 addEventListener("hashchange", () => (runAsked() === chosen ? go(turnAsked()) : location.reload()));
 if (runs.length > 1) {
   runs.forEach(([head], place) => (add($("answers"), "option", "", head[0]).value = place));
+  const more = runs[0][0][1];
+  if (more) add($("answers"), "option", "", more).disabled = true;
   $("answers").value = chosen;
   $("answers").hidden = false;
   $("answers").addEventListener("change", () => (location.hash = `${+$("answers").value + 1}.0`));
 }
-// on paper the chart has what surrounds this turn
-addEventListener("beforeprint", () => {
-  const from = Math.max(0, madeBy(now) - 40);
-  const to = Math.min(made.length, from + 60);
-  const svg = showArrows(from, to);
-  const height = heightTo(to) - from * ROW;
+/** A part of the printed chart, under the heads. */
+function printed(from, to) {
+  const part = add(document.createDocumentFragment(), "div", "printed");
+  const svg = arrows(from, to), height = (to - from) * ROW + 14;
   svg.setAttribute("viewBox", `0 ${from * ROW} ${width} ${height}`);
   svg.setAttribute("height", height);
+  part.append($("heads").firstChild.cloneNode(true), svg);
+  return part;
+}
+
+// the printed chart has what surrounds this turn
+addEventListener("beforeprint", () => {
+  const from = Math.max(0, madeBy(now) - 40), to = Math.min(made.length, from + 60);
+  $("body").replaceChildren();
+  for (let place = from; place < to; place += 20) $("body").append(printed(place, Math.min(to, place + 20)));
   $("body").style.height = "auto";
 });
 addEventListener("afterprint", () => {

@@ -12,7 +12,7 @@ pub const HEAD: &str = r##"<!DOCTYPE html>
   --ground: #ffffff; --ink: #1a1a1a; --soft: #595959; --rule: #c8c8c8; --band: #eef3f8; --now: #fff3c4;
   --ready: #005a8c; --offers: #a34700; --awaits: #7a3a63; --chooses: #5a3d9a; --waits: #555555; --stands: #8c1a1a;
 }
-@media (prefers-color-scheme: dark) {
+@media screen and (prefers-color-scheme: dark) {
   :root {
     --ground: #14171a; --ink: #f0f0f0; --soft: #b4b4b4; --rule: #4a4f55; --band: #20272e; --now: #4a3f10;
     --ready: #6cc0f5; --offers: #f5a35c; --awaits: #e8a6cd; --chooses: #c0a8ff; --waits: #bbbbbb; --stands: #ff9a9a;
@@ -84,12 +84,15 @@ tr.now td { background: var(--now); }
   #keys { display: none; }
 }
 @media print {
-  :root { --ground: #ffffff; --ink: #000000; --soft: #444444; --rule: #999999; --band: #eeeeee; --now: #dddddd; }
+  :root { color-scheme: light; --ground: #ffffff; --ink: #000000; --soft: #444444; --rule: #999999; --band: #eeeeee; --now: #dddddd; }
   body, main, #side, section { display: block; height: auto; }
   #controls, #keys { display: none; }
-  .scrolls, #circle { overflow: visible; max-height: none; }
-  th, #heads { position: static; }
-  tr, #lines li { break-inside: avoid; }
+  .scrolls, #text .scrolls, #circle { overflow: visible; max-height: none; }
+  header, th { position: static; }
+  #heads { display: none; }
+  #chart svg { max-width: 100%; height: auto; }
+  tr, #lines li, .printed { break-inside: avoid; }
+  h2 { break-after: avoid; }
 }
 </style>
 </head>

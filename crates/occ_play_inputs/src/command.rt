@@ -149,8 +149,10 @@ Exit status:
   6  a file or a stream could not be read or written
   7  wrong words, or a refused file of choices
 
-Example:
+Examples, in the repository or a copy of what a package puts into /usr/share/doc/occam:
   echo 'Hello, world.' | occam examples/first_steps/capitals.occ --trace
+  occam examples/faults/dining.occ --explore --page dining.html
+The first hour is docs/tutorial.md there.
 "#;
 
 /// The words that the program takes.

@@ -224,7 +224,9 @@ pub fn nameless(alloc: Global, word: &str) -> Failure
 /// The error that tells so.
 fn told_nameless(alloc: Global, word: &str) -> Result<Error, Error> {
     let mut command = command(alloc)?;
-    let told = format!(in alloc; "no process has the name or the number '{word}'")?;
+    let told = format!(in alloc;
+        "no process is called '{word}': take a name over a column, as worker or 'line 14', or a number, as 3; keyboard, screen and error keep theirs"
+    )?;
     Ok(refused(&mut command, told.as_str()))
 }
 

@@ -1,5 +1,5 @@
 -- What is told of runs by what is known of their source.
-use Rattle.std.proofs.Common.{◌≡◌, List, [], ◌∷◌, arith, length, refl, subst, sym, ℕ}
+use Rattle.std.proofs.Common.{◌≡◌, ◌∙◌, List, [], ◌∷◌, arith, length, refl, subst, sym, take, ℕ}
 use Rattle.std.specs.Prelude.{MatchOption, None, Option, Some, Vec}
 use Rattle.occ_explaining.specs.Studied.{IsStudied, PagesBy}
 use Rattle.occ_explaining.specs.Shown.{PageOf}
@@ -12,7 +12,7 @@ use Rattle.occ_play.specs.declared.playing.Options.{Options}
 use Rattle.occ_play_inputs.specs.declared.inputs.Inputs.{Inputs}
 use Rattle.occ_play_inputs.specs.declared.words.Words.{Words}
 use Rattle.occ_program.specs.Coming.{options_in}
-use Rattle.occ_program.specs.Pages.{AreRunsOf, ShowsAnswers, ShowsBy, ShowsRun}
+use Rattle.occ_program.specs.Pages.{AreRunsOf, ShowsAnswers, ShowsBy, ShowsRun, more_text}
 
 -- the page of one run, where its parts are known by what they are
 pub shows_of : {A : Type 0} (s : Studied) (o : Options) (source source' keyboard keyboard' : List ℕ) (list list' : List Choice) (text : Vec ℕ A)
@@ -23,12 +23,13 @@ shows_of s o source source' keyboard keyboard' list list' text a b d h f =
     (subst (λ x. ShowsRun o x keyboard' list' text.items) a (f o (subst (λ x. IsStudied o x s) (sym a) h))))
 
 -- the page of the answers of a search
-pub answers_shown : {A : Type 0} (words : Words) (inputs : Inputs) (asked : Asked) (answers : List Answer) (s : Studied) (source : List ℕ) (rs rs' : List RunTexts) (text : Vec ℕ A)
-    → source ≡ inputs.source.items → rs' ≡ rs → IsStudied (options_in words) inputs.source.items s → AreRunsOf words inputs asked 1 answers rs → PagesBy s source rs' text
+pub answers_shown : {A : Type 0} (words : Words) (inputs : Inputs) (asked : Asked) (answers first : List Answer) (more more' : List ℕ) (s : Studied) (source : List ℕ) (rs rs' : List RunTexts) (text : Vec ℕ A)
+    → source ≡ inputs.source.items → rs' ≡ rs → more' ≡ more → more ≡ more_text answers → first ≡ take 100 answers
+    → IsStudied (options_in words) inputs.source.items s → AreRunsOf words inputs asked more' 1 first rs → PagesBy s source rs' text
     → ShowsAnswers words inputs asked answers text.items
-answers_shown words inputs asked answers s source rs rs' text a b h are f = (
+answers_shown words inputs asked answers first more more' s source rs rs' text a b d e g h are f = (
   rs,
-  are,
+  subst (λ (l : List Answer). AreRunsOf words inputs asked (more_text answers) 1 l rs) g (subst (λ m. AreRunsOf words inputs asked m 1 first rs) (d ∙ e) are),
   subst (λ (l : List RunTexts). PageOf (options_in words) inputs.source.items l text.items) b
       (subst (λ x. PageOf (options_in words) x rs' text.items) a (f (options_in words) (subst (λ x. IsStudied (options_in words) x s) (sym a) h))),
 )

@@ -1,6 +1,6 @@
 -- Which files a run leaves.
 -- Manual: nothing; this is (own).
-use Rattle.std.specs.Prelude.{Bool, List, Some, None, Ok, Err, Option, Result, Vec, [], codes, false, suc, take, true, ℕ, ◌++◌, ◌∷◌, ◌≡◌, ◌⊎◌, ⊤}
+use Rattle.std.specs.Prelude.{Bool, List, Some, None, Ok, Err, Option, Result, Vec, [], codes, false, if◌then◌else◌, length, nat_lt, suc, take, true, ℕ, ◌++◌, ◌-◌, ◌∷◌, ◌≡◌, ◌⊎◌, ⊤}
 use Rattle.std.specs.Fmt.{decimal}
 use Rattle.std.specs.Borrow.{Bor}
 use Rattle.std.specs.Option.{option_to_list}
@@ -18,7 +18,7 @@ use Rattle.occ_net_replay.specs.declared.choice.Choice.{Choice}
 use Rattle.occ_play.specs.declared.playing.Options.{Options}
 use Rattle.occ_explore.specs.declared.exploration.Answer.{Answer}
 use Rattle.occ_explore.specs.declared.exploration.Asked.{Asked}
-use Rattle.occ_exploring.specs.Texts.{answer_line}
+use Rattle.occ_exploring.specs.Texts.{answer_line, left_text}
 use Rattle.occ_exploring.specs.Within.{outside_of}
 use Rattle.occ_exploring.specs.declared.within.Kept.{Kept}
 use Rattle.occ_files.specs.Leaving.{LeavesOne, LeavesAll, LeavesNothing, Written}
@@ -121,17 +121,22 @@ IsLeft left old new Is (Err failure) = LeavesNothing (left old) (left new) ⊎ W
 
 -- ---- the files of a search
 
--- of each answer, from this number on: the line that is printed of it, and its run
-abbrev pub AreRunsOf : Words → Inputs → Asked → ℕ → List Answer → List RunTexts → Type 0
-AreRunsOf words inputs asked number [] rs = rs ≡ []
-AreRunsOf words inputs asked number (a ∷ others) [] = ⊥
-AreRunsOf words inputs asked number (a ∷ others) (r ∷ rs) =
-    IsShownRun (options_in words) inputs.source.items inputs.keyboard.items (answer_line asked number a) a.choices.items r × AreRunsOf words inputs asked (suc number) others rs
+-- what is printed behind the first 100 answers, where there are more
+abbrev pub more_text : List Answer → List ℕ
+more_text answers = if nat_lt 100 (length answers) then left_text (length answers - 100) else []
 
--- a page that shows the runs of these answers
+-- of each answer, from this number on: the line that is printed of it, with this text, and its run
+abbrev pub AreRunsOf : Words → Inputs → Asked → (more : List ℕ) → ℕ → List Answer → List RunTexts → Type 0
+AreRunsOf words inputs asked more number [] rs = rs ≡ []
+AreRunsOf words inputs asked more number (a ∷ others) [] = ⊥
+AreRunsOf words inputs asked more number (a ∷ others) (r ∷ rs) =
+    IsShownRun (options_in words) inputs.source.items inputs.keyboard.items (answer_line asked number a ++ more) a.choices.items r
+    × AreRunsOf words inputs asked more (suc number) others rs
+
+-- a page that shows the runs of the first 100 of these answers, and says how many more there are
 abbrev pub ShowsAnswers : Words → Inputs → Asked → List Answer → List ℕ → Type 0
 ShowsAnswers words inputs asked answers text =
-    (rs : List RunTexts) × AreRunsOf words inputs asked 1 answers rs × PageOf (options_in words) inputs.source.items rs text
+    (rs : List RunTexts) × AreRunsOf words inputs asked (more_text answers) 1 (take 100 answers) rs × PageOf (options_in words) inputs.source.items rs text
 
 -- at the path that the words name, if they do
 abbrev pub AnswersPage : Words → Inputs → Asked → List Answer → Option Page → Type 0

@@ -2,12 +2,15 @@
 -- Manual: nothing; this is (own).
 use Rattle.std.specs.Prelude.{List, None, Option, Some, [], codes, suc, zero, ℕ, ◌++◌, ◌∷◌}
 use Rattle.std.specs.Borrow.{Bor}
+use Rattle.std.specs.Fmt.{decimal}
 use Rattle.occ_files.specs.Names.{printed_name}
 use Rattle.occ_files.specs.Reasons.{reason_text}
 use Rattle.occ_files.specs.declared.reason.Reason.{Reason}
 use Rattle.occ_files.specs.declared.reason.Reason.TheVariants.{Missing}
 use Rattle.occ_play_inputs.specs.declared.failure.Failure.{Failure}
-use Rattle.occ_play_inputs.specs.declared.failure.Failure.TheVariants.{Read, Write}
+use Rattle.occ_choices.specs.declared.fault.ChoiceFault.{ChoiceFault}
+use Rattle.occ_choices.specs.declared.fault.ChoiceFault.TheVariants.{BadChoice, TooMany, Memory as OutOfMemory}
+use Rattle.occ_play_inputs.specs.declared.failure.Failure.TheVariants.{Read, Write, Choices as WrongChoices}
 use Rattle.occ_play_inputs.specs.declared.failure.Stream.{Stream}
 use Rattle.occ_play_inputs.specs.declared.failure.Stream.TheVariants.{Source, More, Specification, Keyboard, Choices, Output, Record, Answer, Chart, Trace, Turns, Page, Typed}
 use Rattle.occ_play_inputs.specs.declared.failure.Trouble.{Trouble}
@@ -53,8 +56,19 @@ advice t = advice_on t.stream t.reason
 abbrev pub trouble_text : Words → Trouble → List ℕ
 trouble_text words t = printed_name (stream_name words t.stream) ++ codes ": " ++ reason_text t.reason ++ 10 ∷ [] ++ advice t
 
--- what failed, where something could not be read or written
-abbrev pub trouble_in : Failure → Option Trouble
-trouble_in (Read t) = Some t
-trouble_in (Write t) = Some t
-trouble_in failure = None
+-- what is wrong with a file of choices
+abbrev pub wrong_choices : ChoiceFault → List ℕ
+wrong_choices (BadChoice line) = codes ":" ++ decimal line ++ codes ": a line has two numbers with one space between, as `0 3`\n"
+wrong_choices TooMany = codes ": it has more than 10,000,000 lines\n"
+wrong_choices OutOfMemory = codes ": memory ran out\n"
+
+-- its name, and that
+abbrev pub choices_trouble : Words → ChoiceFault → List ℕ
+choices_trouble words fault = printed_name (path_or [] words.choices) ++ wrong_choices fault
+
+-- what is told where something could not be read or written, or holds no choices
+abbrev pub trouble_told : Words → Failure → Option (List ℕ)
+trouble_told words (Read t) = Some (trouble_text words t)
+trouble_told words (Write t) = Some (trouble_text words t)
+trouble_told words (WrongChoices fault) = Some (choices_trouble words fault)
+trouble_told words failure = None

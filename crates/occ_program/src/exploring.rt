@@ -249,7 +249,7 @@ fn show_found<R: Files>(
     match found {
         Ok(exploration) => {
             let mut folder = Disk::new(rt, alloc);
-            let answers = first_answers(exploration.answers.as_slice());
+            let answers = exploration.answers.as_slice();
             show_answers(&mut folder, alloc, words, asked, inputs, answers)
         }
         Err(_) => Ok(()),
@@ -362,7 +362,7 @@ fn print_answers<W: Write>(
 }
 
 /// Those of the answers that are printed.
-fn first_answers(answers: &[Answer]) -> &[Answer]
+pub(crate) fn first_answers(answers: &[Answer]) -> &[Answer]
     ensures first { result.now ≡ take 100 answers.now }
     ensures few { length result.now ≤ 100 }
 {

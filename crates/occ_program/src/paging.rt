@@ -1,21 +1,23 @@
 //! Writes a page that shows the answers of a search.
-ghost use Rattle.std.specs.Prelude.{◌≡◌, ◌≤◌, IfErr, IfOk, length};
+ghost use Rattle.std.specs.Prelude.{◌≡◌, ◌++◌, ◌≤◌, IfErr, IfOk, length};
 ghost use Rattle.occ_explaining.specs.Studied.{IsStudied};
+ghost use Rattle.occ_exploring.specs.Texts.{answer_line};
 ghost use Rattle.occ_play_inputs.specs.Failures.{FailsToWrite};
 ghost use Rattle.occ_play_inputs.specs.declared.failure.Stream.TheVariants as stream;
 ghost use Rattle.occ_program.specs.Coming.{options_in};
-ghost use Rattle.occ_program.specs.Pages.{AnswersPage, AreRunsOf, IsLeft, ShowsAnswers};
+ghost use Rattle.occ_program.specs.Pages.{AnswersPage, AreRunsOf, IsLeft, ShowsAnswers, more_text};
 
+use crate::exploring::first_answers;
 use crate::page::{Page, write_page};
 use crate::program::options_of;
 use occ_explaining::{Studied, page_of, run_texts, study};
-use occ_exploring::{Answer, Asked, answer_line};
+use occ_exploring::{Answer, Asked, MOST_ANSWERS, answer_line};
 use occ_files::Folder;
 use occ_json::RunTexts;
 use occ_play_inputs::{Failure, Inputs, Stream, Words};
 use std::alloc::{AllocError, Global};
 
-/// Writes a page that shows the runs of these answers into the file that the words name.
+/// Writes a page that shows the runs of the first of these answers, and says how many more there are, into the file that the words name.
 pub(crate) fn show_answers<F: Folder>(
     folder: &mut F,
     alloc: Global,
@@ -24,7 +26,6 @@ pub(crate) fn show_answers<F: Folder>(
     inputs: &Inputs,
     answers: &[Answer],
 ) -> Result<(), Failure>
-    requires { length answers.now ≤ 100 }
     ensures left { IsLeft F.left folder.old folder.new
         (AnswersPage words.now inputs.now asked answers.now) result }
     ensures failed { IfErr result (FailsToWrite stream.Page) }
@@ -41,7 +42,6 @@ fn shown_page<'a>(
     inputs: &Inputs,
     answers: &[Answer],
 ) -> Result<Option<Page<'a>>, AllocError>
-    requires { length answers.now ≤ 100 }
     ensures { IfOk result (AnswersPage words.now inputs.now asked answers.now) }
 {
     match words.page {
@@ -62,7 +62,6 @@ fn shown(
     inputs: &Inputs,
     answers: &[Answer],
 ) -> Result<Vec<u8>, AllocError>
-    requires { length answers.now ≤ 100 }
     ensures { IfOk result (λ text.
         ShowsAnswers words.now inputs.now asked answers.now text.items) }
 {
@@ -70,9 +69,46 @@ fn shown(
     let Ok(studied) = study(&options_of(words), alloc, source) else {
         return Err(AllocError);
     };
-    let runs = runs_of(alloc, words, asked, inputs, &studied, answers)?;
+    let more = more_text(alloc, answers)?;
+    let first = first_answers(answers);
+    let runs = runs_of(
+        alloc,
+        words,
+        asked,
+        inputs,
+        &studied,
+        more.as_slice(),
+        first,
+    )?;
     let text = page_of(&studied, alloc, source, runs.as_slice())?;
     Ok(text)
+}
+
+/// What is said of the answers that the page does not have.
+fn more_text(alloc: Global, answers: &[Answer]) -> Result<Vec<u8>, AllocError>
+    ensures { IfOk result (λ text. text.items ≡ more_text answers.now) }
+{
+    if answers.len() > MOST_ANSWERS {
+        let count = answers.len() - MOST_ANSWERS;
+        let text = format!(in alloc; "and {count} more\n")?;
+        return Vec::from_slice(alloc, text.as_bytes());
+    }
+    Ok(Vec::new(alloc))
+}
+
+/// The line of an answer, and behind it this text.
+fn head_of(
+    alloc: Global,
+    asked: Asked,
+    number: usize,
+    answer: &Answer,
+    more: &[u8],
+) -> Result<Vec<u8>, AllocError>
+    ensures { IfOk result (λ head. head.items ≡ answer_line asked number answer.now ++ more.now) }
+{
+    let mut head = answer_line(alloc, asked, number, answer)?;
+    head.extend_from_slice(more)?;
+    Ok(head)
 }
 
 /// What the page has of each answer.
@@ -82,17 +118,19 @@ fn runs_of(
     asked: Asked,
     inputs: &Inputs,
     studied: &Studied,
+    more: &[u8],
     answers: &[Answer],
 ) -> Result<Vec<RunTexts>, AllocError>
     requires studied { IsStudied (options_in words.now) inputs.now.source.items studied.now }
     requires few { length answers.now ≤ 100 }
-    ensures { IfOk result (λ runs. AreRunsOf words.now inputs.now asked 1 answers.now runs.items) }
+    ensures { IfOk result (λ runs.
+        AreRunsOf words.now inputs.now asked more.now 1 answers.now runs.items) }
 {
     let mut runs = Vec::new(alloc);
     let mut number = 1;
     let mut rest = answers;
     while let Some((first, others)) = rest.split_first() {
-        let head = answer_line(alloc, asked, number, first)?;
+        let head = head_of(alloc, asked, number, first, more)?;
         let keyboard = inputs.keyboard.as_slice();
         let choices = first.choices.as_slice();
         let run = run_texts(studied, alloc, keyboard, head.as_slice(), choices)?;

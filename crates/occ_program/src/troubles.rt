@@ -1,9 +1,11 @@
 //! Tells which file or stream failed, and why, where the words ask for more.
 ghost use Rattle.std.specs.Prelude.{◌≡◌, IfOk, string_bytes};
 ghost use Rattle.occ_program.specs.Pages.{answer_path};
-ghost use Rattle.occ_program.specs.Troubles.{advice, path_at, path_or, stream_name, trouble_in, trouble_text};
+ghost use Rattle.occ_program.specs.Troubles.{advice, choices_trouble, path_at, path_or, stream_name, trouble_text, trouble_told, wrong_choices};
+ghost use Rattle.occ_shown.specs.Answers.{HasWords};
 
-use crate::explaining::{print_text, tell_memory};
+use crate::explaining::print_told;
+use occ_choices::ChoiceFault;
 use occ_files::{Reason, printed_name};
 use occ_play_inputs::{Failure, Stream, Trouble, Words};
 use std::alloc::{AllocError, Global};
@@ -18,24 +20,63 @@ pub(crate) fn explain_failure<R: Eprint>(
     words: &Words<'_>,
     failure: &Failure,
 ) {
-    if words.explain
-        && let Some(trouble) = trouble_in(failure)
-    {
-        match trouble_text(alloc, words, trouble) {
-            Ok(text) => print_text(rt, alloc, words, text.as_slice()),
-            Err(_) => tell_memory(rt),
-        }
+    if words.explain {
+        let told = trouble_told(alloc, words, failure);
+        print_told(rt, alloc, words, told);
     }
 }
 
-/// What could not be read or written, where that is the failure.
-fn trouble_in(failure: &Failure) -> Option<Trouble>
-    ensures { result ≡ trouble_in failure.now }
+/// What is told where something could not be read or written, or holds no choices.
+fn trouble_told(
+    alloc: Global,
+    words: &Words<'_>,
+    failure: &Failure,
+) -> Result<Option<Vec<u8>>, AllocError>
+    ensures { IfOk result (HasWords (trouble_told words.now failure.now)) }
 {
     match failure {
-        Failure::Read(trouble) | Failure::Write(trouble) => Some(*trouble),
-        _ => None,
+        Failure::Read(trouble) | Failure::Write(trouble) => {
+            Ok(Some(trouble_text(alloc, words, *trouble)?))
+        }
+        Failure::Choices(fault) => Ok(Some(choices_trouble(alloc, words, fault)?)),
+        _ => Ok(None),
     }
+}
+
+/// The name of the file of choices, and what is wrong with it.
+fn choices_trouble(
+    alloc: Global,
+    words: &Words<'_>,
+    fault: &ChoiceFault,
+) -> Result<Vec<u8>, AllocError>
+    ensures { IfOk result (λ text. text.items ≡ choices_trouble words.now fault.now) }
+{
+    let mut text = printed_name(alloc, path_or("", words.choices).as_bytes())?;
+    let told = wrong_choices(alloc, fault)?;
+    text.extend_from_slice(told.as_bytes())?;
+    Ok(text)
+}
+
+/// What is wrong with it, and in which line.
+fn wrong_choices(alloc: Global, fault: &ChoiceFault) -> Result<String, AllocError>
+    ensures { IfOk result (λ told. string_bytes told ≡ wrong_choices fault.now) }
+{
+    match fault {
+        ChoiceFault::BadChoice { line } => bad_choice(alloc, *line),
+        ChoiceFault::TooMany => String::from_str(alloc, ": it has more than 10,000,000 lines\n"),
+        ChoiceFault::Memory => String::from_str(alloc, ": memory ran out\n"),
+    }
+}
+
+/// That this line is no choice.
+fn bad_choice(alloc: Global, line: u32) -> Result<String, AllocError>
+    ensures { IfOk result (λ told.
+        string_bytes told ≡ wrong_choices (ChoiceFault.BadChoice line)) }
+{
+    let told = format!(in alloc;
+        ":{line}: a line has two numbers with one space between, as `0 3`\n"
+    )?;
+    Ok(told)
 }
 
 /// The name of a file or a stream that failed, and the reason.

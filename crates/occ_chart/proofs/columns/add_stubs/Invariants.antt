@@ -1,12 +1,9 @@
-use Rattle.std.proofs.Common.{◌≡◌, ◌≤◌, ◌^◌, length}
+use Rattle.std.proofs.Common.{◌≡◌, length}
 use Rattle.occ_chart.specs.Columns.{with_standing}
 use Rattle.occ_chart.proofs.columns.add_stubs.Given as goal
 
 abbrev pub invariant-loop-first : goal.invariant-loop-first
-invariant-loop-first l = record {
-  added : with_standing l.columns.items l.rest ≡ with_standing l.fn.columns.items l.fn.stubs;
-  few : length l.fn.columns.items ≤ 2 ^ 40 → length l.columns.items ≤ 2 ^ 40;
-}
+invariant-loop-first l = with_standing l.columns.items l.rest ≡ with_standing l.fn.columns.items l.fn.stubs
 
 abbrev pub decreases-loop-first : goal.decreases-loop-first
 decreases-loop-first l = length l.rest

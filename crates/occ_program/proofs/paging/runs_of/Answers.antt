@@ -15,6 +15,7 @@ loop-first-preserved c =
     let words = c.args.words.now in
     let inputs = c.args.inputs.now in
     let asked = c.args.asked in
+    let more = c.args.more.now in
     let a = c.in-Some.first.now in
     let others = c.in-Some.others.now in
     let r = c.in_ok-run.run' in
@@ -22,15 +23,15 @@ loop-first-preserved c =
     let size : length l.rest.now ≡ suc (length others) = ap length split in
     let counted = l.invariant.counted in
     let run = c.in_ok-run.ensures (options_in words) inputs.source.items c.requires.studied in
-    let told : IsShownRun (options_in words) inputs.source.items inputs.keyboard.items (answer_line asked l.number a) a.choices.items r =
+    let told : IsShownRun (options_in words) inputs.source.items inputs.keyboard.items (answer_line asked l.number a ++ more) a.choices.items r =
     rw (c.as_slice-keyboard.ensures.value, c.as_slice.ensures.value, c.in_ok-head.ensures, c.as_slice-choices.ensures.value) at run in
     record {
       counted = omega (arith, size, counted);
       so = λ rs h.
-          let all : AreRunsOf words inputs asked l.number (a ∷ others) (r ∷ rs) = (told, subst (λ n. AreRunsOf words inputs asked n others rs) (add-one l.number) h) in
-          let so = l.invariant.so (r ∷ rs) (subst (λ (xs : List Answer). AreRunsOf words inputs asked l.number xs (r ∷ rs)) (sym split) all) in
+          let all : AreRunsOf words inputs asked more l.number (a ∷ others) (r ∷ rs) = (told, subst (λ n. AreRunsOf words inputs asked more n others rs) (add-one l.number) h) in
+          let so = l.invariant.so (r ∷ rs) (subst (λ (xs : List Answer). AreRunsOf words inputs asked more l.number xs (r ∷ rs)) (sym split) all) in
           let joined : c.push.new.self.items ++ rs ≡ l.runs.items ++ (r ∷ rs) = ap (λ (xs : List RunTexts). xs ++ rs) c.in_ok-push.ensures.items ∙ append_assoc l.runs.items (r ∷ []) rs in
-          subst (λ (xs : List RunTexts). AreRunsOf words inputs asked 1 c.args.answers.now xs) (sym joined) so;
+          subst (λ (xs : List RunTexts). AreRunsOf words inputs asked more 1 c.args.answers.now xs) (sym joined) so;
     }
 
 pub returns : goal.returns
@@ -39,6 +40,7 @@ returns c =
     let words = c.args.words.now in
     let inputs = c.args.inputs.now in
     let asked = c.args.asked in
+    let more = c.args.more.now in
     let none : l.rest.now ≡ [] = is_empty l.rest.now (none_left _ c.split_first.result c.split_first.ensures.cases c.in_default.not-Some) in
-    let so = l.invariant.so [] (subst (λ (xs : List Answer). AreRunsOf words inputs asked l.number xs []) (sym none) refl) in
-    subst (λ (xs : List RunTexts). AreRunsOf words inputs asked 1 c.args.answers.now xs) (append-nil l.runs.items) so
+    let so = l.invariant.so [] (subst (λ (xs : List Answer). AreRunsOf words inputs asked more l.number xs []) (sym none) refl) in
+    subst (λ (xs : List RunTexts). AreRunsOf words inputs asked more 1 c.args.answers.now xs) (append-nil l.runs.items) so

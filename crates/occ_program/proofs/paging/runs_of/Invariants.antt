@@ -7,7 +7,7 @@ use Rattle.occ_program.proofs.paging.runs_of.Given as goal
 abbrev pub invariant-loop-first : goal.invariant-loop-first
 invariant-loop-first l = record {
   counted : l.number + length l.rest ≡ 1 + length l.answers;
-  so : (rs : List RunTexts) → AreRunsOf l.words l.inputs l.asked l.number l.rest rs → AreRunsOf l.words l.inputs l.asked 1 l.answers (l.runs.items ++ rs);
+  so : (rs : List RunTexts) → AreRunsOf l.words l.inputs l.asked l.more l.number l.rest rs → AreRunsOf l.words l.inputs l.asked l.more 1 l.answers (l.runs.items ++ rs);
 }
 
 abbrev pub decreases-loop-first : goal.decreases-loop-first
