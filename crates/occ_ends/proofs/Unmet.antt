@@ -46,7 +46,7 @@ meet_on v w c = (offers_on v c && listens_on w c) || (listens_on v c && offers_o
 pub record IsLeftAt (p : Program) (most : ℕ) (net : Net) (set : Set) (w : Wait) : Type 0 where
   pub still : IsFalse (may_go w)
   pub unmet : (i : ℕ) (v : Wait) (c : ℕ) → IsFalse (set i) → ComesTo p most net set i v → IsFalse (meet_on w v c)
-  pub unjoined : (ns : List ℕ) → w ≡ W.Joins ns → HasLeft net set ns
+  pub unjoined : (ns : List ℕ) → w ≡ W.Joins ns → HasLeft net.tasks set ns
 
 -- each of the set that has begun is left so, and no turn of a process outside forks one of the set
 pub record IsUnmet (p : Program) (most : ℕ) (net : Net) (set : Set) : Type 0 where
