@@ -19,7 +19,7 @@ use Rattle.occ_ends.specs.declared.uses.ProcessUses.{ProcessUses}
 use Rattle.occ_ends.specs.Ends.{Using, is_unended, noted_for, task_is}
 use Rattle.occ_ends.specs.Endless.{flag, is_set}
 use Rattle.occ_ends.specs.Kinds.{AreThose, is_at_channel, those}
-use Rattle.occ_ends.specs.ForGood.{AreWaiting, ClearsWithin, HasLeft, HasProcesses, IsClosedSet, IsGreatest, IsLeftWithin, IsOutside, IsWithin, NoneWithin, OutWithAll, Set, StandsInSet, StaysWithin, arm_used, arms_used, branch_left, is_left_by, some_left, task_is_left, used_outside, waits_at}
+use Rattle.occ_ends.specs.ForGood.{AreWaiting, ClearsWithin, HasLeft, HasProcesses, IsClosedSet, IsGreatest, IsLeftWithin, IsOutside, IsWithin, NoneWithin, OutWithAll, Set, StandsInSet, StaysInside, arm_used, arms_used, branch_left, is_left_by, some_left, task_is_left, used_outside, waits_at}
 use Rattle.occ_ends.proofs.ClosedSets.{read_mapped}
 use Rattle.occ_ends.proofs.LeftOnes.{held_those, tested, test_of, those_held, those_rise}
 use Rattle.occ_ends.proofs.Listing.{noted_next, noted_past}
@@ -283,7 +283,7 @@ module _ (us : List Using) (tasks : Tasks) (flags : List Bool) (set : Set) (clos
       by (Some (Some t)) e = left_by t.wait (closed.left n t inside e)
 
 -- one that is not left is left out
-pub stays_without : (us : List Using) (tasks : Tasks) (flags : List Bool) (n : ℕ) → task_is_left tasks us flags (slice_get tasks n) ≡ false → StaysWithin us tasks flags (slice_set flags n false)
+pub stays_without : (us : List Using) (tasks : Tasks) (flags : List Bool) (n : ℕ) → task_is_left tasks us flags (slice_get tasks n) ≡ false → StaysInside us tasks flags (slice_set flags n false)
 stays_without us tasks flags n out set closed within k h = by (same_or_other k n)
   where
     by : (k ≡ n) ⊎ (k ≡ n → ⊥) → IsTrue (flag (slice_set flags n false) k)
@@ -292,7 +292,7 @@ stays_without us tasks flags n out set closed within k h = by (same_or_other k n
 
 -- those within one that is outside are left out
 pub stays_beside : (us : List Using) (tasks : Tasks) (old new : List Bool) (p : ProcessUses) (place first last : ℕ) → slice_get us place ≡ Some (noted_for p) → flag old p.number ≡ false → first ≡ p.number + 1 → last ≤ p.number + 1 + p.within
-    → ClearsWithin first last old new → StaysWithin us tasks old new
+    → ClearsWithin first last old new → StaysInside us tasks old new
 stays_beside us tasks old new p place first last there out is few clears set closed within k h = by (lt_or_le k first) (lt_or_le k last)
   where
     by : (k < first) ⊎ (first ≤ k) → (k < last) ⊎ (last ≤ k) → IsTrue (flag new k)

@@ -300,6 +300,9 @@ MarksAll tables kind ps old new = HeldBy tables (λ net. MarkedIn (stands net.ta
 abbrev pub AreEndsBy : List ProcessUses → Tables → ℕ → Ends → Type 0
 AreEndsBy ps tables channels ends = HeldBy tables (λ net. AreEnds (map noted_for ps) net.tasks channels ends)
 
+abbrev pub MarksLast : (set : ℕ → Bool) → (Uses → Numbers) → List ProcessUses → (old new : List (Option ℕ)) → Type 0
+MarksLast set kind ps old new = MarkedLast set kind (map noted_for ps) old new
+
 abbrev pub AreDueBy : List ProcessUses → Tables → (again : ℕ → Bool) → ℕ → Ends → Type 0
 AreDueBy ps tables again channels ends = HeldBy tables (λ net. AreDue (map noted_for ps) again net.tasks channels ends)
 

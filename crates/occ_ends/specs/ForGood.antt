@@ -204,18 +204,18 @@ abbrev pub ClearsWithin : (first last : ℕ) → (old new : List Bool) → Type 
 ClearsWithin first last old new = (k : ℕ) → (k < first) ⊎ (last ≤ k) → flag new k ≡ flag old k
 
 -- each closed set of these tasks that was within the flagged ones is within them still
-abbrev pub StaysWithin : List Using → Tasks → (old new : List Bool) → Type 0
-StaysWithin us tasks old new = (set : Set) → IsClosedSet us tasks set → IsWithin set (flag old) → IsWithin set (flag new)
+abbrev pub StaysInside : List Using → Tasks → (old new : List Bool) → Type 0
+StaysInside us tasks old new = (set : Set) → IsClosedSet us tasks set → IsWithin set (flag old) → IsWithin set (flag new)
 
 abbrev pub KeepsClosed : {A : Type 0} → List ProcessUses → Tables → (old new : Vec Bool A) → Type 0
-KeepsClosed uses tables old new = HeldBy tables (λ net. StaysWithin (map noted_for uses) net.tasks old.items new.items)
+KeepsClosed uses tables old new = HeldBy tables (λ net. StaysInside (map noted_for uses) net.tasks old.items new.items)
 
 abbrev pub KeepsWhole : {A : Type 0} → List ProcessUses → (old new : Vec Bool A) → Type 0
-KeepsWhole uses old new = (tasks : Tasks) → StaysWithin (map noted_for uses) tasks old.items new.items
+KeepsWhole uses old new = (tasks : Tasks) → StaysInside (map noted_for uses) tasks old.items new.items
 
 -- of one process alone
 abbrev pub KeepsBeside : {A : Type 0} → ProcessUses → (old new : Vec Bool A) → Type 0
-KeepsBeside process old new = (us : List Using) (tasks : Tasks) (place : ℕ) → slice_get us place ≡ Some (noted_for process) → StaysWithin us tasks old.items new.items
+KeepsBeside process old new = (us : List Using) (tasks : Tasks) (place : ℕ) → slice_get us place ≡ Some (noted_for process) → StaysInside us tasks old.items new.items
 
 abbrev pub IsGreatestIn : {A : Type 0} → List ProcessUses → Program → Tables → Vec Bool A → Type 0
 IsGreatestIn uses p tables flags = HeldIn p tables (λ net. IsGreatest (map noted_for uses) net.tasks (flag flags.items))

@@ -1,9 +1,9 @@
 //! Who may be at the ends of channels.
-ghost use Rattle.std.specs.Prelude.{◌≡◌, IfOk, None, map, replicate, slice_get, true};
+ghost use Rattle.std.specs.Prelude.{◌≡◌, IfOk, None, replicate, slice_get, true};
 ghost use Rattle.occ_net_tables.specs.Holding.{HeldBy};
 ghost use Rattle.occ_usage.specs.Noted.{between};
 ghost use Rattle.occ_ends.specs.Endless.{flag};
-ghost use Rattle.occ_ends.specs.Ends.{AreDueBy, AreEndsBy, MarkedLast, Marks, MarksAll, MarksReaders, MarksWriters, is_standing, is_unended, marked, noted_for, stands, task_is};
+ghost use Rattle.occ_ends.specs.Ends.{AreDueBy, AreEndsBy, Marks, MarksAll, MarksLast, MarksReaders, MarksWriters, is_standing, is_unended, marked, stands, task_is};
 
 use crate::endless::is_flagged;
 use crate::uses::ProcessUses;
@@ -116,9 +116,9 @@ fn mark_all(ends: &mut Ends, uses: &[ProcessUses], tables: &Tables)
 
 /// The same for each of these processes that is flagged, the last one first.
 fn mark_last(ends: &mut Ends, uses: &[ProcessUses], flags: &[bool])
-    ensures readers { MarkedLast (flag flags.now) (λ u. u.ins) (map noted_for uses.now)
+    ensures readers { MarksLast (flag flags.now) (λ u. u.ins) uses.now
         ends.old.readers.items ends.new.readers.items }
-    ensures writers { MarkedLast (flag flags.now) (λ u. u.outs) (map noted_for uses.now)
+    ensures writers { MarksLast (flag flags.now) (λ u. u.outs) uses.now
         ends.old.writers.items ends.new.writers.items }
 {
     let mut count = uses.len();

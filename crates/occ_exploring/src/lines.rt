@@ -1,6 +1,6 @@
 //! Says what a search has found.
 ghost use Rattle.std.specs.Prelude.{◌≡◌, ◌≤◌, IfOk, OnOk, length};
-ghost use Rattle.occ_exploring.specs.Texts.{all_text, answer_line, answer_lines, answers_text, bound_text, so_many, error_text, exploration_text, first_text, found_line, held_text, rest_text, stop_kind_text, lasting_text, left_text, numbers_text, said_of, waiting_line, waiting_text, waits_word};
+ghost use Rattle.occ_exploring.specs.Texts.{all_text, answer_line, answer_lines, answers_text, bound_text, so_many, error_text, exploration_text, first_text, found_line, held_text, rest_text, stop_kind_text, lasting_text, left_text, processes_named, said_of, waiting_line, waiting_text, waits_word};
 ghost use Rattle.occ_shown.specs.Answers.{AddsText};
 
 use crate::strings::write_string;
@@ -229,7 +229,7 @@ fn write_ended(alloc: Global, out: &mut Vec<u8>, states: usize) -> Result<(), Al
 
 /// Processes, by their numbers.
 fn write_numbers(alloc: Global, out: &mut Vec<u8>, numbers: &[u32]) -> Result<(), AllocError>
-    ensures { OnOk result (AddsText out.old out.new (numbers_text numbers.now)) }
+    ensures { OnOk result (AddsText out.old out.new (processes_named numbers.now)) }
 {
     let mut rest = numbers;
     while let Some((number, others)) = rest.split_first() {

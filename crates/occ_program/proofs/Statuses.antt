@@ -1,7 +1,7 @@
 -- Exit statuses are at most 7, and what they come from.
 use Rattle.std.proofs.Common.{ℕ, ◌≤◌, ◌≡◌, ◌⊎◌, inl, inr, List, Bool, true, false, ap, arith, refl, subst, sym}
 use Rattle.std.specs.Result.{result_and}
-use Rattle.std.specs.Prelude.{IfNone, Result, Ok, Err, IfOk, IfErr, IfSome, None, Option, Some, if◌then◌else◌, unwrap_or}
+use Rattle.std.specs.Prelude.{IfNone, Result, Ok, Err, IfOk, IfErr, IfSome, None, Option, Some, if◌then◌else◌, unwrap_or, ◌==◌}
 use Rattle.std.specs.Borrow.{Bor}
 use Rattle.std.specs.Option.{ForSome}
 use Rattle.occ_choices.specs.Crews.{IsCrew}
