@@ -265,8 +265,8 @@ fn leave_out_all(tables: &Tables, uses: &[ProcessUses], flags: &mut Vec<bool>, c
     for number in 0..count {
         leave_out(tables, uses, flags, number);
     }
-    for number in (0..count).rev() {
-        leave_out(tables, uses, flags, number);
+    for behind in (0..count).rev() {
+        leave_out(tables, uses, flags, behind);
     }
 }
 
@@ -311,7 +311,7 @@ fn greatest_set(
     ensures { IfOk result (IsGreatestIn uses.now code.now tables.now) }
 {
     let mut flags = vec![in alloc; true; count as usize]?;
-    for _ in 0..=count {
+    for _ in 0..count.saturating_add(1) {
         if is_closed(uses, code, tables, flags.as_slice(), count) {
             return Ok(flags);
         }
