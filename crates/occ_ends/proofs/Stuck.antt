@@ -11,7 +11,7 @@ use Rattle.occ_net_tables.proofs.Keys.{first_held, later_held}
 use Rattle.occ_ends.specs.Ends.{Using}
 use Rattle.occ_ends.specs.Kinds.{AreThose, HasCircle, IsHalted, IsRest, IsUnfinished, SomeHalted, TellsCircle}
 use Rattle.occ_ends.specs.declared.kinds.Left.{Left}
-use Rattle.occ_ends.specs.ForGood.{AreStuck, AreWaiting, IsAmiss, amiss_by, circling, halting, is_some, lacking, some_held}
+use Rattle.occ_ends.specs.ForGood.{AreStuck, AreWaiting, IsAmiss, amiss_by, circling, halting, has_any, lacking, some_held}
 use Rattle.occ_ends.proofs.Leaving.{neither}
 use Rattle.occ_ends.proofs.LeftOnes.{no_circle, none_of, some_circle}
 
@@ -38,41 +38,41 @@ sharing (n ∷ ns) others k h q =
     ]
 
 module _ (us : List Using) (p : Program) (tasks : Tasks) (waiting : List ℕ) where
-  some_circles : (ring : List ℕ) → IsTrue (is_some ring) → TellsCircle us p tasks ring → HasCircle us p tasks
+  some_circles : (ring : List ℕ) → IsTrue (has_any ring) → TellsCircle us p tasks ring → HasCircle us p tasks
   some_circles [] h c = absurd (true≢false (sym h))
   some_circles (n ∷ ns) h c = some_circle us p tasks n ns c
 
-  none_circles : (ring : List ℕ) → IsFalse (is_some ring) → TellsCircle us p tasks ring → HasCircle us p tasks → ⊥
+  none_circles : (ring : List ℕ) → IsFalse (has_any ring) → TellsCircle us p tasks ring → HasCircle us p tasks → ⊥
   none_circles [] h c = no_circle us p tasks c
   none_circles (n ∷ ns) h c = absurd (true≢false h)
 
-  some_halted : (ns : List ℕ) → IsTrue (is_some ns) → AreThose (IsHalted tasks) ns → SomeHalted tasks
+  some_halted : (ns : List ℕ) → IsTrue (has_any ns) → AreThose (IsHalted tasks) ns → SomeHalted tasks
   some_halted [] h a = absurd (true≢false (sym h))
   some_halted (n ∷ ns) h a = (n, a.each n (first_held n ns))
 
-  none_halted : (ns : List ℕ) → IsFalse (is_some ns) → AreThose (IsHalted tasks) ns → SomeHalted tasks → ⊥
+  none_halted : (ns : List ℕ) → IsFalse (has_any ns) → AreThose (IsHalted tasks) ns → SomeHalted tasks → ⊥
   none_halted [] h a = none_of us p tasks a
   none_halted (n ∷ ns) h a = absurd (true≢false h)
 
   pub is_amiss : (left : Left) → IsRest us p tasks left → IsTrue (amiss_by left waiting) → IsAmiss us p tasks waiting
-  is_amiss left r h = by (or_else (is_some left.circle.items) (is_some left.halted.items || some_held waiting left.unfinished.items) h)
+  is_amiss left r h = by (or_else (has_any left.circle.items) (has_any left.halted.items || some_held waiting left.unfinished.items) h)
     where
-      other : IsTrue (is_some left.halted.items) ⊎ IsTrue (some_held waiting left.unfinished.items) → IsAmiss us p tasks waiting
+      other : IsTrue (has_any left.halted.items) ⊎ IsTrue (some_held waiting left.unfinished.items) → IsAmiss us p tasks waiting
       other (inl e) = halting (some_halted left.halted.items e r.halted)
       other (inr e) = let x = shared waiting left.unfinished.items e in lacking x.number x.first (r.unfinished.each x.number x.second)
 
-      by : IsTrue (is_some left.circle.items) ⊎ IsTrue (is_some left.halted.items || some_held waiting left.unfinished.items) → IsAmiss us p tasks waiting
+      by : IsTrue (has_any left.circle.items) ⊎ IsTrue (has_any left.halted.items || some_held waiting left.unfinished.items) → IsAmiss us p tasks waiting
       by (inl e) = circling (some_circles left.circle.items e r.circle)
-      by (inr e) = other (or_else (is_some left.halted.items) (some_held waiting left.unfinished.items) e)
+      by (inr e) = other (or_else (has_any left.halted.items) (some_held waiting left.unfinished.items) e)
 
   pub not_amiss : (left : Left) → IsRest us p tasks left → IsFalse (amiss_by left waiting) → IsAmiss us p tasks waiting → ⊥
-  not_amiss left r h a = by (neither (is_some left.circle.items) (is_some left.halted.items || some_held waiting left.unfinished.items) h) a
+  not_amiss left r h a = by (neither (has_any left.circle.items) (has_any left.halted.items || some_held waiting left.unfinished.items) h) a
     where
-      by : IsFalse (is_some left.circle.items) × IsFalse (is_some left.halted.items || some_held waiting left.unfinished.items) → IsAmiss us p tasks waiting → ⊥
+      by : IsFalse (has_any left.circle.items) × IsFalse (has_any left.halted.items || some_held waiting left.unfinished.items) → IsAmiss us p tasks waiting → ⊥
       by q (circling c) = none_circles left.circle.items q.0 r.circle c
-      by q (halting k) = none_halted left.halted.items (neither (is_some left.halted.items) (some_held waiting left.unfinished.items) q.1).0 r.halted k
+      by q (halting k) = none_halted left.halted.items (neither (has_any left.halted.items) (some_held waiting left.unfinished.items) q.1).0 r.halted k
       by q (lacking n held unfinished) =
-          true≢false (sym (sharing waiting left.unfinished.items n held (r.unfinished.all n unfinished)) ∙ (neither (is_some left.halted.items) (some_held waiting left.unfinished.items) q.1).1)
+          true≢false (sym (sharing waiting left.unfinished.items n held (r.unfinished.all n unfinished)) ∙ (neither (has_any left.halted.items) (some_held waiting left.unfinished.items) q.1).1)
 
   pub all_told : (ns : List ℕ) → AreWaiting us tasks waiting → ns ≡ waiting → IsAmiss us p tasks waiting ⊎ (ns ≡ []) → AreStuck us p tasks ns
   all_told ns w e (inl a) = record { all = waiting; waiting = w; told = inl (a, e); unless = λ _. e }

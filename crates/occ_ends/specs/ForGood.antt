@@ -229,10 +229,10 @@ abbrev pub some_held : (ns others : List ℕ) → Bool
 some_held [] others = false
 some_held (n ∷ ns) others = is_held others n || some_held ns others
 
-abbrev pub is_some : List ℕ → Bool
-is_some [] = false
-is_some (n ∷ ns) = true
+abbrev pub has_any : List ℕ → Bool
+has_any [] = false
+has_any (n ∷ ns) = true
 
 -- whether something is amiss where those that are left are these, and those wait
 abbrev pub amiss_by : Left → (waiting : List ℕ) → Bool
-amiss_by left waiting = is_some left.circle.items || (is_some left.halted.items || some_held waiting left.unfinished.items)
+amiss_by left waiting = has_any left.circle.items || (has_any left.halted.items || some_held waiting left.unfinished.items)
