@@ -249,7 +249,10 @@ fn is_closed(
 fn leave_out(tables: &Tables, uses: &[ProcessUses], flags: &mut Vec<bool>, number: u32)
     ensures { KeepsClosed uses.now tables.now flags.old flags.new }
 {
-    if !is_flagged(flags, number) || task_is_left(tables, uses, flags, number) {
+    if !is_flagged(flags, number) {
+        return;
+    }
+    if task_is_left(tables, uses, flags, number) {
         return;
     }
     let place = number as usize;
