@@ -17,17 +17,17 @@ pub none_yet : (bodies : List Body) (tasks : Tasks) (flags : List Bool) → flag
 none_yet bodies tasks flags e = subst (AgainTo bodies tasks 0) (sym e) (record { sound = λ n h. absurd (true≢false (sym h)); whole = λ n lt. absurd (omega (arith, lt)) })
 
 module _ (bodies : List Body) (tasks : Tasks) (count : ℕ) (flags : List Bool) (b : Bool) (many : length flags ≡ count) (a : AgainTo bodies tasks count flags)
-    (yes : IsTrue b → ComesAgain bodies tasks count) (not : IsFalse b → ComesAgain bodies tasks count → ⊥) where
+    (comes : IsTrue b → ComesAgain bodies tasks count) (never : IsFalse b → ComesAgain bodies tasks count → ⊥) where
   sound : (n : ℕ) → IsTrue (flag (flags ++ b ∷ []) n) → ComesAgain bodies tasks n
   sound n h = by (push_cases flags b true n (set_is (slice_get (flags ++ b ∷ []) n) h))
     where
       by : (slice_get flags n ≡ Some true) ⊎ ((n ≡ length flags) × (b ≡ true)) → ComesAgain bodies tasks n
       by (inl old) = a.sound n (ap is_set old)
-      by (inr new) = subst (ComesAgain bodies tasks) (sym (new.0 ∙ many)) (yes new.1)
+      by (inr new) = subst (ComesAgain bodies tasks) (sym (new.0 ∙ many)) (comes new.1)
 
   last : (c : Bool) → b ≡ c → ComesAgain bodies tasks count → IsTrue (flag (flags ++ b ∷ []) count)
   last true is h = ap is_set (ap (slice_get (flags ++ b ∷ [])) (sym many) ∙ push_last flags b) ∙ is
-  last false is h = absurd (not is h)
+  last false is h = absurd (never is h)
 
   whole : (n : ℕ) → n < count + 1 → ComesAgain bodies tasks n → IsTrue (flag (flags ++ b ∷ []) n)
   whole n lt h = by (lt_or_le n count)

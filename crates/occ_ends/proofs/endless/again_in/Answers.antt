@@ -16,7 +16,7 @@ loop-number-preserved c =
       ap length c.in_ok-push.ensures.items ∙ (let l = length-append flags (b ∷ []) in omega (arith, l, many)),
       λ keyboard net h.
           subst (AgainTo c.args.code.now.bodies net.tasks (n + 1)) (sym c.in_ok-push.ensures.items)
-          (one_more c.args.code.now.bodies net.tasks n flags b many (again keyboard net h) (λ yes. c.comes_again.ensures.yes yes keyboard net h) (λ no. c.comes_again.ensures.no no keyboard net h)),
+          (one_more c.args.code.now.bodies net.tasks n flags b many (again keyboard net h) (λ is. c.comes_again.ensures.yes is keyboard net h) (λ isnt. c.comes_again.ensures.no isnt keyboard net h)),
     )
 
 pub returns : goal.returns
