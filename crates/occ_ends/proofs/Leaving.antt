@@ -12,19 +12,19 @@ use Rattle.occ_machine.specs.declared.task.Wait.{Wait}
 use Rattle.occ_machine.specs.declared.task.Wait.TheVariants.{Ready, Took, Offers, Awaits, Chooses, Joins, Halted, Done, Faulted}
 use Rattle.occ_net_replay.specs.Replay.{HasTask, Tasks, is_done}
 use Rattle.occ_net_replay.specs.Waiting.{and_channel, channels_of}
-use Rattle.occ_net_replay.proofs.Tables.{or_else, or_first, or_second, set_other, set_same}
+use Rattle.occ_net_replay.proofs.Tables.{or_else, or_first, or_second, set_other}
 use Rattle.std.proofs.lemmas.Bool.{eq-eqb, eqb-true}
 use Rattle.occ_explore_walks.proofs.Lists.{at_index, get_inside, one_some, same_or_other}
 use Rattle.occ_ends.specs.declared.uses.ProcessUses.{ProcessUses}
 use Rattle.occ_ends.specs.Ends.{Using, is_unended, noted_for, task_is}
 use Rattle.occ_ends.specs.Endless.{flag, is_set}
 use Rattle.occ_ends.specs.Kinds.{AreThose, is_at_channel, those}
-use Rattle.occ_ends.specs.ForGood.{AreWaiting, ClearsWithin, HasLeft, HasProcesses, IsClosedSet, IsGreatest, IsLeftWithin, IsOutside, IsWithin, NoneWithin, OutWithAll, Set, StandsInSet, StaysInside, arm_used, arms_used, branch_left, is_left_by, some_left, task_is_left, used_outside, waits_at}
+use Rattle.occ_ends.specs.ForGood.{ClearsWithin, HasLeft, HasProcesses, IsClosedSet, IsLeftWithin, IsOutside, IsWithin, NoneWithin, OutWithAll, Set, StandsInSet, StaysInside, arm_used, arms_used, branch_left, is_left_by, some_left, task_is_left, used_outside, waits_at}
 use Rattle.occ_ends.proofs.ClosedSets.{read_mapped}
 use Rattle.occ_ends.proofs.LeftOnes.{held_those, tested, test_of, those_held, those_rise}
 use Rattle.occ_ends.proofs.Listing.{noted_next, noted_past}
 use Rattle.occ_ends.proofs.Marking.{lt_or_le}
-use Rattle.occ_ends.proofs.Unmet.{in_or_out, listens_its, offers_its}
+use Rattle.occ_ends.proofs.Unmet.{listens_its, offers_its}
 
 -- ---- small facts
 

@@ -1,5 +1,5 @@
 -- Who waits for good, and is not idle.
-use Rattle.std.proofs.Common.{◌≡◌, ◌∙◌, ◌⊎◌, inl, inr, refl, sym, ap, subst, Bool, true, false, IsTrue, IsFalse, ℕ, List, [], ◌∷◌, length}
+use Rattle.std.proofs.Common.{◌≡◌, ◌∙◌, ◌⊎◌, inl, inr, sym, subst, IsTrue, IsFalse, ℕ, List, [], ◌∷◌}
 use Rattle.std.specs.Prelude.{nat_eq, ◌||◌}
 use Rattle.std.proofs.lemmas.Bool.{eqb-true}
 use mathlib.Core.Bool.{true≢false}
@@ -9,7 +9,7 @@ use Rattle.occ_net_replay.specs.Replay.{Tasks}
 use Rattle.occ_net_replay.proofs.Tables.{or_else, or_first, or_second}
 use Rattle.occ_net_tables.proofs.Keys.{first_held, later_held}
 use Rattle.occ_ends.specs.Ends.{Using}
-use Rattle.occ_ends.specs.Kinds.{AreThose, HasCircle, IsHalted, IsRest, IsUnfinished, SomeHalted, TellsCircle}
+use Rattle.occ_ends.specs.Kinds.{AreThose, HasCircle, IsHalted, IsRest, SomeHalted, TellsCircle}
 use Rattle.occ_ends.specs.declared.kinds.Left.{Left}
 use Rattle.occ_ends.specs.ForGood.{AreStuck, AreWaiting, IsAmiss, amiss_by, circling, halting, has_any, lacking, some_held}
 use Rattle.occ_ends.proofs.Leaving.{neither}

@@ -63,10 +63,10 @@ both : (a b : Bool) → IsTrue a → IsTrue b → IsTrue (a && b)
 both true b h k = k
 both false b h k = absurd (true≢false (sym h))
 
-offers_its : (c : ℕ) (v : Message) → IsTrue (offers_on (W.Offers c v) c)
+pub offers_its : (c : ℕ) (v : Message) → IsTrue (offers_on (W.Offers c v) c)
 offers_its c v = eq-eqb c c refl
 
-listens_its : (c : ℕ) → IsTrue (listens_on (W.Awaits c) c)
+pub listens_its : (c : ℕ) → IsTrue (listens_on (W.Awaits c) c)
 listens_its c = or_first (nat_eq c c) false (eq-eqb c c refl)
 
 -- who began as a branch of a fork was among those

@@ -1,7 +1,7 @@
 -- What kind of stop a run has come to: whether processes wait for one another, some were halted, some were still to end, or endless
 -- ones alone are left.
 -- Manual: nothing; this is (own).
-use Rattle.std.specs.Prelude.{Bool, IsTrue, List, None, Option, Some, [], false, if◌then◌else◌, length, map, slice_get, suc, true, zero, ℕ, ◌++◌, ◌<◌, ◌≡◌, ◌∷◌, Vec}
+use Rattle.std.specs.Prelude.{Bool, IsTrue, List, [], false, if◌then◌else◌, length, map, slice_get, suc, true, zero, ℕ, ◌++◌, ◌<◌, ◌≡◌, ◌∷◌, Vec}
 use Rattle.occ_term.specs.Frames.{is_held}
 use Rattle.occ_machine.specs.Compiled.{Program}
 use Rattle.occ_machine.specs.Machine.{Body}

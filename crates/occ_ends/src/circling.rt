@@ -69,11 +69,7 @@ fn add_unended(tables: &Tables, number: u32, others: &mut Vec<u32>) -> Result<()
 }
 
 /// Those of these branches that are not at their ends.
-fn unended_among(
-    alloc: Global,
-    tables: &Tables,
-    branches: &[u32],
-) -> Result<Vec<u32>, AllocError>
+fn unended_among(alloc: Global, tables: &Tables, branches: &[u32]) -> Result<Vec<u32>, AllocError>
     ensures { IfOk result (ListsUnended tables.now branches.now) }
 {
     let mut others = Vec::new(alloc);

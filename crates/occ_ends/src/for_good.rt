@@ -228,13 +228,7 @@ fn are_whole(uses: &[ProcessUses], flags: &[bool]) -> bool
 }
 
 /// Whether the flagged ones are a closed set.
-fn is_closed(
-    uses: &[ProcessUses],
-    code: &Code,
-    tables: &Tables,
-    flags: &[bool],
-    count: u32,
-) -> bool
+fn is_closed(uses: &[ProcessUses], code: &Code, tables: &Tables, flags: &[bool], count: u32) -> bool
     ensures { IsTrue result → IsClosedIn uses.now code.now tables.now flags.now }
 {
     if flags.len() > count as usize {

@@ -243,15 +243,15 @@ fn write_numbers(alloc: Global, out: &mut Vec<u8>, numbers: &[u32]) -> Result<()
 fn waits_word(numbers: &[u32]) -> &'static [u8]
     ensures { result.now ≡ waits_word numbers.now }
 {
-    if numbers.len() == 1 { b"waits" } else { b"wait" }
+    if numbers.len() == 1 {
+        b"waits"
+    } else {
+        b"wait"
+    }
 }
 
 /// Who waits for good while others go on, and by how many choices.
-fn write_waiting_line(
-    alloc: Global,
-    out: &mut Vec<u8>,
-    waiting: &Waiting,
-) -> Result<(), AllocError>
+fn write_waiting_line(alloc: Global, out: &mut Vec<u8>, waiting: &Waiting) -> Result<(), AllocError>
     ensures { OnOk result (AddsText out.old out.new (waiting_line waiting.now)) }
 {
     let numbers = waiting.numbers.as_slice();

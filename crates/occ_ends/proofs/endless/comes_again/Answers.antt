@@ -1,6 +1,3 @@
-use Rattle.std.proofs.Common.{ap, subst}
-use Rattle.occ_net_replay.proofs.Tables.{task_once}
-use Rattle.occ_ends.specs.Endless.{StandsInLoop}
 use Rattle.occ_ends.proofs.endless.comes_again.Goals as goal
 
 pub returns-in_default-clause-no : goal.returns-in_default-clause-no

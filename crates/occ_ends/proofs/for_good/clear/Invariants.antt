@@ -1,5 +1,4 @@
-use Rattle.std.proofs.Common.{◌≡◌, ◌≤◌, length}
-use Rattle.std.specs.Prelude.{min}
+use Rattle.std.proofs.Common.{◌≡◌, length}
 use Rattle.occ_ends.specs.ForGood.{ClearsWithin}
 use Rattle.occ_ends.proofs.for_good.clear.Given as goal
 

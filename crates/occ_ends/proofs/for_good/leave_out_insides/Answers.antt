@@ -1,4 +1,4 @@
-use Rattle.std.proofs.Common.{length, map}
+use Rattle.std.proofs.Common.{map}
 use Rattle.occ_ends.specs.Ends.{noted_for}
 use Rattle.occ_explore_walks.proofs.Lists.{at_index}
 use Rattle.occ_ends.proofs.ClosedSets.{read_mapped}
