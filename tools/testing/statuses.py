@@ -160,7 +160,7 @@ CASES = [
     of(LETTER, ["--record", "x.occ"], 7, "", None),
     of(LETTER, ["--record", "a", "--chart", "a"], 7, "", None),
     of(LETTER, ["--choices", "a", "--chart", "a"], 7, "", None, files={"a": "0 0\n"}),
-    of(LETTER, ["--record", "./x.occ"], 7, "", "--record, --typed, --chart, --trace-to, --steps and --page each write into a file of their own\n"),
+    of(LETTER, ["--record", "./x.occ"], 7, "", "--record, --typed, --chart, --trace-to, --steps, --page and --graph each write into a file of their own\n"),
     of(LETTER, ["--choices", "a"], 7, "", "refused 90 BadChoice line 2\n", files={"a": "0 0\n0\n"}),
     Case([b"\xff.occ"], 7, "", "an argument is no UTF-8\n"),
     of(LETTER, ["--trace"], 0, "A\n1 c1 screen p0>screen 65\nended\n"),
