@@ -251,7 +251,10 @@ fn needed(matches: &ArgMatches<'_>) -> Option<&'static str> {
     if !tells && matches.get_flag("json") {
         return Some("--json stands beside --trace-to or --check");
     }
-    unwritten(matches.get_str("graph"), is_full(matches.get_str("explore")))
+    unwritten(
+        matches.get_str("graph"),
+        is_full(matches.get_str("explore")),
+    )
 }
 
 /// What is told where a graph can't be written into the file of this path, or all states are not searched.
