@@ -21,7 +21,7 @@ _occam() {
       ;;
   esac
   if [[ "$now" == -* ]]; then
-    COMPREPLY=($(compgen -W "--limit --quantum --errors --workers --seed --tries --choices --record --typed --chart --arrows --last --only --without --trace --trace-to --json --steps --page --watch --live --explain --plain --explore --first --within --states --check --help --version" -- "$now"))
+    COMPREPLY=($(compgen -W "--limit --quantum --errors --workers --seed --tries --choices --record --typed --chart --arrows --last --only --without --trace --trace-to --json --steps --page --watch --live --explain --plain --explore --first --graph --within --states --check --help --version" -- "$now"))
   else
     COMPREPLY=($(compgen -f -- "$now"))
   fi

@@ -24,6 +24,7 @@ complete -c occam -l explain -d 'Explains a refusal, a run that did not end, or 
 complete -c occam -l plain -d 'Leaves the explanation out on a terminal'
 complete -c occam -l explore -f -a 'answers endings full' -d 'Tells the outcomes of all schedules: answers are endings with what the screen got, endings stand alone, full visits every state for its answers [default: answers]'
 complete -c occam -l first -d 'Ends the search at the first fault, or stop that is not idle, and tells that answer alone'
+complete -c occam -l graph -r -d 'Writes the states that --explore=full has found, and the turns between them, into FILE: in Aldebaran format if it ends in .aut, and for Graphviz if it ends in .dot or .gv'
 complete -c occam -l within -x -d 'Tells whether each outcome of the program is one of the program in SPEC; with --explore=endings it compares endings alone'
 complete -c occam -l states -x -d 'Lets the search visit at most N states, 1 to 10000000 [default: 1000000]'
 complete -c occam -l check -d 'Says whether the source is refused, and plays nothing'

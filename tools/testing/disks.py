@@ -18,7 +18,7 @@ OLD = "what stood here before\n"
 FULL = 4096
 WRITTEN = ["--record", "--typed", "--chart", "--trace-to", "--steps", "--page"]
 FAILED = b"write failed\n"
-OWN_FILE = b"--record, --typed, --chart, --trace-to, --steps and --page each write into a file of their own\n"
+OWN_FILE = b"--record, --typed, --chart, --trace-to, --steps, --page and --graph each write into a file of their own\n"
 NOBODY = 65534
 
 

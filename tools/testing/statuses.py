@@ -183,7 +183,7 @@ CASES = [
     of(LETTER, ["--record", "x.occ"], 7, "", None),
     of(LETTER, ["--record", "a", "--chart", "a"], 7, "", None),
     of(LETTER, ["--choices", "a", "--chart", "a"], 7, "", None, files={"a": "0 0\n"}),
-    of(LETTER, ["--record", "./x.occ"], 7, "", "--record, --typed, --chart, --trace-to, --steps and --page each write into a file of their own\n"),
+    of(LETTER, ["--record", "./x.occ"], 7, "", "--record, --typed, --chart, --trace-to, --steps, --page and --graph each write into a file of their own\n"),
     of(LETTER, ["--choices", "a"], 7, "", "refused 90 BadChoice line 2\n", files={"a": "0 0\n0\n"}),
     of(LETTER, ["--choices", "a\x1b", "--explain"], 7, "", f"refused 90 BadChoice line 2\na\\x1b:2: {NO_CHOICE}", files={"a\x1b": "0 0\n0\n"}),
     of(LETTER, ["--chart", "a", "--only", "main,screen"], 7, "", NO_PROCESS.format("screen")),

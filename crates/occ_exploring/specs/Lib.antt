@@ -1,6 +1,7 @@
 pub mod Explored
 pub mod Strings
 pub mod Texts
+pub mod GraphTexts
 pub mod Statuses
 pub mod Alone
 pub mod AnyQuantum

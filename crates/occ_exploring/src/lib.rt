@@ -5,12 +5,13 @@
 //! ```
 //! let hello = b"PROC main (CHAN OF BYTE keyboard, screen)\n  screen ! 'A'\n:\n";
 //! let (options, asked) = (Options::plain(), Asked::Answers);
-//! let found = explore_in(&options, alloc, hello, b"", asked, false, false, 1_000, &mut Untold)?;
+//! let found = explore_in(&options, alloc, hello, b"", asked, false, false, false, 1_000, &mut Untold)?;
 //! assert_eq!(rt; found.answers.len(), 1); // each schedule shows the same
 //! ```
 #![tactic(auto)]
 
 pub mod exploring;
+pub mod graphs;
 mod keeping_lines;
 pub mod laws;
 mod lines;
@@ -20,8 +21,11 @@ mod using;
 pub mod within;
 
 pub use exploring::{explore_in, status_of_search};
+pub use graphs::graph_text;
 pub use keeping_lines::kept_text;
 pub use lines::{MOST_ANSWERS, answer_line, exploration_text, found_line};
-pub use occ_explore::{Answer, Asked, Exploration, Lasting, Progress, Untold, Waiting};
+pub use occ_explore::{
+    Answer, Asked, Exploration, Graph, GraphForm, Lasting, Progress, Untold, Waiting,
+};
 pub use only::{only_answer_in, only_text, status_of_only};
 pub use within::{KeepFault, Kept, keep_in, outside_of, status_of_kept};

@@ -3,6 +3,7 @@ pub mod Asked
 pub mod Modes
 pub mod Paths
 pub mod Searches
+pub mod GraphNames
 pub mod Notices
 pub mod Seeds
 pub mod Numbers

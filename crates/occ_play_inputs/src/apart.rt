@@ -205,7 +205,7 @@ pub fn check_files<R: Files>(rt: &R, words: &Words<'_>) -> Result<(), Failure>
     }
 }
 
-/// Whether the page goes into a file that is read, or into another that is written, by whatever paths.
+/// Whether the page or the graph goes into a file that is read, or into another that is written, by whatever paths.
 fn is_paged<R: Files>(rt: &R, words: &Words<'_>) -> bool {
     name_one(rt, words.page, words.file)
         || name_one(rt, words.page, words.choices)
@@ -214,6 +214,8 @@ fn is_paged<R: Files>(rt: &R, words: &Words<'_>) -> bool {
         || name_one(rt, words.page, words.trace_to)
         || name_one(rt, words.page, words.steps)
         || name_one(rt, words.page, words.typed)
+        || name_one(rt, words.graph, words.file)
+        || name_one(rt, words.graph, words.page)
 }
 
 /// Whether a file that is written is a further file of the source, by whatever paths.
@@ -226,6 +228,7 @@ fn writes_one<R: Files>(rt: &R, words: &Words<'_>) -> bool {
             || name_one(rt, words.trace_to, path)
             || name_one(rt, words.steps, path)
             || name_one(rt, words.page, path)
+            || name_one(rt, words.graph, path)
         {
             return true;
         }

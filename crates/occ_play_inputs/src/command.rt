@@ -39,7 +39,7 @@ struct Word {
 
 /// The words, in the order in which help tells of them.
 #[rattlefmt::skip]
-static WORDS: [Word; 29] = [
+static WORDS: [Word; 30] = [
     Word { name: "limit", form: Form::Value, value: "N", takes: ValueParser::Signed(0, MOST_TURNS as i64),
         needs: &[], apart: &[],
         help: "Ends the run after N turns, 0 to 10000000 [default: 1000000]" },
@@ -116,6 +116,9 @@ static WORDS: [Word; 29] = [
     Word { name: "first", form: Form::Flag, value: "", takes: ValueParser::String,
         needs: &["explore"], apart: &["within"],
         help: "Ends the search at the first fault, or stop that is not idle, and tells that answer alone" },
+    Word { name: "graph", form: Form::Value, value: "FILE", takes: ValueParser::String,
+        needs: &[], apart: &["within"],
+        help: "Writes the states that --explore=full has found, and the turns between them, into FILE: in Aldebaran format if it ends in .aut, and for Graphviz if it ends in .dot or .gv" },
     Word { name: "within", form: Form::Value, value: "SPEC", takes: ValueParser::String,
         needs: &[], apart: &["json", "limit", "workers", "choices", "chart", "arrows", "last", "only", "without", "trace", "trace-to", "steps", "page",
             "seed", "tries", "watch", "live", "typed"],
@@ -125,7 +128,7 @@ static WORDS: [Word; 29] = [
         help: "Lets the search visit at most N states, 1 to 10000000 [default: 1000000]" },
     Word { name: "check", form: Form::Flag, value: "", takes: ValueParser::String,
         needs: &[], apart: &["limit", "workers", "choices", "chart", "arrows", "last", "only", "without", "trace", "trace-to", "steps", "page", "seed", "tries", "watch",
-            "live", "typed", "record", "explore", "first", "within", "states"],
+            "live", "typed", "record", "explore", "first", "graph", "within", "states"],
         help: "Says whether the source is refused, and plays nothing" },
     Word { name: "FILE", form: Form::Files, value: "", takes: ValueParser::String, needs: &[], apart: &[],
         help: "The source, in one file or more; standard input is then the keyboard. Without it, or with - in its place, standard input is the source" },

@@ -40,6 +40,8 @@ pub enum Stream {
     Turns,
     /// The file of the page.
     Page,
+    /// The file of the graph of all states.
+    Graph,
     /// The file of what was typed.
     Typed,
 }
@@ -69,7 +71,7 @@ pub enum Failure {
     #[error("an argument is no UTF-8")]
     Arguments,
     /// A file that is to be written is one that is read, or another that is written.
-    #[error("--record, --typed, --chart, --trace-to, --steps and --page each write into a file of their own")]
+    #[error("--record, --typed, --chart, --trace-to, --steps, --page and --graph each write into a file of their own")]
     Paths,
     /// A file or a stream could not be read.
     #[error("read failed")]

@@ -6,6 +6,7 @@
 mod apart;
 mod command;
 pub mod failure;
+pub mod graphs;
 pub mod inputs;
 mod numbers;
 mod paths;
@@ -14,6 +15,7 @@ pub mod words;
 
 pub use apart::check_files;
 pub use failure::{Failure, Stream, Trouble};
+pub use graphs::named_form;
 pub use inputs::{Inputs, Joined, read_beside, read_source, read_specification};
 pub use seeds::seeded_plan;
 pub use words::{Words, nameless, read_words};

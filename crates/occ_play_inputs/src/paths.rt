@@ -11,7 +11,7 @@ const ALONE: &str = "- is standard input as the source, and stands alone";
 
 /// What is told where two words name one file.
 const ONE_FILE: &str =
-    "--record, --typed, --chart, --trace-to, --steps and --page each write into a file of their own";
+    "--record, --typed, --chart, --trace-to, --steps, --page and --graph each write into a file of their own";
 
 /// The paths of the files, as [`Words`](crate::Words) has them.
 #[derive(Drop)]
@@ -25,6 +25,7 @@ pub(crate) struct Paths<'a> {
     pub(crate) steps: Option<&'a str>,
     pub(crate) typed: Option<&'a str>,
     pub(crate) page: Option<&'a str>,
+    pub(crate) graph: Option<&'a str>,
     ghost files_apart: { AreApart file choices «record» chart trace_to steps },
     ghost more_apart: { All (IsUnwritten «record» chart trace_to steps) more.items },
     ghost typed_unread: { IsUnread typed file choices },
@@ -32,6 +33,8 @@ pub(crate) struct Paths<'a> {
     ghost more_untyped: { All (IsUntyped typed) more.items },
     ghost page_apart: { IsPageApart page file choices «record» chart trace_to steps typed },
     ghost more_unpaged: { All (IsUntyped page) more.items },
+    ghost graph_apart: { IsPageApart graph file choices «record» chart trace_to steps page },
+    ghost more_undrawn: { All (IsUntyped graph) more.items },
 }
 
 /// The paths that these words name, with those of the source's further files; or what is told where one file is named twice.
@@ -47,6 +50,7 @@ pub(crate) fn paths_of<'a>(
     let (record, chart) = (matches.get_str("record"), matches.get_str("chart"));
     let (trace_to, steps) = (matches.get_str("trace-to"), matches.get_str("steps"));
     let (typed, page) = (matches.get_str("typed"), matches.get_str("page"));
+    let graph = matches.get_str("graph");
     if !are_apart(file, choices, record, chart, trace_to, steps)
         || !are_unwritten(others, record, chart, trace_to, steps)
         || !is_unread(typed, file, choices)
@@ -54,6 +58,8 @@ pub(crate) fn paths_of<'a>(
         || !are_untyped(others, typed)
         || !is_page_apart(page, file, choices, record, chart, trace_to, steps, typed)
         || !are_untyped(others, page)
+        || !is_page_apart(graph, file, choices, record, chart, trace_to, steps, page)
+        || !are_untyped(others, graph)
     {
         return Err(ONE_FILE);
     }
@@ -67,6 +73,7 @@ pub(crate) fn paths_of<'a>(
         steps,
         typed,
         page,
+        graph,
     })
 }
 

@@ -10,6 +10,7 @@ ghost use Rattle.occ_play_inputs.specs.Searches.{IsFull, IsSearch};
 
 use crate::command::command;
 use crate::failure::Failure;
+use crate::graphs::is_graph_name;
 use crate::numbers::numbers_of;
 use crate::paths::{Paths, paths_of};
 use clap::error::ErrorKind;
@@ -100,6 +101,8 @@ pub struct Words<'a> {
     pub steps: Option<&'a str>,
     /// The path of the file into which a page that shows the run is written.
     pub page: Option<&'a str>,
+    /// The path of the file into which the graph of all states is written, where a search of all states knows them all.
+    pub graph: Option<&'a str>,
     /// What a search of all lists of choices tells; none where one run is played. Then `record` names files, one for each
     /// answer, and the limit, the workers, the choices, the trace, the turns and the chart say nothing.
     pub explore: Option<Asked>,
@@ -133,6 +136,8 @@ pub struct Words<'a> {
     ghost more_untyped: { All (IsUntyped typed) more.items },
     ghost page_apart: { IsPageApart page file choices «record» chart trace_to steps typed },
     ghost more_unpaged: { All (IsUntyped page) more.items },
+    ghost graph_apart: { IsPageApart graph file choices «record» chart trace_to steps page },
+    ghost more_undrawn: { All (IsUntyped graph) more.items },
 }
 
 /// The numbers of a run or a search, as [`Words`] has them.
@@ -248,7 +253,21 @@ fn needed(matches: &ArgMatches<'_>) -> Option<&'static str> {
     if !tells && matches.get_flag("json") {
         return Some("--json stands beside --trace-to or --check");
     }
-    None
+    unwritten(
+        matches.get_str("graph"),
+        is_full(matches.get_str("explore")),
+    )
+}
+
+/// What is told where a graph can't be written into the file of this path, or all states are not searched.
+fn unwritten(graph: Option<&str>, full: bool) -> Option<&'static str> {
+    match graph {
+        Some(path) if !is_graph_name(path) => {
+            Some("the file of --graph has a name that ends in .aut, .dot or .gv")
+        }
+        Some(_) if !full => Some("--graph stands beside --explore=full"),
+        _ => None,
+    }
 }
 
 /// What the words say that were found, or what is told where one of them says what it may not.
@@ -298,6 +317,7 @@ fn joined<'a>(
         json: matches.get_flag("json"),
         steps: paths.steps,
         page: paths.page,
+        graph: paths.graph,
         explore: explore_of(explore),
         full: is_full(explore),
         first: matches.get_flag("first"),

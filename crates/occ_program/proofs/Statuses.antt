@@ -1,7 +1,7 @@
 -- Exit statuses are at most 7, and what they come from.
-use Rattle.std.proofs.Common.{ℕ, ◌≤◌, ◌≡◌, ◌⊎◌, inl, inr, List, Bool, true, false, ap, arith, refl, subst, sym}
+use Rattle.std.proofs.Common.{ℕ, ◌≤◌, ◌≡◌, ◌⊎◌, inl, inr, List, Bool, IsTrue, true, false, ap, arith, refl, subst, sym}
 use Rattle.std.specs.Result.{result_and}
-use Rattle.std.specs.Prelude.{IfNone, Result, Ok, Err, IfOk, IfErr, IfSome, None, Option, Some, if◌then◌else◌, unwrap_or, ◌==◌}
+use Rattle.std.specs.Prelude.{IfNone, Result, Ok, Err, IfOk, IfErr, IfSome, None, Option, Some, if◌then◌else◌, is_some, unwrap_or, ◌==◌}
 use Rattle.std.specs.Borrow.{Bor}
 use Rattle.std.specs.Option.{ForSome}
 use Rattle.occ_choices.specs.Crews.{IsCrew}
@@ -30,7 +30,7 @@ use Rattle.occ_explore.specs.declared.exploration.Asked.{Asked as AskedFor}
 use Rattle.occ_explore.specs.declared.exploration.Exploration.{Exploration}
 use Rattle.occ_explore.specs.declared.exploration.Answer.{Answer}
 use Rattle.occ_exploring.specs.Alone.{IsOnlyFor, IsUntoldFor, only_status}
-use Rattle.occ_exploring.specs.Explored.{IsExplored}
+use Rattle.occ_exploring.specs.Explored.{IsDrawnFor, IsExplored}
 use Rattle.occ_explore.specs.declared.exploration.Verdict.{Verdict}
 use Rattle.occ_explore.specs.declared.exploration.Verdict.TheVariants.{All, First, More}
 use Rattle.occ_explore.specs.Exploring.{EndsAtFirst}
@@ -150,13 +150,18 @@ kept_small SpecificationPassed = omega arith
 -- what a search came to, by its three clauses
 pub searched_to : (words : Asked) (source keyboard bytes keys : List ℕ) (asked : AskedFor) (options : Options) (found : Result Exploration PlayFault)
     → options ≡ options_in words → bytes ≡ source → keys ≡ keyboard
-    → IfOk found (IsExplored options bytes keys asked words.full words.states) → IfOk found (λ e. EndsAtFirst words.first e.answers.items e.verdict) → IfErr found (Refuses options bytes) → SearchedTo words source keyboard asked found
-searched_to words source keyboard bytes keys asked options (Ok e) same from typed h first g = (
+    → IfOk found (IsExplored options bytes keys asked words.full words.states) → IfOk found (λ e. EndsAtFirst words.first e.answers.items e.verdict)
+    → (draws : Bool) → draws ≡ is_some words.graph → IfOk found (λ e. IsTrue words.full → IsDrawnFor options bytes keys asked draws e) → IfErr found (Refuses options bytes) → SearchedTo words source keyboard asked found
+searched_to words source keyboard bytes keys asked options (Ok e) same from typed h first draws wanted drawn g = (
   subst (λ o. IsExplored o source keyboard asked words.full words.states e) same
       (subst (λ k. IsExplored options source k asked words.full words.states e) typed (subst (λ s. IsExplored options s keys asked words.full words.states e) from h)),
   first,
+  λ full.
+      subst (λ b. IsDrawnFor (options_in words) source keyboard asked b e) wanted
+      (subst (λ o. IsDrawnFor o source keyboard asked draws e) same
+      (subst (λ k. IsDrawnFor options source k asked draws e) typed (subst (λ s. IsDrawnFor options s keys asked draws e) from (drawn full)))),
 )
-searched_to words source keyboard bytes keys asked options (Err f) same from typed h first g =
+searched_to words source keyboard bytes keys asked options (Err f) same from typed h first draws wanted drawn g =
     subst (λ o. Refuses o source f) same (subst (λ s. Refuses options s f) from g)
 
 -- what one run told, by its two clauses

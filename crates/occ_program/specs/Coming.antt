@@ -1,6 +1,6 @@
 -- What an exit status says of the source, the keyboard and the choices that were played.
 -- Manual: nothing; this is (own).
-use Rattle.std.specs.Prelude.{Bool, IsTrue, false, true, unwrap_or, List, None, Option, Some, Result, ℕ, ◌≡◌, Ok, Err}
+use Rattle.std.specs.Prelude.{Bool, IsTrue, false, is_some, true, unwrap_or, List, None, Option, Some, Result, ℕ, ◌≡◌, Ok, Err}
 use Rattle.std.specs.Borrow.{Bor}
 use Rattle.occ_net_replay.specs.declared.choice.Choice.{Choice}
 use Rattle.occ_play_inputs.specs.declared.failure.Failure.{Failure}
@@ -21,7 +21,7 @@ use Rattle.occ_explore.specs.declared.exploration.Exploration.{Exploration}
 use Rattle.occ_explore.specs.declared.exploration.Answer.{Answer}
 use Rattle.occ_explore.specs.Exploring.{EndsAtFirst}
 use Rattle.occ_exploring.specs.Alone.{IsOnlyFor, IsUntoldFor, only_status}
-use Rattle.occ_exploring.specs.Explored.{IsExplored}
+use Rattle.occ_exploring.specs.Explored.{IsDrawnFor, IsExplored}
 use Rattle.occ_exploring.specs.Within.{IsComparison, RefusesOne, SaysOfRuns, kept_status}
 use Rattle.occ_exploring.specs.declared.within.KeepFault.{KeepFault}
 use Rattle.occ_exploring.specs.declared.within.KeepFault.TheVariants.{Source, Specification}
@@ -93,6 +93,7 @@ IsStatusFor words s = (source : List ℕ) × (keyboard : List ℕ) × IsStatusOf
 abbrev pub SearchedTo : Words → (source keyboard : List ℕ) → Asked → Result Exploration PlayFault → Type 0
 SearchedTo words source keyboard asked (Ok e) =
     IsExplored (options_in words) source keyboard asked words.full words.states e × EndsAtFirst words.first e.answers.items e.verdict
+    × (IsTrue words.full → IsDrawnFor (options_in words) source keyboard asked (is_some words.graph) e)
 SearchedTo words source keyboard asked (Err fault) = Refuses (options_in words) source fault
 
 abbrev pub found_status : Result Exploration PlayFault → ℕ

@@ -15,10 +15,16 @@ use Rattle.occ_explaining.specs.Studied.{IsStudied}
 use Rattle.occ_explaining.specs.declared.studied.Studied.{Studied}
 use Rattle.occ_json.specs.declared.pages.RunTexts.{RunTexts}
 use Rattle.occ_net_replay.specs.declared.choice.Choice.{Choice}
+use Rattle.occ_machine.specs.Compiled.{Program}
+use Rattle.occ_play.specs.Playing.{IsTextsCode}
 use Rattle.occ_play.specs.declared.playing.Options.{Options}
+use Rattle.occ_play_inputs.specs.GraphNames.{named_form}
 use Rattle.occ_explore.specs.declared.exploration.Answer.{Answer}
 use Rattle.occ_explore.specs.declared.exploration.Asked.{Asked}
+use Rattle.occ_explore.specs.declared.exploration.Exploration.{Exploration}
+use Rattle.occ_explore.specs.declared.exploration.Graph.{Graph}
 use Rattle.occ_explore.specs.declared.exploration.Waiting.{Waiting}
+use Rattle.occ_exploring.specs.GraphTexts.{graph_text}
 use Rattle.occ_exploring.specs.Texts.{answer_line, left_text}
 use Rattle.occ_exploring.specs.Within.{outside_of}
 use Rattle.occ_exploring.specs.declared.within.Kept.{Kept}
@@ -178,6 +184,21 @@ waiting_files (Some stem) waiting = waiting_file stem.now waiting
 -- that of the answer that is told to be none of the specification's
 abbrev pub RecordsOutside : Words → Kept → Option (List Written) → Option (List Written) → Result ⊤ Failure → Type 0
 RecordsOutside words kept old new result = AreRecorded words.record (option_to_list (outside_of kept)) old new result
+
+-- the text of a graph of so many states, with the names of the channels of the source's code
+pub record IsGraphText (words : Words) (inputs : Inputs) (path : List ℕ) (states : ℕ) (g : Graph) (text : List ℕ) : Type 0 where
+  pub code : Program
+  pub is : IsTextsCode (options_in words) inputs.source.items code
+  pub written : text ≡ graph_text (named_form path) code.channels states g
+
+-- at the path that the words name, where there is a graph
+abbrev pub DrawnAt : Words → Inputs → Option (Bor (List ℕ)) → (states : ℕ) → Option Graph → Option Page → Type 0
+DrawnAt words inputs None states graph page = page ≡ None
+DrawnAt words inputs (Some path) states None page = page ≡ None
+DrawnAt words inputs (Some path) states (Some g) page = HasText (IsGraphText words inputs path.now states g) path page
+
+abbrev pub GraphPage : Words → Inputs → Exploration → Option Page → Type 0
+GraphPage words inputs e page = DrawnAt words inputs words.graph e.states e.graph page
 
 -- ---- private contracts alone cite what follows
 

@@ -12,7 +12,7 @@ use Rattle.occ_choices.specs.declared.fault.ChoiceFault.{ChoiceFault}
 use Rattle.occ_choices.specs.declared.fault.ChoiceFault.TheVariants.{BadChoice, TooMany, Memory as OutOfMemory}
 use Rattle.occ_play_inputs.specs.declared.failure.Failure.TheVariants.{Read, Write, Choices as WrongChoices}
 use Rattle.occ_play_inputs.specs.declared.failure.Stream.{Stream}
-use Rattle.occ_play_inputs.specs.declared.failure.Stream.TheVariants.{Source, More, Specification, Keyboard, Choices, Output, Record, Answer, Chart, Trace, Turns, Page, Typed}
+use Rattle.occ_play_inputs.specs.declared.failure.Stream.TheVariants.{Source, More, Specification, Keyboard, Choices, Output, Record, Answer, Chart, Trace, Turns, Page, Graph, Typed}
 use Rattle.occ_play_inputs.specs.declared.failure.Trouble.{Trouble}
 use Rattle.occ_play_inputs.specs.declared.words.Words.{Words}
 use Rattle.occ_program.specs.Pages.{answer_path}
@@ -42,6 +42,7 @@ stream_name words Chart = path_or [] words.chart
 stream_name words Trace = path_or [] words.trace_to
 stream_name words Turns = path_or [] words.steps
 stream_name words Page = path_or [] words.page
+stream_name words Graph = path_or [] words.graph
 stream_name words Typed = path_or [] words.typed
 
 -- a source that is missing may be a word that was to be another one

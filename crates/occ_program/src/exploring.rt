@@ -14,6 +14,7 @@ ghost use Rattle.occ_shown.specs.Counting.{failures_of};
 
 use crate::counting::Counter;
 use crate::explaining::explain_fault;
+use crate::graphing::leave_graph;
 use crate::paging::show_answers;
 use crate::program::{options_of, tell};
 use crate::reading::read_inputs;
@@ -33,6 +34,9 @@ use std::alloc::{AllocError, Global};
 use std::io::{IsTerminal, Write};
 use std::rt::Files;
 use std::{io, slice};
+
+/// What is told where a search doesn't know all states.
+const UNDRAWN: &str = "the graph was not written: the search has not come to all states";
 
 /// Tells what all lists of choices of the source that the words name come to: from one run, where that tells it, else by a
 /// search. Where the words name a file to be written, the choices of each answer that is printed go into one of that name, the
@@ -66,6 +70,9 @@ fn explore_inputs<R: Files + Print + Eprint>(
     ensures came { IfOk result (IsSearchStatus words.now asked) }
     ensures small { IfOk result (λ status. status ≤ 7) }
 {
+    if words.graph.is_some() {
+        return searched(rt, alloc, words, asked, inputs, on_terminal);
+    }
     match only(alloc, words, inputs) {
         Ok(Some(answer)) => only_told(rt, alloc, words, asked, inputs, &answer),
         Ok(None) => searched(rt, alloc, words, asked, inputs, on_terminal),
@@ -115,6 +122,7 @@ fn searched<R: Files + Print + Eprint>(
     counter.clear();
     tell_found(rt, alloc, words, asked, &found)?;
     show_found(rt, alloc, words, asked, inputs, &found)?;
+    draw_found(rt, alloc, words, inputs, &found)?;
     explain_found(rt, alloc, words, inputs, &found);
     Ok(status_of_found(found))
 }
@@ -257,6 +265,25 @@ fn show_found<R: Files>(
     }
 }
 
+/// Writes the graph of all states, where the words name a file for it. Where the search doesn't know all states, a line on standard
+/// error says that there is none.
+fn draw_found<R: Files + Eprint>(
+    rt: &R,
+    alloc: Global,
+    words: &Words<'_>,
+    inputs: &Inputs,
+    found: &Result<Exploration, PlayFault>,
+) -> Result<(), Failure> {
+    let Ok(exploration) = found else {
+        return Ok(());
+    };
+    if words.graph.is_some() && exploration.graph.is_none() {
+        let _ = eprintln!(rt; "{UNDRAWN}");
+    }
+    let mut folder = Disk::new(rt, alloc);
+    leave_graph(&mut folder, alloc, words, inputs, exploration)
+}
+
 /// Explains what a search has found, or why the source was refused.
 fn explain_found<R: Eprint>(
     rt: &R,
@@ -332,6 +359,7 @@ fn search<P: Progress>(
         asked,
         words.full,
         words.first,
+        words.graph.is_some(),
         words.states,
         progress,
     )

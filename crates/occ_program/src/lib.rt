@@ -9,6 +9,7 @@ mod counting;
 pub mod exit;
 mod explaining;
 mod exploring;
+mod graphing;
 mod keeping;
 mod live;
 mod looking;

@@ -142,6 +142,7 @@ fn stream_name(alloc: Global, words: &Words<'_>, stream: Stream) -> Result<Strin
         Stream::Trace => String::from_str(alloc, path_or("", words.trace_to)),
         Stream::Turns => String::from_str(alloc, path_or("", words.steps)),
         Stream::Page => String::from_str(alloc, path_or("", words.page)),
+        Stream::Graph => String::from_str(alloc, path_or("", words.graph)),
         Stream::Typed => String::from_str(alloc, path_or("", words.typed)),
     }
 }

@@ -68,6 +68,7 @@ fn schedules_are_searched(rt: HostRuntime) -> Result<(), Fail> {
         asked,
         false,
         false,
+        false,
         1_000,
         &mut Untold,
     )?;
