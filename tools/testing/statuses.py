@@ -85,6 +85,7 @@ MOST = "a picture has 990 arrows at most"
 SVG = "{http://www.w3.org/2000/svg}"
 NO_CHOICE = "a line has two numbers with one space between, as `0 3`\n"
 NO_PROCESS = """error: no process is called '{}': take a name over a column, as worker or 'line 14', or a number, as 3; keyboard, screen and error keep theirs
+Usage: occam [FILE..] [OPTIONS]
 occam --help says what is allowed
 """
 STUCK = "unfinished: p0 was not at its end\nafter 2 communications no process can go on:\n"
