@@ -8,7 +8,8 @@ use Rattle.occ_choices.specs.Lines.{choice_text}
 use Rattle.occ_net_replay.specs.declared.choice.Choice.{Choice}
 use Rattle.occ_explore.specs.declared.exploration.Answer.{Answer}
 use Rattle.occ_files.specs.Leaving.{LeavesOne, LeavesAll, LeavesNothing, Written}
-use Rattle.occ_program.specs.Pages.{AreRecorded, answer_files, answer_path}
+use Rattle.occ_explore.specs.declared.exploration.Waiting.{Waiting}
+use Rattle.occ_program.specs.Pages.{AreRecorded, answer_files, answer_path, waiting_file, waiting_files}
 
 pub untouched : (files : Option (List Written)) → LeavesNothing files files
 untouched None = tt
@@ -99,3 +100,29 @@ each_recorded path stem answers firsts old new r named same ok err = subst (λ p
     by : (r : Result ⊤ Failure) → OnOk r (LeavesAll old new (answer_files stem.now 1 firsts)) → OnErr r ((n : ℕ) × LeavesAll old new (take n (answer_files stem.now 1 firsts))) → AreRecorded (Some stem) answers old new r
     by (Ok done) h g = subst (λ xs. LeavesAll old new (answer_files stem.now 1 xs)) same h
     by (Err f) h g = (g.0, subst (λ xs. LeavesAll old new (take g.0 (answer_files stem.now 1 xs))) same g.1)
+
+-- ---- of those that wait for good
+
+pub waiting_recorded : (stem : List ℕ) (waiting : Option Waiting) (w : Waiting) (text : List Choice) (old new : Option (List Written)) (r : Result ⊤ Failure) → waiting ≡ Some w → text ≡ w.choices.items
+    → OnOk r (LeavesOne old new (answer_path stem 0) (choice_text text)) → OnErr r (LeavesNothing old new ⊎ LeavesOne old new (answer_path stem 0) (choice_text text))
+    → OnOk r (LeavesAll old new (waiting_file stem waiting)) × OnErr r ((n : ℕ) × LeavesAll old new (take n (waiting_file stem waiting)))
+waiting_recorded stem waiting w text old new r is same ok err =
+    subst (λ o. OnOk r (LeavesAll old new (waiting_file stem o)) × OnErr r ((n : ℕ) × LeavesAll old new (take n (waiting_file stem o)))) (sym is) (by r ok err)
+  where
+    said : LeavesOne old new (answer_path stem 0) (choice_text text) → LeavesOne old new (answer_path stem 0) (choice_text w.choices.items)
+    said h = subst (λ t. LeavesOne old new (answer_path stem 0) (choice_text t)) same h
+
+    by : (r : Result ⊤ Failure) → OnOk r (LeavesOne old new (answer_path stem 0) (choice_text text)) → OnErr r (LeavesNothing old new ⊎ LeavesOne old new (answer_path stem 0) (choice_text text))
+        → OnOk r (LeavesAll old new (waiting_file stem (Some w))) × OnErr r ((n : ℕ) × LeavesAll old new (take n (waiting_file stem (Some w))))
+    by (Ok done) h g = (said h, tt)
+    by (Err f) h (inl none) = (tt, (0, none_more old new none))
+    by (Err f) h (inr one) = (tt, (1, said one))
+
+pub nobody_recorded : (stem : List ℕ) (waiting : Option Waiting) (files : Option (List Written)) → waiting ≡ None → LeavesAll files files (waiting_file stem waiting)
+nobody_recorded stem waiting files is = subst (λ o. LeavesAll files files (waiting_file stem o)) (sym is) (none_more files files (untouched files))
+
+pub none_recorded : (path : Option (Bor (List ℕ))) (waiting : Option Waiting) (files : Option (List Written)) → path ≡ None → LeavesAll files files (waiting_files path waiting)
+none_recorded path waiting files is = subst (λ o. LeavesAll files files (waiting_files o waiting)) (sym is) (none_more files files (untouched files))
+
+pub named_recorded : {X : Type 0} (Says : List Written → X → Type 0) (r : X) (path : Option (Bor (List ℕ))) (stem : Bor (List ℕ)) (waiting : Option Waiting) → path ≡ Some stem → Says (waiting_file stem.now waiting) r → Says (waiting_files path waiting) r
+named_recorded Says r path stem waiting is h = subst (λ o. Says (waiting_files o waiting) r) (sym is) h
