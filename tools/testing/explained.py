@@ -26,6 +26,7 @@ WHO = re.compile(r"  (?P<one>p\d+) [^:]*: (?P<chooses>chooses)?")
 LIMIT = "  the limit is reached: --limit N allows more turns, --quantum N makes each longer"
 # each of whom a process waits for, and the line that tells of a circle
 OTHER = re.compile(r"(?:offers|awaits) [^;]*, which (p\d+) (?:reads|writes)")
+BRANCHES = re.compile(r": waits for((?: p\d+)+)$")
 CIRCLE = re.compile(r"  in a circle, each waits for the next(?:, (?P<arms>(?:p\d+ )+)by one of (?:its|their) arms)?: (?P<numbers>.*)")
 # how the report of a stop begins
 KIND = re.compile(r"(?:circle|halted|unfinished|idle): .*")
@@ -122,12 +123,13 @@ def misplaced(program, folder, source, turns):
         if told[-1:] != [LIMIT]:
             yield f"another last line: {told[-1:]}"
         told = told[:-1]
-    others, choosing = {}, set()
+    others, choosing, joining, lonely = {}, set(), set(), set()
     for line in told:
         circle = CIRCLE.fullmatch(line)
         if circle:
             numbers = circle["numbers"].split()
-            if any(other not in others.get(one, ()) for one, other in zip(numbers, numbers[1:] + numbers[:1])):
+            # where nobody is at the other end now, one that waits for its branches may be in its next round
+            if any(other not in others.get(one, ()) and not (one in lonely and other in joining) for one, other in zip(numbers, numbers[1:] + numbers[:1])):
                 yield f"no circle: {line}"
             if sorted((circle["arms"] or "").split()) != sorted(choosing & {*numbers}):
                 yield f"other arms: {line}"
@@ -137,7 +139,12 @@ def misplaced(program, folder, source, turns):
         stands = STANDS.fullmatch(line)
         who = WHO.match(line)
         if who:
-            others[who["one"]] = OTHER.findall(line)
+            branches = BRANCHES.search(line)
+            others[who["one"]] = OTHER.findall(line) + (branches[1].split() if branches else [])
+            if branches:
+                joining.add(who["one"])
+            if re.search(r", which nobody (?:reads|writes) now", line):
+                lonely.add(who["one"])
             choosing |= {who["one"]} if who["chooses"] else set()
         if not stands or f"PROC {stands['name']} (" not in source:
             yield f"no PROC: {line}"

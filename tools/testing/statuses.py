@@ -19,6 +19,20 @@ ECHO = HEAD + "  SEQ i = 0 FOR 3\n    BYTE b:\n    SEQ\n      keyboard ? b\n    
 TWO = HEAD + "  CHAN OF INT c:\n  PAR\n    c ! 7\n    INT x:\n    SEQ\n      c ? x\n      screen ! BYTE (x + 48)\n:\n"
 WAITS = HEAD + "  CHAN OF INT c, d:\n  PAR\n    SEQ\n      c ! 1\n      c ! 2\n      d ! 3\n    INT x:\n    SEQ\n      c ? x\n      d ? x\n      c ? x\n:\n"
 MANY = HEAD + "  CHAN OF INT c:\n  PAR\n    SEQ i = 0 FOR 1200\n      c ! i\n    SEQ i = 0 FOR 1200\n      INT x:\n      c ? x\n:\n"
+BESIDE = """PROC main (CHAN OF BYTE keyboard, screen)
+  CHAN OF INT a, b:
+  INT x, y:
+  PAR
+    SEQ
+      a ! 1
+      b ? x
+    SEQ
+      b ! 1
+      a ? y
+    WHILE TRUE
+      SKIP
+:
+"""
 ENDS = HEAD + """  CHAN OF INT c, d:
   PAR
     ALT
@@ -322,6 +336,23 @@ def reported(program):
         return "; ".join(wrong) or None
 
 
+def beside(program):
+    """What is wrong with what a search tells of processes that wait for good while others go on, or nothing: it is the report of the run by
+    the choices that it records under the number 0."""
+    with room_of() as room:
+        wrong = []
+        put(room, {"x.occ": BESIDE})
+        status, out, err = run(program, room, ["--explore", "--explain", "--record", "x", "x.occ"])
+        if (status, out.split("\n")[1]) != (2, "p1 p2 wait for good while others go on, by 3 choices"):
+            wrong.append(f"what was found: {status} {out!r}")
+        again = run(program, room, ["--choices", "x.0.choices", "--explain", "x.occ"])
+        if again[0] != 4 or err != f"while others go on:\n{again[2]}".removesuffix("  the schedule ends here: a longer one lets the run go on\n"):
+            wrong.append(f"what was told: {err!r}, and of the run {again}")
+        if sorted(path.name for path in room.iterdir()) != ["x.0.choices", "x.occ"]:
+            wrong.append(f"what was left: {sorted(path.name for path in room.iterdir())}")
+        return "; ".join(wrong) or None
+
+
 def typed(program):
     """What is wrong with a keyboard that is a terminal, or can't be read, or nothing."""
     with room_of() as room:
@@ -531,7 +562,7 @@ def helped(program):
         return None if is_well and defaults == DEFAULTS else f"--help: {status} {out!r} {err!r}"
 
 
-CHECKS = [recorded, explored, reported, typed, counted, written, by_workers, waited, drawn, seeded, helped]
+CHECKS = [recorded, explored, reported, beside, typed, counted, written, by_workers, waited, drawn, seeded, helped]
 
 
 def jobs():

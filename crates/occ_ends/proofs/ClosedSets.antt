@@ -92,7 +92,7 @@ read_mapped f (y ∷ xs) zero x h = ap (λ z. Some (f z)) (one_some h)
 read_mapped f (y ∷ xs) (suc i) x h = read_mapped f xs i x h
 
 module _ (u : UnfoldedProgram) (p : Program) (quantum : ℕ) (kb : List ℕ) (cs : List Choice) (net : Net) (most : ℕ) (set : Set)
-    (z : IsReplay u p quantum kb cs net) (room : length cs + most < 2 ^ 64) (closed : IsClosedSet (all_using (meaning u)) net set) where
+    (z : IsReplay u p quantum kb cs net) (room : length cs + most < 2 ^ 64) (closed : IsClosedSet (all_using (meaning u)) net.tasks set) where
   use_of : (i : ℕ) (v : Wait) → ComesTo p most net set i v → Uses u i v
   use_of i v come =
       subst (λ k. Uses u k v) come.number (subst (Uses u come.turn.number) come.ends
@@ -112,7 +112,7 @@ module _ (u : UnfoldedProgram) (p : Program) (quantum : ℕ) (kb : List ℕ) (cs
   out_of : (i : ℕ) (v : Term) → IsFalse (set i) → IsProcess u i v → IsOutside (all_using (meaning u)) set (using (numbered i v))
   out_of i v out is = record { place = i; there = read_mapped using (processes_of (meaning u)) i (numbered i v) is; out = out }
 
-  left_at : (w : Wait) → IsLeftWithin (all_using (meaning u)) net set w → IsLeftAt p most net set w
+  left_at : (w : Wait) → IsLeftWithin (all_using (meaning u)) net.tasks set w → IsLeftAt p most net set w
   left_at w y = record { still = y.still; unmet = λ i v c out come. apart i v c out (use_of i v come) (in_or_out (meet_on w v c)); unjoined = y.unjoined }
     where
       apart : (i : ℕ) (v : Wait) (c : ℕ) → IsFalse (set i) → Uses u i v → IsTrue (meet_on w v c) ⊎ IsFalse (meet_on w v c) → IsFalse (meet_on w v c)

@@ -1,11 +1,12 @@
 -- Who is left at a stop, and what kind of stop it is.
-use Rattle.std.proofs.Common.{◌≡◌, ◌∙◌, ◌⊎◌, inl, inr, refl, sym, ap, subst, Bool, true, false, IsTrue, ℕ, zero, suc, ◌+◌, ◌<◌, ◌≤◌, List, [], ◌∷◌, ◌++◌, Option, Some, None, append-nil, get_or, length, arith}
-use Rattle.std.specs.Prelude.{if◌then◌else◌, nat_eq, option_to_list, slice_get, ◌||◌, ◌%◌}
+use Rattle.std.proofs.Common.{◌≡◌, ◌∙◌, ◌⊎◌, inl, inr, refl, sym, ap, subst, Bool, true, false, IsTrue, ℕ, zero, suc, ◌+◌, ◌<◌, ◌≤◌, List, [], ◌∷◌, ◌++◌, Option, Some, None, append-nil, append_assoc, get_or, length, arith}
+use Rattle.std.specs.Prelude.{if◌then◌else◌, nat_eq, nat_lt, option_to_list, slice_get, ◌&&◌, ◌||◌, ◌%◌}
 use Rattle.std.specs.List.{All}
 use Rattle.std.specs.Option.{option_and_then}
 use Rattle.std.proofs.lemmas.Nat.{mod_below}
 use mathlib.Core.Bool.{true≢false}
 use Rattle.occ_term.specs.Frames.{is_held}
+use Rattle.occ_term.specs.Uses.{Numbers, Uses}
 use Rattle.occ_machine.specs.Compiled.{Program}
 use Rattle.occ_machine.specs.Machine.{Body}
 use Rattle.occ_machine.specs.SameStop.{AreAbove, IsRising}
@@ -18,9 +19,9 @@ use Rattle.occ_net_replay.proofs.Tables.{or_else, or_first, or_second}
 use Rattle.occ_net_tables.proofs.Keys.{first_held}
 use Rattle.occ_explore_walks.proofs.Lists.{get_inside, get_some, get_there}
 use Rattle.occ_ends.specs.declared.ends.Ends.{Ends}
-use Rattle.occ_ends.specs.Ends.{AreEnds, Circles, IsCircle, Using, arm_writer, arm_writers, end_noted, of_declared, others_noted, others_of, reader_among, stands_still, task_waits_for, waits_on, writer_among}
-use Rattle.occ_ends.specs.Endless.{AreEndless, flag}
-use Rattle.occ_ends.specs.Kinds.{AreThose, HasCircle, IsHalted, IsKind, IsUnfinished, halts_at, has_halted, is_at_channel, is_left_at, kind_by, others_among, task_is, those}
+use Rattle.occ_ends.specs.Ends.{AreDue, Circles, IsCircle, Using, arm_writer, arm_writers, end_noted, is_unended, last_with, of_declared, or_first as first_of, others_noted, others_of, reader_among, reader_due, stands_still, task_is, task_waits_for, unended_among, waits_on, writer_among, writer_due}
+use Rattle.occ_ends.specs.Endless.{AreEndless, ComeAgain, flag}
+use Rattle.occ_ends.specs.Kinds.{AreThose, HasCircle, IsHalted, IsKind, IsUnfinished, TellsCircle, halts_at, has_halted, is_at_channel, is_left_at, kind_by, others_among, those}
 use Rattle.occ_ends.proofs.Rounds.{lt_or_le}
 
 -- ---- members of a list
@@ -78,6 +79,12 @@ those_rise test (suc count) = by (test count) (those_rise test count)
 -- a loop's step
 pub those_more : (test : ℕ → Bool) (n : ℕ) (before after : List ℕ) → before ≡ those test n → after ≡ before ++ (if test n then n ∷ [] else []) → after ≡ those test (n + 1)
 those_more test n before after e f = let next : suc n ≡ n + 1 = omega arith in f ∙ ap (λ l. l ++ (if test n then n ∷ [] else [])) e ∙ ap (those test) next
+
+-- a loop's step: those that are not at their ends so far, and one process more
+pub unended_step : (tasks : Tasks) (n : ℕ) (others before after all : List ℕ) → after ≡ before ++ (if task_is is_unended (slice_get tasks n) then n ∷ [] else [])
+    → before ++ unended_among tasks (n ∷ others) ≡ all → after ++ unended_among tasks others ≡ all
+unended_step tasks n others before after all e h =
+    ap (λ l. l ++ unended_among tasks others) e ∙ append_assoc before (if task_is is_unended (slice_get tasks n) then n ∷ [] else []) (unended_among tasks others) ∙ h
 
 -- ---- what a test says of a process
 
@@ -140,25 +147,25 @@ module _ (r w s v : ℕ → Option ℕ) (reads : (c : ℕ) → r c ≡ s c) (wri
   same_arms [] = refl
   same_arms (a ∷ arms) = ap (λ x. option_to_list x ++ arm_writers w arms) (same_writer a.chan) ∙ ap (λ xs. option_to_list (arm_writer v a) ++ xs) (same_arms arms)
 
-  same_waits : (still : Bool) (wait : Wait) → waits_on r w still wait ≡ waits_on s v still wait
-  same_waits still Ready = refl
-  same_waits still (Took arm is m) = refl
-  same_waits still (Offers c m) = ap option_to_list (reads c)
-  same_waits still (Awaits c) = ap option_to_list (writes c)
-  same_waits true (Chooses pri arms) = same_arms arms
-  same_waits false (Chooses pri arms) = refl
-  same_waits still (Joins ns) = refl
-  same_waits still Halted = refl
-  same_waits still Done = refl
-  same_waits still (Faulted e) = refl
+  same_waits : (tasks : Tasks) (still : Bool) (wait : Wait) → waits_on r w tasks still wait ≡ waits_on s v tasks still wait
+  same_waits tasks still Ready = refl
+  same_waits tasks still (Took arm is m) = refl
+  same_waits tasks still (Offers c m) = ap option_to_list (reads c)
+  same_waits tasks still (Awaits c) = ap option_to_list (writes c)
+  same_waits tasks true (Chooses pri arms) = same_arms arms
+  same_waits tasks false (Chooses pri arms) = refl
+  same_waits tasks still (Joins ns) = refl
+  same_waits tasks still Halted = refl
+  same_waits tasks still Done = refl
+  same_waits tasks still (Faulted e) = refl
 
-  same_task : (still : Bool) (x : Option (Option Task)) → task_waits_for r w still x ≡ task_waits_for s v still x
-  same_task still None = refl
-  same_task still (Some None) = refl
-  same_task still (Some (Some t)) = same_waits still t.wait
+  same_task : (tasks : Tasks) (still : Bool) (x : Option (Option Task)) → task_waits_for r w tasks still x ≡ task_waits_for s v tasks still x
+  same_task tasks still None = refl
+  same_task tasks still (Some None) = refl
+  same_task tasks still (Some (Some t)) = same_waits tasks still t.wait
 
   pub same_others : (tasks : Tasks) (n : ℕ) → others_of r w tasks n ≡ others_of s v tasks n
-  same_others tasks n = same_task (stands_still tasks) (slice_get tasks n)
+  same_others tasks n = same_task tasks (stands_still tasks) (slice_get tasks n)
 
 same_circles : (f g : ℕ → List ℕ) → ((n : ℕ) → f n ≡ g n) → (ns : List ℕ) → Circles f ns → Circles g ns
 same_circles f g same ns c i m k there next = subst (λ l. IsTrue (is_held l k)) (same m) (c i m k there next)
@@ -167,37 +174,79 @@ same_circle : (f g : ℕ → List ℕ) → ((n : ℕ) → f n ≡ g n) → (belo
 same_circle f g same below ns c =
     record { waits = same_circles f g same ns c.waits; once = c.once; unless = λ e ms d all. c.unless e ms (same_circles g f (λ n. sym (same n)) ms d) all }
 
-pub circle_left : (us : List Using) (tasks : Tasks) (channels below : ℕ) (ends : Ends) (ns : List ℕ) → AreEnds us tasks channels ends → below ≡ length tasks → IsCircle (others_noted ends tasks) below ns → IsCircle (others_among us channels tasks) (length tasks) ns
-circle_left us tasks channels below ends ns are all c =
-    subst (λ b. IsCircle (others_among us channels tasks) b ns) all
-    (same_circle (others_noted ends tasks) (others_among us channels tasks)
-    (same_others (end_noted ends.readers.items) (end_noted ends.writers.items) (of_declared channels (reader_among us tasks)) (of_declared channels (writer_among us tasks)) are.readers are.writers tasks) below ns c)
+pub circle_left : (us : List Using) (p : Program) (tasks : Tasks) (again : ℕ → Bool) (below : ℕ) (ends : Ends) (ns : List ℕ) → ComeAgain p.bodies tasks again → AreDue us again tasks (length p.channels) ends → below ≡ length tasks
+    → IsCircle (others_noted ends tasks) below ns → TellsCircle us p tasks ns
+circle_left us p tasks again below ends ns come are all c =
+    record {
+      again = again;
+      come = come;
+      is =
+          subst (λ b. IsCircle (others_among us (length p.channels) again tasks) b ns) all
+          (same_circle (others_noted ends tasks) (others_among us (length p.channels) again tasks)
+          (same_others (end_noted ends.readers.items) (end_noted ends.writers.items) (of_declared (length p.channels) (reader_due us again tasks)) (of_declared (length p.channels) (writer_due us again tasks)) are.readers are.writers tasks) below ns c);
+    }
+
+-- ---- who is at the ends, where these come again
+
+module _ (f g : ℕ → Bool) (same : (n : ℕ) → f n ≡ g n) where
+  same_last : (kind : Uses → Numbers) (c : ℕ) (ps : List Using) → last_with f kind c ps ≡ last_with g kind c ps
+  same_last kind c [] = refl
+  same_last kind c (x ∷ ps) =
+      ap (λ l. first_of l (if f x.number && kind x.uses c then Some x.number else None)) (same_last kind c ps)
+      ∙ ap (λ b. first_of (last_with g kind c ps) (if b && kind x.uses c then Some x.number else None)) (same x.number)
+
+  pub same_declared : (channels : ℕ) (there : ℕ → Option ℕ) (kind : Uses → Numbers) (ps : List Using) (c : ℕ)
+      → of_declared channels (λ k. first_of (there k) (last_with f kind k ps)) c ≡ of_declared channels (λ k. first_of (there k) (last_with g kind k ps)) c
+  same_declared channels there kind ps c = ap (λ x. if nat_lt c channels then first_of (there c) x else None) (same_last kind c ps)
+
+pub one_again : (bodies : List Body) (tasks : Tasks) (f g : ℕ → Bool) → ComeAgain bodies tasks f → ComeAgain bodies tasks g → (n : ℕ) → f n ≡ g n
+one_again bodies tasks f g a b n = by (f n) (g n) (λ h. b.whole n (a.sound n h)) (λ h. a.whole n (b.sound n h))
+  where
+    by : (x y : Bool) → (IsTrue x → IsTrue y) → (IsTrue y → IsTrue x) → x ≡ y
+    by true y to from = sym (to refl)
+    by false true to from = from refl
+    by false false to from = refl
 
 -- ---- kinds
 
-others_inside : (reader writer : ℕ → Option ℕ) (still : Bool) (tasks : Tasks) (n k : ℕ) (x : Option (Option Task)) → slice_get tasks n ≡ x → IsTrue (is_held (task_waits_for reader writer still x) k) → n < length tasks
+others_inside : (reader writer : ℕ → Option ℕ) (still : Bool) (tasks : Tasks) (n k : ℕ) (x : Option (Option Task)) → slice_get tasks n ≡ x → IsTrue (is_held (task_waits_for reader writer tasks still x) k) → n < length tasks
 others_inside reader writer still tasks n k None e h = absurd (true≢false (sym h))
 others_inside reader writer still tasks n k (Some x) e h = get_inside tasks n x e
 
 module _ (us : List Using) (p : Program) (tasks : Tasks) where
-  abbrev others : ℕ → List ℕ
-  others = others_among us (length p.channels) tasks
+  abbrev others : (ℕ → Bool) → ℕ → List ℕ
+  others again = others_among us (length p.channels) again tasks
 
-  inside : (ring : List ℕ) → Circles others ring → All (λ m. m < length tasks) ring
-  inside ring c i d lt =
+  moved : (f g : ℕ → Bool) → ComeAgain p.bodies tasks f → ComeAgain p.bodies tasks g → (n : ℕ) → others f n ≡ others g n
+  moved f g a b n =
+      let same = one_again p.bodies tasks f g a b in
+      same_others (of_declared (length p.channels) (reader_due us f tasks)) (of_declared (length p.channels) (writer_due us f tasks)) (of_declared (length p.channels) (reader_due us g tasks)) (of_declared (length p.channels) (writer_due us g tasks))
+      (same_declared f g same (length p.channels) (reader_among us tasks) (λ u. u.ins) us)
+      (same_declared f g same (length p.channels) (writer_among us tasks) (λ u. u.outs) us) tasks n
+
+  inside : (again : ℕ → Bool) (ring : List ℕ) → Circles (others again) ring → All (λ m. m < length tasks) ring
+  inside again ring c i d lt =
       let some : 0 < length ring = omega (arith, lt) in
       let next = get_some ring ((i + 1) % length ring) (mod_below (i + 1) (length ring) some) in
-      others_inside (of_declared (length p.channels) (reader_among us tasks)) (of_declared (length p.channels) (writer_among us tasks)) (stands_still tasks) tasks (get_or ring i d) next.0
+      others_inside (of_declared (length p.channels) (reader_due us again tasks)) (of_declared (length p.channels) (writer_due us again tasks)) (stands_still tasks) tasks (get_or ring i d) next.0
       (slice_get tasks (get_or ring i d)) refl (c i (get_or ring i d) next.0 (get_there ring i d lt) next.1)
 
-  no_circle : IsCircle others (length tasks) [] → HasCircle us (length p.channels) tasks → ⊥
-  no_circle c h = let none = c.unless refl h.ring h.waits (inside h.ring h.waits) in let some = h.some in let zero_is = ap length none in absurd (omega (arith, some, zero_is))
+  pub no_circle : TellsCircle us p tasks [] → HasCircle us p tasks → ⊥
+  no_circle c h =
+      let waits : Circles (others c.again) h.ring = same_circles (others h.again) (others c.again) (moved h.again c.again h.come c.come) h.ring h.waits in
+      let none = c.is.unless refl h.ring waits (inside c.again h.ring waits) in
+      let some = h.some in
+      let zero_is = ap length none in
+      absurd (omega (arith, some, zero_is))
 
-  none_of : {Says : ℕ → Type 0} → AreThose Says [] → (n : ℕ) × Says n → ⊥
+  pub some_circle : (n : ℕ) (ns : List ℕ) → TellsCircle us p tasks (n ∷ ns) → HasCircle us p tasks
+  some_circle n ns c = record { again = c.again; come = c.come; ring = n ∷ ns; some = omega arith; waits = c.is.waits }
+
+  pub none_of : {Says : ℕ → Type 0} → AreThose Says [] → (n : ℕ) × Says n → ⊥
   none_of those x = true≢false (sym (those.all x.0 x.1))
 
-  pub kind_is : (circle halted unfinished : List ℕ) → IsCircle others (length tasks) circle → AreThose (IsHalted tasks) halted → AreThose (IsUnfinished p.bodies tasks) unfinished → IsKind us p tasks (kind_by circle halted unfinished)
-  kind_is (n ∷ ns) hs fs c h f = record { ring = n ∷ ns; some = omega arith; waits = c.waits }
+  pub kind_is : (circle halted unfinished : List ℕ) → TellsCircle us p tasks circle → AreThose (IsHalted tasks) halted → AreThose (IsUnfinished p.bodies tasks) unfinished → IsKind us p tasks (kind_by circle halted unfinished)
+  kind_is (n ∷ ns) hs fs c h f = some_circle n ns c
   kind_is [] (n ∷ ns) fs c h f = (no_circle c, (n, h.each n (first_held n ns)))
   kind_is [] [] (n ∷ ns) c h f = (no_circle c, none_of h, (n, f.each n (first_held n ns)))
   kind_is [] [] [] c h f = (no_circle c, none_of h, none_of f)

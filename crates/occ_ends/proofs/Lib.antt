@@ -1,4 +1,5 @@
 pub mod ClosedSets
+pub mod ComingAgain
 pub mod Flagging
 pub mod Leaving
 pub mod LeftOnes
@@ -6,4 +7,5 @@ pub mod Listing
 pub mod Marking
 pub mod Rings
 pub mod Rounds
+pub mod Stuck
 pub mod Unmet

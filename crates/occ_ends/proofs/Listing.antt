@@ -1,6 +1,6 @@
 -- Processes that are listed one after another.
 use Rattle.std.specs.Prelude.{reverse}
-use Rattle.std.proofs.Common.{◌≡◌, ◌++◌, ◌+◌, ◌<◌, ◌∙◌, [], List, append-nil, append_assoc, ap, arith, drop, drop-cons, get_or, length, map, refl, subst, suc, sym, ℕ}
+use Rattle.std.proofs.Common.{◌≡◌, ◌++◌, ◌+◌, ◌<◌, ◌∙◌, ◌∷◌, ◌≤◌, [], List, append-nil, append_assoc, ap, arith, drop, drop-cons, get_or, length, map, refl, subst, suc, sym, zero, ℕ}
 use Rattle.std.proofs.lemmas.List.{map-append, reverse-append}
 use Rattle.occ_term.specs.Processes.{Numbered}
 use Rattle.occ_term.specs.Terms.{then_term}
@@ -46,3 +46,17 @@ pub variants_next : (vs : List Variant) (i k : ℕ) (v : Variant) → k ≡ i + 
 variants_next vs i k v e lt is =
     let next : suc i ≡ k = omega (arith, e) in
     ap variants_of (drop-cons vs i v lt) ∙ ap (λ y. variant_of y (variants_of (drop (suc i) vs))) (sym is) ∙ ap (λ n. variant_of v (variants_of (drop n vs))) next
+
+pub noted_next : (ps : List ProcessUses) (i k : ℕ) (p : ProcessUses) → k ≡ i + 1 → i < length ps → p ≡ get_or ps i p → map noted_for (drop i ps) ≡ noted_for p ∷ map noted_for (drop k ps)
+noted_next ps i k p e lt is =
+    let next : suc i ≡ k = omega (arith, e) in
+    ap (map noted_for) (drop-cons ps i p lt) ∙ ap (λ y. noted_for y ∷ map noted_for (drop (suc i) ps)) (sym is) ∙ ap (λ n. noted_for p ∷ map noted_for (drop n ps)) next
+
+pub noted_past : (ps : List ProcessUses) (i : ℕ) → length ps ≤ i → map noted_for (drop i ps) ≡ []
+noted_past [] i past = ap (map noted_for) (drop_none i)
+  where
+    drop_none : (i : ℕ) → drop {A = ProcessUses} i [] ≡ []
+    drop_none zero = refl
+    drop_none (suc i) = refl
+noted_past (p ∷ ps) zero past = absurd (omega (arith, past))
+noted_past (p ∷ ps) (suc i) past = noted_past ps i (omega (arith, past))

@@ -6,7 +6,7 @@ use Rattle.occ_explore_walks.proofs.Lists.{same_or_other}
 use Rattle.occ_term.specs.Uses.{Numbers, Uses, empty_set}
 use Rattle.occ_usage.specs.Noted.{between}
 use Rattle.occ_net_tables.specs.Keys.{flat}
-use Rattle.occ_ends.specs.Ends.{MarkedIn, Marks, Using, first_with, marked, end_noted, or_first, of_declared}
+use Rattle.occ_ends.specs.Ends.{MarkedIn, MarkedLast, Marks, Using, first_with, last_with, marked, end_noted, or_first, of_declared}
 
 pub lt_or_le : (n e : ℕ) → (n < e) ⊎ (e ≤ n)
 lt_or_le zero zero = inr (omega arith)
@@ -158,6 +158,41 @@ module _ {stand : ℕ → Bool} {kind : Uses → Numbers} {all : List Using} {st
         as_many = h.as_many;
       }
 
+-- ---- processes from the last one on
+
+last_then : (b : Bool) (n : ℕ) (l : Option ℕ) (x : Option (Option ℕ)) → option_map (marked b n) (option_map (λ end. or_first end l) x) ≡ option_map (λ end. or_first end (or_first l (if b then Some n else None))) x
+last_then b n l None = refl
+last_then b n None (Some None) = refl
+last_then b n (Some m) (Some None) = refl
+last_then b n l (Some (Some k)) = refl
+
+pub last_none : (set : ℕ → Bool) (kind : Uses → Numbers) (ends : List (Option ℕ)) (ps : List Using) → ps ≡ [] → MarkedLast set kind ps ends ends
+last_none set kind ends ps e = subst (λ l. MarkedLast set kind l ends ends) (sym e) (record { ends = λ c. wholes (slice_get ends c); as_many = refl })
+
+module _ {set : ℕ → Bool} {kind : Uses → Numbers} {p : Using} {ps all : List Using} {start now : List (Option ℕ)} (h : MarkedLast set kind ps start now) (is : all ≡ p ∷ ps) where
+  pub last_marks : {new : List (Option ℕ)} → set p.number ≡ true → Marks now (kind p.uses) p.number new → MarkedLast set kind all start new
+  last_marks {new} inside m =
+      subst (λ l. MarkedLast set kind l start new) (sym is)
+      (record {
+        ends = λ c.
+            m.ends c
+            ∙ ap (option_map (marked (kind p.uses c) p.number)) (h.ends c)
+            ∙ last_then (kind p.uses c) p.number (last_with set kind c ps) (slice_get start c)
+            ∙ ap (λ b. option_map (λ end. or_first end (or_first (last_with set kind c ps) (if b && kind p.uses c then Some p.number else None))) (slice_get start c)) (sym inside);
+        as_many = m.as_many ∙ h.as_many;
+      })
+
+  pub last_passes : set p.number ≡ false → MarkedLast set kind all start now
+  last_passes outside =
+      subst (λ l. MarkedLast set kind l start now) (sym is)
+      (record {
+        ends = λ c.
+            h.ends c
+            ∙ ap (λ l. option_map (λ end. or_first end l) (slice_get start c)) (sym (whole (last_with set kind c ps)))
+            ∙ ap (λ b. option_map (λ end. or_first end (or_first (last_with set kind c ps) (if b && kind p.uses c then Some p.number else None))) (slice_get start c)) (sym outside);
+        as_many = h.as_many;
+      })
+
 -- ---- the start, and the end
 
 pub at_start : (channels c : ℕ) → c < channels → slice_get {X = Option ℕ} (replicate channels None) c ≡ Some None
@@ -188,3 +223,17 @@ ends_are {stand} {kind} {ps} {all} {start} {new} channels is begun m c =
     ∙ ap (λ l. flat (option_map (λ end. or_first end (first_with stand kind c ps)) (slice_get l c))) begun
     ∙ started channels c (first_with stand kind c ps)
     ∙ ap (λ l. if nat_lt c channels then first_with stand kind c l else None) is
+
+both_first : (a b : Option ℕ) (x : Option (Option ℕ)) → option_map (λ end. or_first end b) (option_map (λ end. or_first end a) x) ≡ option_map (λ end. or_first end (or_first a b)) x
+both_first a b None = refl
+both_first a b (Some None) = refl
+both_first a b (Some (Some n)) = refl
+
+pub due_are : {stand set : ℕ → Bool} {kind : Uses → Numbers} {ps : List Using} {start middle new : List (Option ℕ)} (channels : ℕ) → start ≡ replicate channels None
+    → MarkedIn stand kind ps start middle → MarkedLast set kind ps middle new → (c : ℕ) → end_noted new c ≡ of_declared channels (λ k. or_first (first_with stand kind k ps) (last_with set kind k ps)) c
+due_are {stand} {set} {kind} {ps} {start} {middle} {new} channels begun m l c =
+    ap flat (l.ends c)
+    ∙ ap (λ x. flat (option_map (λ end. or_first end (last_with set kind c ps)) x)) (m.ends c)
+    ∙ ap flat (both_first (first_with stand kind c ps) (last_with set kind c ps) (slice_get start c))
+    ∙ ap (λ x. flat (option_map (λ end. or_first end (or_first (first_with stand kind c ps) (last_with set kind c ps))) (slice_get x c))) begun
+    ∙ started channels c (or_first (first_with stand kind c ps) (last_with set kind c ps))

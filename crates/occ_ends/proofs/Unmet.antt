@@ -46,7 +46,7 @@ meet_on v w c = (offers_on v c && listens_on w c) || (listens_on v c && offers_o
 pub record IsLeftAt (p : Program) (most : ℕ) (net : Net) (set : Set) (w : Wait) : Type 0 where
   pub still : IsFalse (may_go w)
   pub unmet : (i : ℕ) (v : Wait) (c : ℕ) → IsFalse (set i) → ComesTo p most net set i v → IsFalse (meet_on w v c)
-  pub unjoined : (ns : List ℕ) → w ≡ W.Joins ns → HasLeft net set ns
+  pub unjoined : (ns : List ℕ) → w ≡ W.Joins ns → HasLeft net.tasks set ns
 
 -- each of the set that has begun is left so, and no turn of a process outside forks one of the set
 pub record IsUnmet (p : Program) (most : ℕ) (net : Net) (set : Set) : Type 0 where
@@ -63,10 +63,10 @@ both : (a b : Bool) → IsTrue a → IsTrue b → IsTrue (a && b)
 both true b h k = k
 both false b h k = absurd (true≢false (sym h))
 
-offers_its : (c : ℕ) (v : Message) → IsTrue (offers_on (W.Offers c v) c)
+pub offers_its : (c : ℕ) (v : Message) → IsTrue (offers_on (W.Offers c v) c)
 offers_its c v = eq-eqb c c refl
 
-listens_its : (c : ℕ) → IsTrue (listens_on (W.Awaits c) c)
+pub listens_its : (c : ℕ) → IsTrue (listens_on (W.Awaits c) c)
 listens_its c = or_first (nat_eq c c) false (eq-eqb c c refl)
 
 -- who began as a branch of a fork was among those

@@ -1,4 +1,4 @@
--- Which processes are endless where they stand: they can never come to their end.
+-- Which processes stand in a loop that never ends, or are branches of one that does, and which come again to what their loop has.
 -- Manual: nothing; this is (own).
 use Rattle.std.specs.Prelude.{Bool, IsTrue, List, None, Option, Some, false, length, pos, slice_get, ℕ, ◌+◌, ◌-◌, ◌<◌, ◌≡◌, ◌≤◌, ◌⊎◌, Vec}
 use Rattle.occ_term.specs.Frames.{is_held}
@@ -25,6 +25,26 @@ pub record IsEndlessLoop (code : List (Instr ℕ)) (place last : ℕ) : Type 0 w
 
 abbrev pub IsInEndlessLoop : List (Instr ℕ) → ℕ → Type 0
 IsInEndlessLoop code place = (last : ℕ) × IsEndlessLoop code place last
+
+-- a process that goes on at this place of its code is in the body of such a loop
+pub record StandsInLoop (bodies : List Body) (n place : ℕ) : Type 0 where
+  pub body : Body
+  pub there : slice_get bodies n ≡ Some body
+  pub loop : IsInEndlessLoop body.code place
+
+-- A process that waits for its branches in such a loop of its own comes again to what the loop has, in its next round. It is not enough
+-- to be a branch of one that does.
+pub record ComesAgain (bodies : List Body) (tasks : Tasks) (n : ℕ) : Type 0 where
+  pub task : Task
+  pub there : HasTask tasks n task
+  pub branches : List ℕ
+  pub joins : task.wait ≡ Joins branches
+  pub loop : StandsInLoop bodies n task.pc
+
+-- this is the set of those
+pub record ComeAgain (bodies : List Body) (tasks : Tasks) (set : ℕ → Bool) : Type 0 where
+  pub sound : (n : ℕ) → IsTrue (set n) → ComesAgain bodies tasks n
+  pub whole : (n : ℕ) → ComesAgain bodies tasks n → IsTrue (set n)
 
 -- a process that waits so waits for a branch with this number, which is higher than its own
 pub record IsBelow (wait : Wait) (n k : ℕ) : Type 0 where
@@ -86,11 +106,20 @@ pub record FlagsOne (p : Program) (tables : Tables) (n : ℕ) (old new : List Bo
 abbrev pub FlagsProcess : {A : Type 0} → Program → Tables → ℕ → (old new : Vec Bool A) → Type 0
 FlagsProcess p tables n old new = FlagsOne p tables n old.items new.items
 
--- a process that goes on at this place of its code is in the body of such a loop
-pub record StandsInLoop (bodies : List Body) (n place : ℕ) : Type 0 where
-  pub body : Body
-  pub there : slice_get bodies n ≡ Some body
-  pub loop : IsInEndlessLoop body.code place
-
 abbrev pub AreEndlessIn : {A : Type 0} → Program → Tables → Vec Bool A → Type 0
 AreEndlessIn p tables flags = HeldIn p tables (λ net. AreEndless p.bodies net.tasks flags.items)
+
+-- whether a process comes again, and that it does not
+abbrev pub ComesAgainIn : Program → Tables → ℕ → Type 0
+ComesAgainIn p tables n = HeldIn p tables (λ net. ComesAgain p.bodies net.tasks n)
+
+abbrev pub IsPastIn : Program → Tables → ℕ → Type 0
+IsPastIn p tables n = HeldIn p tables (λ net. ComesAgain p.bodies net.tasks n → ⊥)
+
+-- of the first so many processes those are flagged that come again
+pub record AgainTo (bodies : List Body) (tasks : Tasks) (count : ℕ) (flags : List Bool) : Type 0 where
+  pub sound : (n : ℕ) → IsTrue (flag flags n) → ComesAgain bodies tasks n
+  pub whole : (n : ℕ) → n < count → ComesAgain bodies tasks n → IsTrue (flag flags n)
+
+abbrev pub ComeAgainIn : {A : Type 0} → Program → Tables → Vec Bool A → Type 0
+ComeAgainIn p tables flags = HeldIn p tables (λ net. ComeAgain p.bodies net.tasks (flag flags.items))

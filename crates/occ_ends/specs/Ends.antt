@@ -1,6 +1,6 @@
 -- Which processes that are left may be at the ends of channels, and who waits for whom.
 -- Manual: the usage rules check list, for what a process may input from and output to. The rest is (own).
-use Rattle.std.specs.Prelude.{All, Bool, IsTrue, List, None, Option, Some, [], false, if◌then◌else◌, length, map, nat_lt, option_map, option_to_list, reverse, slice_get, true, ℕ, ◌%◌, ◌&&◌, ◌+◌, ◌++◌, ◌<◌, ◌≤◌, ◌∷◌, ◌≡◌, ◌⊎◌, Vec}
+use Rattle.std.specs.Prelude.{All, Bool, IsTrue, List, None, Option, Some, [], false, if◌then◌else◌, length, map, nat_lt, not, option_map, option_to_list, reverse, slice_get, true, ℕ, ◌%◌, ◌&&◌, ◌+◌, ◌++◌, ◌<◌, ◌≤◌, ◌∷◌, ◌≡◌, ◌⊎◌, Vec}
 use Rattle.std.specs.Option.{option_and_then}
 use Rattle.occ_term.specs.Frames.{is_held}
 use Rattle.occ_term.specs.Processes.{Numbered, branches_in, processes_of}
@@ -10,7 +10,7 @@ use Rattle.occ_machine.specs.declared.task.Arm.{Arm}
 use Rattle.occ_machine.specs.declared.task.Task.{Task}
 use Rattle.occ_machine.specs.declared.task.Wait.{Wait}
 use Rattle.occ_machine.specs.declared.task.Wait.TheVariants.{Ready, Took, Offers, Awaits, Chooses, Joins, Halted, Done, Faulted}
-use Rattle.occ_net_replay.specs.Replay.{Tasks, ready_from}
+use Rattle.occ_net_replay.specs.Replay.{Tasks, is_done, ready_from}
 use Rattle.occ_net_tables.specs.Keys.{flat}
 use Rattle.occ_usage.specs.Noted.{uses_in}
 use Rattle.occ_explore_walks.specs.declared.graph.Edge.{Edge}
@@ -63,6 +63,11 @@ task_stands (Some (Some t)) = is_standing t.wait
 abbrev pub stands : Tasks → ℕ → Bool
 stands tasks n = task_stands (slice_get tasks n)
 
+-- the first of two, where it is one
+abbrev pub or_first : Option ℕ → Option ℕ → Option ℕ
+or_first None y = y
+or_first (Some x) y = Some x
+
 -- the first of these that stands, and that may use the channel so
 abbrev pub first_with : (ℕ → Bool) → (Uses → Numbers) → ℕ → List Using → Option ℕ
 first_with stand kind c [] = None
@@ -82,12 +87,43 @@ of_declared channels end c = if nat_lt c channels then end c else None
 abbrev pub end_noted : List (Option ℕ) → ℕ → Option ℕ
 end_noted ends c = flat (slice_get ends c)
 
+-- the last of these that is in the set, and that may use the channel so
+abbrev pub last_with : (set : ℕ → Bool) → (Uses → Numbers) → ℕ → List Using → Option ℕ
+last_with set kind c [] = None
+last_with set kind c (p ∷ ps) = or_first (last_with set kind c ps) (if set p.number && kind p.uses c then Some p.number else None)
+
+-- Who is to input from a channel: who stands and may. Where nobody does, the innermost of those that come again and may, which is the last
+-- of them: a branch stands behind who forked it.
+abbrev pub reader_due : List Using → (again : ℕ → Bool) → Tasks → ℕ → Option ℕ
+reader_due us again tasks c = or_first (reader_among us tasks c) (last_with again (λ u. u.ins) c us)
+
+abbrev pub writer_due : List Using → (again : ℕ → Bool) → Tasks → ℕ → Option ℕ
+writer_due us again tasks c = or_first (writer_among us tasks c) (last_with again (λ u. u.outs) c us)
+
 -- by what processes use
 pub record AreEnds (us : List Using) (tasks : Tasks) (channels : ℕ) (ends : Ends) : Type 0 where
   pub readers : (c : ℕ) → end_noted ends.readers.items c ≡ of_declared channels (reader_among us tasks) c
   pub writers : (c : ℕ) → end_noted ends.writers.items c ≡ of_declared channels (writer_among us tasks) c
 
+pub record AreDue (us : List Using) (again : ℕ → Bool) (tasks : Tasks) (channels : ℕ) (ends : Ends) : Type 0 where
+  pub readers : (c : ℕ) → end_noted ends.readers.items c ≡ of_declared channels (reader_due us again tasks) c
+  pub writers : (c : ℕ) → end_noted ends.writers.items c ≡ of_declared channels (writer_due us again tasks) c
+
 -- ---- who waits for whom
+
+-- what a test says of a process that has begun
+abbrev pub task_is : (Wait → Bool) → Option (Option Task) → Bool
+task_is test None = false
+task_is test (Some None) = false
+task_is test (Some (Some t)) = test t.wait
+
+abbrev pub is_unended : Wait → Bool
+is_unended w = not (is_done w)
+
+-- those of these that have begun, and are not at their ends
+abbrev pub unended_among : Tasks → List ℕ → List ℕ
+unended_among tasks [] = []
+unended_among tasks (n ∷ ns) = (if task_is is_unended (slice_get tasks n) then n ∷ [] else []) ++ unended_among tasks ns
 
 -- who may output to the channel of an arm; an arm with SKIP has none
 abbrev pub arm_writer : (writer : ℕ → Option ℕ) → Arm → Option ℕ
@@ -97,23 +133,24 @@ abbrev pub arm_writers : (writer : ℕ → Option ℕ) → List Arm → List ℕ
 arm_writers writer [] = []
 arm_writers writer (a ∷ arms) = option_to_list (arm_writer writer a) ++ arm_writers writer arms
 
--- Whom a process waits for: who is at the other end of the channel on which it offers a message, or awaits one. One that chooses waits for
--- those of each arm, but only where no process can go on: else another arm may still be served.
-abbrev pub waits_on : (reader writer : ℕ → Option ℕ) → (still : Bool) → Wait → List ℕ
-waits_on reader writer still Ready = []
-waits_on reader writer still (Took arm indices m) = []
-waits_on reader writer still (Offers c m) = option_to_list (reader c)
-waits_on reader writer still (Awaits c) = option_to_list (writer c)
-waits_on reader writer still (Chooses pri arms) = if still then arm_writers writer arms else []
-waits_on reader writer still (Joins ns) = []
-waits_on reader writer still Halted = []
-waits_on reader writer still Done = []
-waits_on reader writer still (Faulted e) = []
+-- Whom a process waits for: who is at the other end of the channel on which it offers a message, or awaits one; of its branches those that
+-- are not at their ends. One that chooses waits for those of each arm, but only where no process can go on: else another arm may
+-- still be served.
+abbrev pub waits_on : (reader writer : ℕ → Option ℕ) → Tasks → (still : Bool) → Wait → List ℕ
+waits_on reader writer tasks still Ready = []
+waits_on reader writer tasks still (Took arm indices m) = []
+waits_on reader writer tasks still (Offers c m) = option_to_list (reader c)
+waits_on reader writer tasks still (Awaits c) = option_to_list (writer c)
+waits_on reader writer tasks still (Chooses pri arms) = if still then arm_writers writer arms else []
+waits_on reader writer tasks still (Joins ns) = unended_among tasks ns
+waits_on reader writer tasks still Halted = []
+waits_on reader writer tasks still Done = []
+waits_on reader writer tasks still (Faulted e) = []
 
-abbrev pub task_waits_for : (reader writer : ℕ → Option ℕ) → (still : Bool) → Option (Option Task) → List ℕ
-task_waits_for reader writer still None = []
-task_waits_for reader writer still (Some None) = []
-task_waits_for reader writer still (Some (Some t)) = waits_on reader writer still t.wait
+abbrev pub task_waits_for : (reader writer : ℕ → Option ℕ) → Tasks → (still : Bool) → Option (Option Task) → List ℕ
+task_waits_for reader writer tasks still None = []
+task_waits_for reader writer tasks still (Some None) = []
+task_waits_for reader writer tasks still (Some (Some t)) = waits_on reader writer tasks still t.wait
 
 abbrev pub is_none_left : List ℕ → Bool
 is_none_left [] = true
@@ -124,7 +161,7 @@ abbrev pub stands_still : Tasks → Bool
 stands_still tasks = is_none_left (ready_from 0 tasks)
 
 abbrev pub others_of : (reader writer : ℕ → Option ℕ) → Tasks → ℕ → List ℕ
-others_of reader writer tasks n = task_waits_for reader writer (stands_still tasks) (slice_get tasks n)
+others_of reader writer tasks n = task_waits_for reader writer tasks (stands_still tasks) (slice_get tasks n)
 
 -- the same, by who is noted
 abbrev pub others_noted : Ends → Tasks → ℕ → List ℕ
@@ -151,10 +188,6 @@ pub record ListsUses (before : List ProcessUses) (ps : List Numbered) (after : L
   pub more : List ProcessUses
   pub added : after ≡ before ++ more
   pub are : map noted_for (reverse more) ≡ map using ps
-
-abbrev pub or_first : Option ℕ → Option ℕ → Option ℕ
-or_first None y = y
-or_first (Some x) y = Some x
 
 abbrev pub marked : Bool → ℕ → Option ℕ → Option ℕ
 marked here n end = or_first end (if here then Some n else None)
@@ -223,8 +256,18 @@ pub record IsRing (others : ℕ → List ℕ) (ns : List ℕ) : Type 0 where
 -- ---- of whatever network the tables hold, and of a term whose uses these are
 
 -- whom a process waits for, by who is noted
-abbrev pub waits_noted : Ends → Bool → Wait → List ℕ
-waits_noted ends still wait = waits_on (end_noted ends.readers.items) (end_noted ends.writers.items) still wait
+abbrev pub waits_noted : Ends → Tasks → Bool → Wait → List ℕ
+waits_noted ends tasks still wait = waits_on (end_noted ends.readers.items) (end_noted ends.writers.items) tasks still wait
+
+abbrev pub ListsWaits : {A : Type 0} → Ends → Tables → Bool → Wait → Vec ℕ A → Type 0
+ListsWaits ends tables still wait others = HeldBy tables (λ net. others.items ≡ waits_noted ends net.tasks still wait)
+
+-- one more, where it is not at its end, of whatever network the tables hold
+abbrev pub AddsUnended : {A : Type 0} → Tables → ℕ → (old new : Vec ℕ A) → Type 0
+AddsUnended tables n old new = HeldBy tables (λ net. new.items ≡ old.items ++ (if task_is is_unended (slice_get net.tasks n) then n ∷ [] else []))
+
+abbrev pub ListsUnended : {A : Type 0} → Tables → List ℕ → Vec ℕ A → Type 0
+ListsUnended tables ns others = HeldBy tables (λ net. others.items ≡ unended_among net.tasks ns)
 
 -- those that a process waits for
 abbrev pub ListsOthers : {A : Type 0} → Ends → Tables → ℕ → Vec ℕ A → Type 0
@@ -240,6 +283,11 @@ HoldsCircle ends tables below ns = HeldBy tables (λ net. IsCircle (others_noted
 abbrev pub MakesRing : (ns ring : List ℕ) → Type 0
 MakesRing ns ring = (others : ℕ → List ℕ) → 0 < length ns → Circles others ns → IsRing others ring
 
+-- the last of these that is in the set, and may use the channel so, is noted where nobody was
+pub record MarkedLast (set : ℕ → Bool) (kind : Uses → Numbers) (ps : List Using) (old new : List (Option ℕ)) : Type 0 where
+  pub ends : (c : ℕ) → slice_get new c ≡ option_map (λ end. or_first end (last_with set kind c ps)) (slice_get old c)
+  pub as_many : length new ≡ length old
+
 abbrev pub MarksReaders : Ends → List Use → ℕ → Ends → Type 0
 MarksReaders old uses n new = Marks old.readers.items (uses_in uses).ins n new.readers.items
 
@@ -251,6 +299,12 @@ MarksAll tables kind ps old new = HeldBy tables (λ net. MarkedIn (stands net.ta
 
 abbrev pub AreEndsBy : List ProcessUses → Tables → ℕ → Ends → Type 0
 AreEndsBy ps tables channels ends = HeldBy tables (λ net. AreEnds (map noted_for ps) net.tasks channels ends)
+
+abbrev pub MarksLast : (set : ℕ → Bool) → (Uses → Numbers) → List ProcessUses → (old new : List (Option ℕ)) → Type 0
+MarksLast set kind ps old new = MarkedLast set kind (map noted_for ps) old new
+
+abbrev pub AreDueBy : List ProcessUses → Tables → (again : ℕ → Bool) → ℕ → Ends → Type 0
+AreDueBy ps tables again channels ends = HeldBy tables (λ net. AreDue (map noted_for ps) again net.tasks channels ends)
 
 -- behind all that stood there
 abbrev pub AddsUses : {A : Type 0} → Vec ProcessUses A → List Numbered → Vec ProcessUses A → Type 0

@@ -1,7 +1,7 @@
 -- What kind of stop a run has come to: whether processes wait for one another, some were halted, some were still to end, or endless
 -- ones alone are left.
 -- Manual: nothing; this is (own).
-use Rattle.std.specs.Prelude.{Bool, IsTrue, List, None, Option, Some, [], false, if◌then◌else◌, length, map, slice_get, suc, true, zero, ℕ, ◌++◌, ◌<◌, ◌≡◌, ◌∷◌, Vec}
+use Rattle.std.specs.Prelude.{Bool, IsTrue, List, [], false, if◌then◌else◌, length, map, slice_get, suc, true, zero, ℕ, ◌++◌, ◌<◌, ◌≡◌, ◌∷◌, Vec}
 use Rattle.occ_term.specs.Frames.{is_held}
 use Rattle.occ_machine.specs.Compiled.{Program}
 use Rattle.occ_machine.specs.Machine.{Body}
@@ -16,8 +16,8 @@ use Rattle.occ_ends.specs.declared.kinds.Kind.{Kind}
 use Rattle.occ_ends.specs.declared.kinds.Kind.TheVariants as K
 use Rattle.occ_ends.specs.declared.kinds.Left.{Left}
 use Rattle.occ_ends.specs.declared.uses.ProcessUses.{ProcessUses}
-use Rattle.occ_ends.specs.Ends.{Circles, IsCircle, Using, noted_for, of_declared, others_of, reader_among, writer_among}
-use Rattle.occ_ends.specs.Endless.{HeldIn, IsEndless, flag}
+use Rattle.occ_ends.specs.Ends.{Circles, IsCircle, Using, noted_for, of_declared, others_of, reader_due, task_is, writer_due}
+use Rattle.occ_ends.specs.Endless.{ComeAgain, HeldIn, IsEndless, flag}
 
 -- ---- what processes stand at
 
@@ -59,15 +59,23 @@ pub record IsUnfinished (bodies : List Body) (tasks : Tasks) (n : ℕ) : Type 0 
 
 -- ---- kinds
 
--- whom a process waits for, by what processes use, of a network with so many channels
-abbrev pub others_among : List Using → (channels : ℕ) → Tasks → ℕ → List ℕ
-others_among us channels tasks = others_of (of_declared channels (reader_among us tasks)) (of_declared channels (writer_among us tasks)) tasks
+-- Whom a process waits for, by what processes use, of a network with so many channels, where these come again.
+abbrev pub others_among : List Using → (channels : ℕ) → (again : ℕ → Bool) → Tasks → ℕ → List ℕ
+others_among us channels again tasks = others_of (of_declared channels (reader_due us again tasks)) (of_declared channels (writer_due us again tasks)) tasks
 
--- some wait in a circle, each for the next
-pub record HasCircle (us : List Using) (channels : ℕ) (tasks : Tasks) : Type 0 where
+-- Some wait in a circle, each for the next.
+pub record HasCircle (us : List Using) (p : Program) (tasks : Tasks) : Type 0 where
+  pub again : ℕ → Bool
+  pub come : ComeAgain p.bodies tasks again
   pub ring : List ℕ
   pub some : 0 < length ring
-  pub waits : Circles (others_among us channels tasks) ring
+  pub waits : Circles (others_among us (length p.channels) again tasks) ring
+
+-- A circle, once round, if there is one.
+pub record TellsCircle (us : List Using) (p : Program) (tasks : Tasks) (ring : List ℕ) : Type 0 where
+  pub again : ℕ → Bool
+  pub come : ComeAgain p.bodies tasks again
+  pub is : IsCircle (others_among us (length p.channels) again tasks) (length tasks) ring
 
 abbrev pub SomeHalted : Tasks → Type 0
 SomeHalted tasks = (n : ℕ) × IsHalted tasks n
@@ -78,10 +86,10 @@ SomeUnfinished bodies tasks = (n : ℕ) × IsUnfinished bodies tasks n
 -- The kind is the first of these that holds: processes wait in a circle; some were halted; some were not at their ends, and were to come
 -- to them; all that are left at channels are endless.
 abbrev pub IsKind : List Using → Program → Tasks → Kind → Type 0
-IsKind us p tasks K.Circle = HasCircle us (length p.channels) tasks
-IsKind us p tasks K.Halted = (HasCircle us (length p.channels) tasks → ⊥) × SomeHalted tasks
-IsKind us p tasks K.Unfinished = (HasCircle us (length p.channels) tasks → ⊥) × (SomeHalted tasks → ⊥) × SomeUnfinished p.bodies tasks
-IsKind us p tasks K.Idle = (HasCircle us (length p.channels) tasks → ⊥) × (SomeHalted tasks → ⊥) × (SomeUnfinished p.bodies tasks → ⊥)
+IsKind us p tasks K.Circle = HasCircle us p tasks
+IsKind us p tasks K.Halted = (HasCircle us p tasks → ⊥) × SomeHalted tasks
+IsKind us p tasks K.Unfinished = (HasCircle us p tasks → ⊥) × (SomeHalted tasks → ⊥) × SomeUnfinished p.bodies tasks
+IsKind us p tasks K.Idle = (HasCircle us p tasks → ⊥) × (SomeHalted tasks → ⊥) × (SomeUnfinished p.bodies tasks → ⊥)
 
 -- ---- who is told of
 
@@ -94,7 +102,7 @@ pub record AreThose (Says : ℕ → Type 0) (ns : List ℕ) : Type 0 where
 -- Of a state: a circle of processes that wait, once round, if there is one; those that were halted; and those that were to come to their
 -- ends.
 pub record IsRest (us : List Using) (p : Program) (tasks : Tasks) (left : Left) : Type 0 where
-  pub circle : IsCircle (others_among us (length p.channels) tasks) (length tasks) left.circle.items
+  pub circle : TellsCircle us p tasks left.circle.items
   pub halted : AreThose (IsHalted tasks) left.halted.items
   pub unfinished : AreThose (IsUnfinished p.bodies tasks) left.unfinished.items
 
@@ -115,11 +123,6 @@ abbrev pub IsKindIn : List ProcessUses → Program → Tables → Kind → Type 
 IsKindIn uses p tables kind = HeldIn p tables (λ net. IsKind (map noted_for uses) p net.tasks kind)
 
 -- ---- private contracts alone cite what follows
-
-abbrev pub task_is : (Wait → Bool) → Option (Option Task) → Bool
-task_is test None = false
-task_is test (Some None) = false
-task_is test (Some (Some t)) = test t.wait
 
 -- those of the first so many numbers for which a test holds
 abbrev pub those : (ℕ → Bool) → ℕ → List ℕ

@@ -1,8 +1,8 @@
 //! Circles of processes that wait for one another.
-ghost use Rattle.std.specs.Prelude.{◌≡◌, ◌<◌, ◌≤◌, IfNone, IfOk, IfSome, length, map, min, option_to_list, slice_get};
-ghost use Rattle.occ_ends.specs.Ends.{HoldWaits, HoldsCircle, IsAgain, IsFresh, IsRoot, LeadWithin, ListsOthers, MakesRing, arm_writer, arm_writers, edge_to, edges_to, end_noted, waits_noted};
+ghost use Rattle.std.specs.Prelude.{◌≡◌, ◌<◌, ◌≤◌, IfNone, IfOk, IfSome, OnOk, length, map, min, option_to_list, slice_get};
+ghost use Rattle.occ_ends.specs.Ends.{AddsUnended, HoldWaits, HoldsCircle, IsAgain, IsFresh, IsRoot, LeadWithin, ListsOthers, ListsUnended, ListsWaits, MakesRing, arm_writer, arm_writers, edge_to, edges_to, end_noted};
 
-use crate::ends::Ends;
+use crate::ends::{Ends, is_unended};
 use occ_explore_walks::{Edge, Fan, Lasting, lasting};
 use occ_machine::{Arm, Wait};
 use occ_net_replay::Choice;
@@ -58,9 +58,38 @@ fn arm_writer(writers: &[Option<u32>], arm: &Arm) -> Option<u32>
     }
 }
 
+/// Adds a branch where it is not at its end.
+fn add_unended(tables: &Tables, number: u32, others: &mut Vec<u32>) -> Result<(), AllocError>
+    ensures { OnOk result (AddsUnended tables.now number others.old others.new) }
+{
+    if is_unended(tables, number) {
+        others.push(number)?;
+    }
+    Ok(())
+}
+
+/// Those of these branches that are not at their ends.
+fn unended_among(alloc: Global, tables: &Tables, branches: &[u32]) -> Result<Vec<u32>, AllocError>
+    ensures { IfOk result (ListsUnended tables.now branches.now) }
+{
+    let mut others = Vec::new(alloc);
+    let mut rest = branches;
+    while let Some((branch, later)) = rest.split_first() {
+        add_unended(tables, *branch, &mut others)?;
+        rest = later;
+    }
+    Ok(others)
+}
+
 /// Whom a process waits for that stands at this. Its arms count where no process can go on.
-fn waits_for(alloc: Global, ends: &Ends, still: bool, wait: &Wait) -> Result<Vec<u32>, AllocError>
-    ensures { IfOk result (λ others. others.items ≡ waits_noted ends.now still wait.now) }
+fn waits_for(
+    alloc: Global,
+    ends: &Ends,
+    tables: &Tables,
+    still: bool,
+    wait: &Wait,
+) -> Result<Vec<u32>, AllocError>
+    ensures { IfOk result (ListsWaits ends.now tables.now still wait.now) }
 {
     match wait {
         Wait::Offers { chan, message: _ } => alone(alloc, noted(ends.readers.as_slice(), *chan)),
@@ -68,10 +97,10 @@ fn waits_for(alloc: Global, ends: &Ends, still: bool, wait: &Wait) -> Result<Vec
         Wait::Chooses { pri: _, arms } if still => {
             arm_writers(alloc, ends.writers.as_slice(), arms.as_slice())
         }
+        Wait::Joins { branches } => unended_among(alloc, tables, branches.as_slice()),
         Wait::Ready
         | Wait::Took { .. }
         | Wait::Chooses { .. }
-        | Wait::Joins { .. }
         | Wait::Halted
         | Wait::Done
         | Wait::Faulted(_) => Ok(Vec::new(alloc)),
@@ -89,7 +118,7 @@ fn others_of(
 {
     let still = tables.ready().is_empty();
     match tables.task(number) {
-        Some(task) => waits_for(alloc, ends, still, &task.wait),
+        Some(task) => waits_for(alloc, ends, tables, still, &task.wait),
         None => Ok(Vec::new(alloc)),
     }
 }
@@ -207,8 +236,8 @@ fn once_round(alloc: Global, numbers: &[u32]) -> Result<Vec<u32>, AllocError>
 }
 
 /// Processes each of which waits for the one behind it, and the last one for the first: for it to input what it offers, or to
-/// output what it awaits, or what one of its arms does where no process can go on; none of them twice. None where there are none,
-/// among the first `count` processes.
+/// output what it awaits, or what one of its arms does where no process can go on, or as for a branch; none of them twice. None where
+/// there are none, among the first `count` processes.
 /// The error is a refused growth.
 pub(crate) fn circle(
     alloc: Global,

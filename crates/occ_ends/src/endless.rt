@@ -1,7 +1,9 @@
-//! Which processes are endless where they stand: in a loop whose condition is the constant TRUE, or as a branch of such a one.
-ghost use Rattle.std.specs.Prelude.{◌≡◌, ◌<◌, ◌≤◌, ◌⊎◌, IfNone, IfOk, IfSome, IsFalse, IsTrue, length, pos, ℕ};
+//! Which processes are endless where they stand: in a loop whose condition is the constant TRUE, or as a branch of such a one. Which
+//! of them come again to what the loop has.
+ghost use Rattle.std.specs.Prelude.{◌≡◌, ◌<◌, ◌≤◌, ◌⊎◌, IfNone, IfOk, IfSome, IsFalse, IsTrue, List, length, pos, ℕ};
 ghost use Rattle.occ_machine.specs.declared.instr.Instr.TheVariants.{Choose, LoopBack, Push};
-ghost use Rattle.occ_ends.specs.Endless.{AreEndlessIn, FlagsBelow, FlagsBranches, FlagsProcess, IsEndlessLoop, IsInEndlessLoop, StandsInLoop};
+ghost use Rattle.occ_machine.specs.declared.task.Wait.TheVariants.{Joins};
+ghost use Rattle.occ_ends.specs.Endless.{AreEndlessIn, ComeAgainIn, ComesAgainIn, FlagsBelow, FlagsBranches, FlagsProcess, IsEndlessLoop, IsInEndlessLoop, IsPastIn, StandsInLoop, flag};
 
 use occ_machine::{Code, Instr, Slot, Wait};
 use occ_net_tables::Tables;
@@ -147,6 +149,64 @@ pub(crate) fn endless_in(
     let mut flags = vec![in alloc; false; count as usize]?;
     for number in 0..count {
         flag_process(code, tables, number, &mut flags);
+    }
+    Ok(flags)
+}
+
+/// Whether the process with this number is flagged.
+pub(crate) fn is_flagged(flags: &[bool], number: u32) -> bool
+    ensures { result ≡ flag flags.now number }
+{
+    match flags.get(number as usize) {
+        Some(flag) => *flag,
+        None => false,
+    }
+}
+
+// ---- who comes again
+
+/// Whether a process that stands at this waits for its branches.
+fn is_joining(wait: &Wait) -> bool
+    ensures yes { IsTrue result → (branches : List ℕ) × (wait.now ≡ Joins branches) }
+    ensures no { IsFalse result → (branches : List ℕ) → wait.now ≡ Joins branches → ⊥ }
+{
+    match wait {
+        Wait::Joins { .. } => true,
+        Wait::Ready
+        | Wait::Took { .. }
+        | Wait::Offers { .. }
+        | Wait::Awaits { .. }
+        | Wait::Chooses { .. }
+        | Wait::Halted
+        | Wait::Done
+        | Wait::Faulted(_) => false,
+    }
+}
+
+/// Whether the process with this number comes again to what its loop has: it waits for its branches in a loop that never ends.
+fn comes_again(code: &Code, tables: &Tables, number: u32) -> bool
+    ensures yes { IsTrue result → ComesAgainIn code.now tables.now number }
+    ensures no { IsFalse result → IsPastIn code.now tables.now number }
+{
+    let Some(task) = tables.task(number) else {
+        return false;
+    };
+    is_joining(&task.wait) && stands_in_loop(code, number, task.pc)
+}
+
+/// By process, whether it comes again, for the `count` processes of the program.
+pub(crate) fn again_in(
+    alloc: Global,
+    code: &Code,
+    tables: &Tables,
+    count: u32,
+) -> Result<Vec<bool>, AllocError>
+    requires { count ≡ length code.now.bodies }
+    ensures { IfOk result (ComeAgainIn code.now tables.now) }
+{
+    let mut flags = Vec::new(alloc);
+    for number in 0..count {
+        flags.push(comes_again(code, tables, number))?;
     }
     Ok(flags)
 }

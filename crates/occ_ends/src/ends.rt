@@ -1,9 +1,11 @@
 //! Who may be at the ends of channels.
-ghost use Rattle.std.specs.Prelude.{◌≡◌, IfOk, None, replicate, true};
+ghost use Rattle.std.specs.Prelude.{◌≡◌, IfOk, None, replicate, slice_get, true};
 ghost use Rattle.occ_net_tables.specs.Holding.{HeldBy};
 ghost use Rattle.occ_usage.specs.Noted.{between};
-ghost use Rattle.occ_ends.specs.Ends.{AreEndsBy, Marks, MarksAll, MarksReaders, MarksWriters, is_standing, marked, stands};
+ghost use Rattle.occ_ends.specs.Endless.{flag};
+ghost use Rattle.occ_ends.specs.Ends.{AreDueBy, AreEndsBy, Marks, MarksAll, MarksLast, MarksReaders, MarksWriters, is_standing, is_unended, marked, stands, task_is};
 
+use crate::endless::is_flagged;
 use crate::uses::ProcessUses;
 use occ_machine::Wait;
 use occ_net_tables::Tables;
@@ -51,6 +53,16 @@ fn stands(tables: &Tables, number: u32) -> bool
     }
 }
 
+/// Whether the process with this number has begun, and is not at its end.
+pub(crate) fn is_unended(tables: &Tables, number: u32) -> bool
+    ensures { HeldBy tables.now (λ net. result ≡ task_is is_unended (slice_get net.tasks number)) }
+{
+    match tables.task(number) {
+        Some(task) => !matches!(task.wait, Wait::Done),
+        None => false,
+    }
+}
+
 /// Who is noted for a channel where this process is noted too.
 fn first_of(end: Option<u32>, number: u32) -> Option<u32>
     ensures { result ≡ marked true number end }
@@ -75,7 +87,7 @@ fn mark(ends: &mut Vec<Option<u32>>, first: u64, end: u64, number: u32)
 }
 
 /// The same where a process has these uses.
-pub(crate) fn mark_uses(ends: &mut Ends, uses: &[Use], number: u32)
+fn mark_uses(ends: &mut Ends, uses: &[Use], number: u32)
     ensures readers { MarksReaders ends.old uses.now number ends.new }
     ensures writers { MarksWriters ends.old uses.now number ends.new }
 {
@@ -102,8 +114,25 @@ fn mark_all(ends: &mut Ends, uses: &[ProcessUses], tables: &Tables)
     }
 }
 
+/// The same for each of these processes that is flagged, the last one first.
+fn mark_last(ends: &mut Ends, uses: &[ProcessUses], flags: &[bool])
+    ensures readers { MarksLast (flag flags.now) (λ u. u.ins) uses.now
+        ends.old.readers.items ends.new.readers.items }
+    ensures writers { MarksLast (flag flags.now) (λ u. u.outs) uses.now
+        ends.old.writers.items ends.new.writers.items }
+{
+    let mut count = uses.len();
+    while count > 0 {
+        count -= 1;
+        let process = &uses[count];
+        if is_flagged(flags, process.number) {
+            mark_uses(ends, process.uses.as_slice(), process.number);
+        }
+    }
+}
+
 /// Nobody, of so many channels.
-pub(crate) fn nobody(alloc: Global, channels: usize) -> Result<Vec<Option<u32>>, AllocError>
+fn nobody(alloc: Global, channels: usize) -> Result<Vec<Option<u32>>, AllocError>
     ensures { IfOk result (λ ends. ends.items ≡ replicate channels None) }
 {
     vec![in alloc; None; channels]
@@ -127,5 +156,23 @@ pub fn ends_of(
     let writers = nobody(alloc, channels)?;
     let mut ends = Ends { readers, writers };
     mark_all(&mut ends, uses, tables);
+    Ok(ends)
+}
+
+/// The same, where for a channel at whose end nobody is that stands the innermost process is noted that is flagged and may use it.
+pub(crate) fn ends_due(
+    alloc: Global,
+    uses: &[ProcessUses],
+    tables: &Tables,
+    flags: &[bool],
+    channels: usize,
+) -> Result<Ends, AllocError>
+    ensures { IfOk result (AreDueBy uses.now tables.now (flag flags.now) channels) }
+{
+    let readers = nobody(alloc, channels)?;
+    let writers = nobody(alloc, channels)?;
+    let mut ends = Ends { readers, writers };
+    mark_all(&mut ends, uses, tables);
+    mark_last(&mut ends, uses, flags);
     Ok(ends)
 }

@@ -1,12 +1,11 @@
 //! What kind of stop a run has come to.
 ghost use Rattle.std.specs.Prelude.{◌≡◌, IfOk};
 ghost use Rattle.occ_net_tables.specs.Holding.{HeldBy};
-ghost use Rattle.occ_ends.specs.Endless.{flag};
 ghost use Rattle.occ_ends.specs.Kinds.{AreThoseIn, IsKindIn, IsLeftIn, halts_at, has_halted, is_at_channel, is_left_at, kind_of};
 
 use crate::circling::circle;
-use crate::endless::endless_in;
-use crate::ends::ends_of;
+use crate::endless::{again_in, endless_in, is_flagged};
+use crate::ends::ends_due;
 use crate::uses::ProcessUses;
 use occ_machine::{Code, Wait};
 use occ_net_tables::Tables;
@@ -95,15 +94,6 @@ fn is_halted(tables: &Tables, number: u32) -> bool
     }
 }
 
-pub(crate) fn is_flagged(flags: &[bool], number: u32) -> bool
-    ensures { result ≡ flag flags.now number }
-{
-    match flags.get(number as usize) {
-        Some(flag) => *flag,
-        None => false,
-    }
-}
-
 /// Whether the process with this number stands at a channel, and is none of those that are endless.
 fn is_left(tables: &Tables, endless: &[bool], number: u32) -> bool
     ensures { HeldBy tables.now (λ net. result ≡ is_left_at endless.now net.tasks number) }
@@ -168,7 +158,8 @@ pub fn left_in(
         return Err(AllocError);
     }
     let channels = code.channels();
-    let ends = ends_of(alloc, uses, tables, channels.len())?;
+    let again = again_in(alloc, code, tables, count)?;
+    let ends = ends_due(alloc, uses, tables, again.as_slice(), channels.len())?;
     let endless = endless_in(alloc, code, tables, count)?;
     let circle = circle(alloc, &ends, tables, count)?;
     let halted = halted_in(alloc, tables, count)?;

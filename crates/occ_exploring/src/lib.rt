@@ -24,6 +24,8 @@ pub use exploring::{explore_in, status_of_search};
 pub use graphs::graph_text;
 pub use keeping_lines::kept_text;
 pub use lines::{MOST_ANSWERS, answer_line, exploration_text, found_line};
-pub use occ_explore::{Answer, Asked, Exploration, Graph, GraphForm, Lasting, Progress, Untold};
+pub use occ_explore::{
+    Answer, Asked, Exploration, Graph, GraphForm, Lasting, Progress, Untold, Waiting,
+};
 pub use only::{only_answer_in, only_text, status_of_only};
 pub use within::{KeepFault, Kept, keep_in, outside_of, status_of_kept};

@@ -1,11 +1,11 @@
 //! Says what a search has found.
 ghost use Rattle.std.specs.Prelude.{◌≡◌, ◌≤◌, IfOk, OnOk, length};
-ghost use Rattle.occ_exploring.specs.Texts.{all_text, answer_line, answer_lines, answers_text, bound_text, so_many, error_text, exploration_text, first_text, found_line, held_text, rest_text, stop_kind_text, lasting_text, left_text, said_of};
+ghost use Rattle.occ_exploring.specs.Texts.{all_text, answer_line, answer_lines, answers_text, bound_text, so_many, error_text, exploration_text, first_text, found_line, held_text, rest_text, stop_kind_text, lasting_text, left_text, processes_named, said_of, waiting_line, waiting_text, waits_word};
 ghost use Rattle.occ_shown.specs.Answers.{AddsText};
 
 use crate::strings::write_string;
 use occ_ends::Kind;
-use occ_explore::{Answer, Asked, Exploration, Lasting, Verdict};
+use occ_explore::{Answer, Asked, Exploration, Lasting, Verdict, Waiting};
 use std::alloc::{AllocError, Global};
 
 /// How many answers have a line.
@@ -227,7 +227,57 @@ fn write_ended(alloc: Global, out: &mut Vec<u8>, states: usize) -> Result<(), Al
     Ok(())
 }
 
-/// Whether these are all answers, and how long runs go on.
+/// Processes, by their numbers.
+fn write_numbers(alloc: Global, out: &mut Vec<u8>, numbers: &[u32]) -> Result<(), AllocError>
+    ensures { OnOk result (AddsText out.old out.new (processes_named numbers.now)) }
+{
+    let mut rest = numbers;
+    while let Some((number, others)) = rest.split_first() {
+        let text = format!(in alloc; "p{number} ")?;
+        out.extend_from_slice(text.as_bytes())?;
+        rest = others;
+    }
+    Ok(())
+}
+
+fn waits_word(numbers: &[u32]) -> &'static [u8]
+    ensures { result.now ≡ waits_word numbers.now }
+{
+    if numbers.len() == 1 {
+        b"waits"
+    } else {
+        b"wait"
+    }
+}
+
+/// Who waits for good while others go on, and by how many choices.
+fn write_waiting_line(alloc: Global, out: &mut Vec<u8>, waiting: &Waiting) -> Result<(), AllocError>
+    ensures { OnOk result (AddsText out.old out.new (waiting_line waiting.now)) }
+{
+    let numbers = waiting.numbers.as_slice();
+    write_numbers(alloc, out, numbers)?;
+    out.extend_from_slice(waits_word(numbers))?;
+    out.extend_from_slice(b" for good while others go on, by ")?;
+    write_counted(alloc, out, waiting.choices.len(), b"choice")?;
+    out.push(b'\n')?;
+    Ok(())
+}
+
+/// The same, where somebody was found.
+fn write_waiting(
+    alloc: Global,
+    out: &mut Vec<u8>,
+    waiting: &Option<Waiting>,
+) -> Result<(), AllocError>
+    ensures { OnOk result (AddsText out.old out.new (waiting_text waiting.now)) }
+{
+    match waiting {
+        Some(waiting) => write_waiting_line(alloc, out, waiting),
+        None => Ok(()),
+    }
+}
+
+/// Whether these are all answers, how long runs go on, and who was found to wait for good.
 fn write_verdict(
     alloc: Global,
     out: &mut Vec<u8>,
@@ -240,15 +290,22 @@ fn write_verdict(
     match &exploration.verdict {
         Verdict::All(lasting) => {
             write_lasting(alloc, out, lasting)?;
+            write_waiting(alloc, out, &exploration.waiting)?;
             write_all(alloc, out, exploration.states)
         }
-        Verdict::More => write_bound(alloc, out, most),
-        Verdict::First => write_ended(alloc, out, exploration.states),
+        Verdict::More => {
+            write_waiting(alloc, out, &exploration.waiting)?;
+            write_bound(alloc, out, most)
+        }
+        Verdict::First => {
+            write_waiting(alloc, out, &exploration.waiting)?;
+            write_ended(alloc, out, exploration.states)
+        }
     }
 }
 
 /// What is printed of a search that might come to `most` states: a line for each of the first 100 answers, how many more
-/// there are, how long runs go on, and whether these are all.
+/// there are, how long runs go on, who was found to wait for good, and whether these are all.
 ///
 /// # Errors
 ///

@@ -144,8 +144,8 @@ Exit status:
      or the source is not refused, or this help, or the version
   1  the source was refused
   2  the program stopped: no process can go on, or one stopped by a fault is waited for;
-     or an answer of a search has stopped, and none is a fault, or one is none of the
-     specification's
+     or an answer of a search has stopped, or some wait for good while others go on, and
+     none is a fault; or one is none of the specification's
   3  a fault ended the run, or an answer of a search is one
   4  the limit of turns came first, or the bound of states
   5  memory ran out, or threads gave no answer

@@ -1,7 +1,7 @@
 -- Exit statuses are at most 7, and what they come from.
 use Rattle.std.proofs.Common.{ℕ, ◌≤◌, ◌≡◌, ◌⊎◌, inl, inr, List, Bool, IsTrue, true, false, ap, arith, refl, subst, sym}
 use Rattle.std.specs.Result.{result_and}
-use Rattle.std.specs.Prelude.{IfNone, Result, Ok, Err, IfOk, IfErr, IfSome, None, Option, Some, if◌then◌else◌, is_some, unwrap_or}
+use Rattle.std.specs.Prelude.{IfNone, Result, Ok, Err, IfOk, IfErr, IfSome, None, Option, Some, if◌then◌else◌, is_some, unwrap_or, ◌==◌}
 use Rattle.std.specs.Borrow.{Bor}
 use Rattle.std.specs.Option.{ForSome}
 use Rattle.occ_choices.specs.Crews.{IsCrew}
@@ -34,7 +34,8 @@ use Rattle.occ_exploring.specs.Explored.{IsDrawnFor, IsExplored}
 use Rattle.occ_explore.specs.declared.exploration.Verdict.{Verdict}
 use Rattle.occ_explore.specs.declared.exploration.Verdict.TheVariants.{All, First, More}
 use Rattle.occ_explore.specs.Exploring.{EndsAtFirst}
-use Rattle.occ_exploring.specs.Statuses.{is_fault, has_stopped, search_status, some_ends, verdict_status}
+use Rattle.occ_exploring.specs.Statuses.{is_fault, has_stopped, search_status, some_ends, verdict_status, waiting_status}
+use Rattle.occ_explore.specs.declared.exploration.Waiting.{Waiting}
 use Rattle.occ_exploring.specs.Within.{IsComparison, RefusesOne, SaysOfRuns, keeping_status, kept_status}
 use Rattle.occ_exploring.specs.declared.within.KeepFault.{KeepFault}
 use Rattle.occ_exploring.specs.declared.within.Keeping.{Keeping}
@@ -181,8 +182,16 @@ only_small a = by (is_fault a.ending) (has_stopped a.ending)
     by false true = omega arith
     by false false = omega arith
 
+or_waiting_small : (n : ℕ) (w : Option Waiting) → n ≤ 7 → (if n == 0 then waiting_status w else n) ≤ 7
+or_waiting_small n w h = by (n == 0) w
+  where
+    by : (b : Bool) (w : Option Waiting) → (if b then waiting_status w else n) ≤ 7
+    by true None = omega arith
+    by true (Some w) = omega arith
+    by false w = h
+
 search_small : (e : Exploration) → search_status e ≤ 7
-search_small e = by e.verdict
+search_small e = or_waiting_small (verdict_status e.answers.items e.verdict) e.waiting (by e.verdict)
   where
     of : (fault stop : Bool) → (if fault then 3 else if stop then 2 else 0) ≤ 7
     of true stop = omega arith

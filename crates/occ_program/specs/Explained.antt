@@ -7,6 +7,7 @@ use Rattle.occ_explaining.specs.Explaining.{ReportsOn, TellsRefusal, refusal_in}
 use Rattle.occ_explaining.specs.Files.{SourceFiles, beginnings}
 use Rattle.occ_explaining.specs.Typing.{PastOf}
 use Rattle.occ_explore.specs.declared.exploration.Answer.{Answer}
+use Rattle.occ_explore.specs.declared.exploration.Waiting.{Waiting}
 use Rattle.occ_files.specs.Names.{printed_name}
 use Rattle.occ_files.specs.declared.reason.Reason.{Reason}
 use Rattle.occ_net_replay.specs.declared.choice.Choice.{Choice}
@@ -144,6 +145,10 @@ TellsFirst words inputs answers (suc n) text =
 
 abbrev pub TellsAnswers : Words → Inputs → List Answer → List ℕ → Type 0
 TellsAnswers words inputs answers text = TellsFirst words inputs answers (length answers) text
+
+-- of those that wait for good: the report by their choices
+abbrev pub TellsWait : Words → Inputs → Waiting → List ℕ → Type 0
+TellsWait words inputs w text = (report : List ℕ) × ReportsRun words inputs w.choices.items report × (text ≡ codes "while others go on:\n" ++ report)
 
 -- ---- a file of choices
 

@@ -24,6 +24,7 @@ use Rattle.occ_explore.specs.declared.exploration.Asked.{Asked}
 use Rattle.occ_explore.specs.declared.exploration.Exploration.{Exploration}
 use Rattle.occ_explore.specs.declared.exploration.Graph.{Graph}
 use Rattle.occ_exploring.specs.GraphTexts.{graph_text}
+use Rattle.occ_explore.specs.declared.exploration.Waiting.{Waiting}
 use Rattle.occ_exploring.specs.Texts.{answer_line}
 use Rattle.occ_exploring.specs.Within.{outside_of}
 use Rattle.occ_exploring.specs.declared.within.Kept.{Kept}
@@ -165,6 +166,15 @@ search_files (Some stem) answers = answer_files stem.now 1 (take 100 answers)
 abbrev pub AreRecorded : Option (Bor (List ℕ)) → List Answer → Option (List Written) → Option (List Written) → Result ⊤ Failure → Type 0
 AreRecorded stem answers old new (Ok done) = LeavesAll old new (search_files stem answers)
 AreRecorded stem answers old new (Err failure) = (n : ℕ) × LeavesAll old new (take n (search_files stem answers))
+
+-- the choices by which some come to wait for good, where there are some
+abbrev pub waiting_file : List ℕ → Option Waiting → List Written
+waiting_file stem None = []
+waiting_file stem (Some w) = answer_file stem 0 w.choices.items ∷ []
+
+abbrev pub waiting_files : Option (Bor (List ℕ)) → Option Waiting → List Written
+waiting_files None waiting = []
+waiting_files (Some stem) waiting = waiting_file stem.now waiting
 
 -- that of the answer that is told to be none of the specification's
 abbrev pub RecordsOutside : Words → Kept → Option (List Written) → Option (List Written) → Result ⊤ Failure → Type 0

@@ -8,7 +8,7 @@ ghost use Rattle.occ_play_inputs.specs.Failures.{FailsToWrite, trouble};
 ghost use Rattle.occ_play_inputs.specs.declared.failure.Failure.{Failure};
 ghost use Rattle.occ_play_inputs.specs.declared.failure.Stream.TheVariants as stream;
 ghost use Rattle.occ_program.specs.Coming.{IsSearchStatus, OnlyTo, Prints, SearchedTo, found_status};
-ghost use Rattle.occ_program.specs.Pages.{AreRecorded, answer_file, answer_files};
+ghost use Rattle.occ_program.specs.Pages.{AreRecorded, answer_file, answer_files, waiting_files, waiting_file};
 ghost use Rattle.occ_play.specs.Status.{fault_status};
 ghost use Rattle.occ_shown.specs.Counting.{failures_of};
 
@@ -18,11 +18,11 @@ use crate::graphing::leave_graph;
 use crate::paging::show_answers;
 use crate::program::{options_of, tell};
 use crate::reading::read_inputs;
-use crate::reporting::explain_answers;
+use crate::reporting::{explain_answers, explain_waiting};
 use crate::troubles::answer_path;
 use occ_choices::choices_text;
 use occ_exploring::{
-    Answer, Asked, Exploration, MOST_ANSWERS, Progress, exploration_text, explore_in,
+    Answer, Asked, Exploration, MOST_ANSWERS, Progress, Waiting, exploration_text, explore_in,
     only_answer_in, only_text, status_of_only, status_of_search,
 };
 use occ_files::{Disk, Folder, Noting, Reason, are_one_file};
@@ -40,7 +40,7 @@ const UNDRAWN: &str = "the graph was not written: the search has not come to all
 
 /// Tells what all lists of choices of the source that the words name come to: from one run, where that tells it, else by a
 /// search. Where the words name a file to be written, the choices of each answer that is printed go into one of that name, the
-/// answer's number and `choices`.
+/// answer's number and `choices`; those by which some come to wait for good have the number 0.
 pub(crate) fn explore_words<R: Files + Input + Print + Eprint>(
     rt: &R,
     alloc: Global,
@@ -236,7 +236,8 @@ fn tell_found<R: Files + Print + Eprint>(
             drop(out);
             check_printed(printed, screen.reason())?;
             let mut folder = Disk::new(rt, alloc);
-            record_answers(&mut folder, alloc, words, exploration.answers.as_slice())
+            record_answers(&mut folder, alloc, words, exploration.answers.as_slice())?;
+            record_waiting(&mut folder, alloc, words, &exploration.waiting)
         }
         Err(fault) => {
             tell(rt, fault);
@@ -295,6 +296,7 @@ fn explain_found<R: Eprint>(
         Ok(exploration) => {
             let answers = first_answers(exploration.answers.as_slice());
             explain_answers(rt, alloc, words, inputs, answers);
+            explain_waiting(rt, alloc, words, inputs, &exploration.waiting);
         }
         Err(fault) => explain_fault(
             rt,
@@ -330,7 +332,7 @@ pub(crate) fn check_record<R: Files>(
     stem: &str,
     file: &str,
 ) -> Result<(), Failure> {
-    for number in 1..=MOST_ANSWERS {
+    for number in 0..=MOST_ANSWERS {
         let path = answer_path(alloc, stem, number)?;
         if path.as_str() == file || are_one_file(rt, path.as_str(), file) {
             return Err(Failure::Paths);
@@ -436,6 +438,41 @@ fn record_each<F: Folder>(
         number += 1;
     }
     Ok(())
+}
+
+/// Writes the choices by which some come to wait for good, under the number 0, where some do and the words name a file.
+fn record_waiting<F: Folder>(
+    folder: &mut F,
+    alloc: Global,
+    words: &Words<'_>,
+    waiting: &Option<Waiting>,
+) -> Result<(), Failure>
+    ensures ok { OnOk result (AddsFiles F.left folder.old folder.new
+        (waiting_files words.now.«record» waiting.now)) }
+    ensures err { OnErr result (AddsSome F.left folder.old folder.new
+        (waiting_files words.now.«record» waiting.now)) }
+{
+    match words.record {
+        Some(stem) => record_waiting_at(folder, alloc, stem, waiting),
+        None => Ok(()),
+    }
+}
+
+fn record_waiting_at<F: Folder>(
+    folder: &mut F,
+    alloc: Global,
+    stem: &str,
+    waiting: &Option<Waiting>,
+) -> Result<(), Failure>
+    ensures ok { OnOk result (AddsFiles F.left folder.old folder.new
+        (waiting_file stem.now waiting.now)) }
+    ensures err { OnErr result (AddsSome F.left folder.old folder.new
+        (waiting_file stem.now waiting.now)) }
+{
+    match waiting {
+        Some(waiting) => record_answer(folder, alloc, stem, 0, waiting.choices.as_slice()),
+        None => Ok(()),
+    }
 }
 
 fn record_answer<F: Folder>(

@@ -3,12 +3,12 @@ ghost use Rattle.std.specs.Prelude.{◌≡◌, ◌<◌, IfOk, IsFalse, IsTrue, �
 ghost use Rattle.occ_term.specs.declared.ending.Ending.TheVariants.{Ended};
 ghost use Rattle.occ_explaining.specs.Studied.{IsStudied};
 ghost use Rattle.occ_program.specs.Coming.{options_in};
-ghost use Rattle.occ_program.specs.Explained.{EndsLike, IsReported, NoneEnds, SomeEnds, TellsAnswers, TellsAt, answer_head, below_ending};
+ghost use Rattle.occ_program.specs.Explained.{EndsLike, IsReported, NoneEnds, SomeEnds, TellsAnswers, TellsAt, TellsWait, answer_head, below_ending};
 
 use crate::explaining::{print_text, run_report};
 use crate::program::options_of;
 use occ_explaining::{Studied, study};
-use occ_exploring::Answer;
+use occ_exploring::{Answer, Waiting};
 use occ_play::{Ending, PlayFault};
 use occ_play_inputs::{Inputs, Words};
 use std::alloc::{AllocError, Global};
@@ -27,6 +27,40 @@ pub(crate) fn explain_answers<R: Eprint>(
     {
         print_text(rt, alloc, words, text.as_slice());
     }
+}
+
+/// Prints, where the words ask for it, the report of the state where these wait for good, if some do. Where memory runs out for that,
+/// nothing is printed.
+pub(crate) fn explain_waiting<R: Eprint>(
+    rt: &R,
+    alloc: Global,
+    words: &Words<'_>,
+    inputs: &Inputs,
+    waiting: &Option<Waiting>,
+) {
+    if words.explain
+        && let Some(waiting) = waiting
+        && let Ok(text) = waiting_told(alloc, words, inputs, waiting)
+    {
+        print_text(rt, alloc, words, text.as_slice());
+    }
+}
+
+/// What is told of those that wait for good.
+fn waiting_told(
+    alloc: Global,
+    words: &Words<'_>,
+    inputs: &Inputs,
+    waiting: &Waiting,
+) -> Result<Vec<u8>, PlayFault>
+    ensures { IfOk result (λ text. TellsWait words.now inputs.now waiting.now text.items) }
+{
+    let studied = study(&options_of(words), alloc, inputs.source.as_slice())?;
+    let mut text = Vec::new(alloc);
+    text.extend_from_slice(b"while others go on:\n")?;
+    let report = run_report(alloc, words, inputs, &studied, waiting.choices.as_slice())?;
+    text.extend_from_slice(report.as_slice())?;
+    Ok(text)
 }
 
 /// What is told of these answers.

@@ -4,6 +4,8 @@ use Rattle.std.specs.Prelude.{codes, if◌then◌else◌, slice_get, min}
 use Rattle.occ_machine.specs.Compiled.{Program}
 use Rattle.occ_net_replay.specs.declared.choice.Choice.{Choice}
 use Rattle.occ_net_replay.specs.Replay.{Net}
+use Rattle.occ_net_replay.specs.Following.{or_limit}
+use Rattle.occ_term.specs.declared.ending.Ending.TheVariants.{Limit}
 use Rattle.occ_net_tables.specs.Holding.{HeldBy, Holds}
 use Rattle.occ_net_tables.specs.Outcomes.{IsRan}
 use Rattle.occ_net_tables.specs.declared.running.Keep.TheVariants.{Given}
@@ -51,7 +53,7 @@ pub report_is : (us : List Using) (t : Term) (p : Program) (kb : List ℕ) (list
     → (start first head bytes : List ℕ) (processes count : ℕ) (left : Left) (waiting : List ℕ) → start ≡ [] → first ≡ start ++ kind_told r.ending left waiting → head ≡ first ++ report_head n r.ending → count ≡ min processes 4294967295
     → us ≡ all_using t → (ends : Ends) → HeldBy r.tables (λ net. AreEnds us net.tasks (length p.channels) ends)
     → HeldIn p r.tables (λ net. IsRest us p net.tasks left)
-    → HeldIn p r.tables (λ net. AreWaiting us net waiting)
+    → (r.ending ≡ Limit → HeldIn p r.tables (λ net. AreWaiting us net.tasks waiting))
     → (middle : List ℕ) → ((q : Program) (k : List ℕ) (net : Net) → Holds q k r.tables net → middle ≡ head ++ task_lines (names_of p.channels) ends.readers.items ends.writers.items known net.tasks count)
     → (later : List ℕ) → HeldBy r.tables (λ net. later ≡ middle ++ ended_line (ended_among net.tasks count))
     → HeldBy r.tables (λ net. bytes ≡ later ++ circle_text net.tasks left.circle.items) → processes ≡ length p.bodies → IsReport t p kb list known bytes
@@ -78,7 +80,7 @@ report_is us t p kb list known r h trace n shows counted start first head bytes 
       left = left;
       is_left = subst (λ l. IsRest l p net.tasks left) is (is_left kb net h.run.holds);
       waiting = waiting;
-      are_waiting = subst (λ l. AreWaiting l net waiting) is (are_waiting kb net h.run.holds);
+      are_waiting = λ none. subst (λ l. AreWaiting l net.tasks waiting) is (are_waiting (h.ending ∙ ap or_limit none) kb net h.run.holds);
       is = rw (sym told, sym made, sym h.ending) whole;
     }
 
@@ -93,5 +95,5 @@ circle_is us t p kb list r h left is is_left =
       replays = placed_replays p kb h.run.placed;
       begins = h.used;
       whole = h.whole;
-      is_circle = (subst (λ l. IsRest l p net.tasks left) is (is_left kb net h.run.holds)).circle;
+      tells = (subst (λ l. IsRest l p net.tasks left) is (is_left kb net h.run.holds)).circle;
     }

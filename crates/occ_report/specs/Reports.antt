@@ -21,9 +21,9 @@ use Rattle.occ_net_replay.specs.Replay.{Net, Replays, Tasks, ending_of, is_done}
 use Rattle.occ_shown.specs.Answers.{AddsText, items_text, names_of}
 use Rattle.occ_net_tables.specs.Outcomes.{Begins}
 use Rattle.occ_ends.specs.declared.ends.Ends.{Ends}
-use Rattle.occ_ends.specs.Ends.{AreEnds, IsCircle, all_using, noted_for}
-use Rattle.occ_ends.specs.ForGood.{AreWaiting}
-use Rattle.occ_ends.specs.Kinds.{IsRest, kind_of, others_among}
+use Rattle.occ_ends.specs.Ends.{AreEnds, all_using, noted_for}
+use Rattle.occ_ends.specs.ForGood.{AreWaiting, AreWaitingIn}
+use Rattle.occ_ends.specs.Kinds.{IsRest, TellsCircle, kind_of}
 use Rattle.occ_ends.specs.declared.kinds.Kind.{Kind}
 use Rattle.occ_ends.specs.declared.kinds.Kind.TheVariants as stops
 use Rattle.occ_ends.specs.declared.kinds.Left.{Left}
@@ -263,7 +263,7 @@ pub record IsReport (t : Term) (p : Program) (keyboard : List ℕ) (list : List 
   pub left : Left
   pub is_left : IsRest (all_using t) p net.tasks left
   pub waiting : List ℕ
-  pub are_waiting : AreWaiting (all_using t) net waiting
+  pub are_waiting : ending_of p.errors net ≡ None → AreWaiting (all_using t) net.tasks waiting
   pub is : bytes ≡ network_report (names_of p.channels) ends.readers.items ends.writers.items known left waiting net (or_limit (ending_of p.errors net))
 
 -- Processes that wait in a circle in the state that the replay of the used choices comes to, where there are some.
@@ -273,7 +273,7 @@ pub record IsCircleOf (t : Term) (p : Program) (keyboard : List ℕ) (list : Lis
   pub replays : Replays p keyboard used net
   pub begins : Begins used list
   pub whole : ending_of p.errors net ≡ None → used ≡ list
-  pub is_circle : IsCircle (others_among (all_using t) (length p.channels) net.tasks) (length net.tasks) circle
+  pub tells : TellsCircle (all_using t) p net.tasks circle
 
 -- ---- of what code has; private contracts alone cite these, but for the last two
 
@@ -337,6 +337,10 @@ ListsChoosing tables ns choosing = HeldBy tables (λ net. choosing.items ≡ cho
 -- the line of a circle, of whatever network the tables hold
 abbrev pub AddsCircle : {A : Type 0} → Tables → (circle : List ℕ) → (old new : Vec ℕ A) → Type 0
 AddsCircle tables circle old new = HeldBy tables (λ net. AddsText old new (circle_text net.tasks circle))
+
+-- those that wait for good, where the choices are used up
+abbrev pub WaitingAt : {A : Type 0} → Ending → List ProcessUses → Program → Tables → Vec ℕ A → Type 0
+WaitingAt ending uses p tables waiting = ending ≡ endings.Limit → AreWaitingIn uses p tables waiting
 
 -- by any term whose uses these are
 abbrev pub IsReportBy : {A : Type 0} → List ProcessUses → Program → List ℕ → Plan → List Known → Vec ℕ A → Type 0

@@ -1,7 +1,6 @@
 //! Reports of runs.
 ghost use Rattle.std.specs.Prelude.{◌≡◌, IfOk, OnOk};
-ghost use Rattle.occ_ends.specs.ForGood.{AreWaitingIn};
-ghost use Rattle.occ_report.specs.Reports.{IsCircleBy, IsReportBy, count_text, report_head, report_tail};
+ghost use Rattle.occ_report.specs.Reports.{IsCircleBy, IsReportBy, WaitingAt, count_text, report_head, report_tail};
 ghost use Rattle.occ_shown.specs.Answers.{AddsText};
 
 use crate::ended::write_ended;
@@ -62,13 +61,17 @@ fn waiting_at(
     code: &Code,
     tables: &Tables,
 ) -> Result<Vec<u32>, AllocError>
-    ensures { IfOk result (AreWaitingIn uses.now code.now tables.now) }
+    ensures { IfOk result (WaitingAt ending uses.now code.now tables.now) }
 {
-    if let Ending::Limit = ending {
-        return waiting_in(alloc, uses, code, tables);
+    match ending {
+        Ending::Limit => {
+            let waiting = waiting_in(alloc, uses, code, tables)?;
+            Ok(waiting)
+        }
+        Ending::Ended | Ending::Stopped | Ending::StoppedBy(_) | Ending::Fault(_) => {
+            Ok(Vec::new(alloc))
+        }
     }
-    let nobody = Vec::new(alloc);
-    Ok(nobody)
 }
 
 /// What the run of a plan comes to: the kind of its stop, if it has stopped, with the processes for which it is of that kind, or, where

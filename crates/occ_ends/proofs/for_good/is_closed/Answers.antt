@@ -5,5 +5,5 @@ use Rattle.occ_ends.proofs.for_good.is_closed.Goals as goal
 
 pub returns-then-are_left : goal.returns-then-are_left
 returns-then-are_left c = λ whole keyboard net h.
-    closed_by (map noted_for c.args.uses.now) net c.args.flags.now c.args.ends.now.readers.items c.args.ends.now.writers.items c.requires.readers c.requires.writers c.args.count
+    closed_by (map noted_for c.args.uses.now) net.tasks c.args.flags.now c.args.count
     (omega (arith, c.if-flags-count.false)) (c.are_left.ensures c.if-are_left.true c.args.code.now keyboard net h) (c.are_whole.ensures whole)
