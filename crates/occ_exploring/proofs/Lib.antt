@@ -6,3 +6,4 @@ mod AnyQuantum
 mod Among
 mod KeptRuns
 mod OfUses
+mod Found

@@ -150,6 +150,30 @@ pub(crate) fn is_page_apart(
         && differ(page, typed)
 }
 
+/// The same of the path of the graph, beside that of the page: nothing is typed into a file where there is a graph.
+pub(crate) fn is_graph_apart(
+    graph: Option<&str>,
+    file: Option<&str>,
+    choices: Option<&str>,
+    written: Option<&str>,
+    drawn: Option<&str>,
+    traced: Option<&str>,
+    turns: Option<&str>,
+    page: Option<&str>,
+) -> bool
+    ensures { TellsPageApart result graph.entry file.entry choices.entry written.entry drawn.entry
+        traced.entry turns.entry page.entry }
+{
+    is_page_apart(graph, file, choices, written, drawn, traced, turns, page)
+}
+
+/// Whether the graph goes into none of these further files of the source.
+pub(crate) fn are_undrawn(paths: &[&str], graph: Option<&str>) -> bool
+    ensures { IsTrue result → All (IsUntyped graph.entry) paths.now }
+{
+    are_untyped(paths, graph)
+}
+
 /// Whether what was typed goes into none of these further files of the source.
 pub(crate) fn are_untyped(paths: &[&str], typed: Option<&str>) -> bool
     ensures { IsTrue result → All (IsUntyped typed.entry) paths.now }

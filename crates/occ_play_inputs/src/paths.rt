@@ -3,7 +3,10 @@ ghost use Rattle.std.specs.Prelude.{All};
 ghost use Rattle.std.specs.Option.{option_copied};
 ghost use Rattle.occ_play_inputs.specs.Paths.{AreApart, HasOwnFile, IsPageApart, IsSourcePath, IsUnread, IsUntyped, IsUnwritten};
 
-use crate::apart::{are_apart, are_untyped, are_unwritten, has_own_file, is_page_apart, is_unread};
+use crate::apart::{
+    are_apart, are_undrawn, are_untyped, are_unwritten, has_own_file, is_graph_apart,
+    is_page_apart, is_unread,
+};
 use clap::ArgMatches;
 
 /// What is told where standard input is the source and files are named beside it.
@@ -58,8 +61,8 @@ pub(crate) fn paths_of<'a>(
         || !are_untyped(others, typed)
         || !is_page_apart(page, file, choices, record, chart, trace_to, steps, typed)
         || !are_untyped(others, page)
-        || !is_page_apart(graph, file, choices, record, chart, trace_to, steps, page)
-        || !are_untyped(others, graph)
+        || !is_graph_apart(graph, file, choices, record, chart, trace_to, steps, page)
+        || !are_undrawn(others, graph)
     {
         return Err(ONE_FILE);
     }

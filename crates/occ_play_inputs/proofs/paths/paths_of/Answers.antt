@@ -13,4 +13,6 @@ invariant_of-result c =
       more_untyped = subst (All (IsUntyped c.get_str-typed.result)) whole (c.are_untyped.ensures c.if-not-are_untyped.false);
       page_apart = c.is_page_apart.ensures c.if-not-is_page_apart.false;
       more_unpaged = subst (All (IsUntyped c.get_str-page.result)) whole (c.are_untyped-else-not-is_page_apart.ensures c.if-not-are_untyped-2.false);
+      graph_apart = c.is_graph_apart.ensures c.if-not-is_graph_apart.false;
+      more_undrawn = subst (All (IsUntyped c.get_str-graph.result)) whole (c.are_undrawn.ensures c.if-not-are_undrawn.false);
     }
