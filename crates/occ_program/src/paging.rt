@@ -54,7 +54,6 @@ fn shown_page<'a>(
 }
 
 /// The page. The source has a program, since it was searched, so reading it again fails for want of memory alone.
-#[tactic(auto, using(crate::proofs::ToldPages::answers_shown))]
 fn shown(
     alloc: Global,
     words: &Words<'_>,
