@@ -1,6 +1,6 @@
 //! Says what a search has found.
 ghost use Rattle.std.specs.Prelude.{◌≡◌, ◌≤◌, IfOk, OnOk, length};
-ghost use Rattle.occ_exploring.specs.Texts.{all_text, answer_line, answer_lines, answers_text, bound_text, so_many, error_text, exploration_text, first_text, found_line, held_text, known_text, rest_text, stop_kind_text, lasting_text, left_text, process_named, processes_named, said_of, waiting_line, waiting_text, waits_word};
+ghost use Rattle.occ_exploring.specs.Texts.{all_text, answer_line, answer_lines, answers_text, bound_text, so_many, error_text, exploration_text, first_text, found_line, held_text, known_text, rest_text, stop_kind_text, lasting_text, left_text, process_named, processes_named, said_of, waiting_head, waiting_line, waiting_text, waits_word};
 ghost use Rattle.occ_shown.specs.Answers.{AddsText};
 
 use crate::strings::write_string;
@@ -257,14 +257,21 @@ fn waits_word(numbers: &[u32]) -> &'static [u8]
     }
 }
 
-/// Who waits for good while others go on, and by how many choices.
-fn write_waiting_line(alloc: Global, out: &mut Vec<u8>, waiting: &Waiting) -> Result<(), AllocError>
-    ensures { OnOk result (AddsText out.old out.new (waiting_line waiting.now)) }
+/// Who waits for good while others go on.
+fn write_waiting_head(alloc: Global, out: &mut Vec<u8>, numbers: &[u32]) -> Result<(), AllocError>
+    ensures { OnOk result (AddsText out.old out.new (waiting_head numbers.now)) }
 {
-    let numbers = waiting.numbers.as_slice();
     write_numbers(alloc, out, numbers)?;
     out.extend_from_slice(waits_word(numbers))?;
     out.extend_from_slice(b" for good while others go on, by ")?;
+    Ok(())
+}
+
+/// The same, and by how many choices.
+fn write_waiting_line(alloc: Global, out: &mut Vec<u8>, waiting: &Waiting) -> Result<(), AllocError>
+    ensures { OnOk result (AddsText out.old out.new (waiting_line waiting.now)) }
+{
+    write_waiting_head(alloc, out, waiting.numbers.as_slice())?;
     write_counted(alloc, out, waiting.choices.len(), b"choice")?;
     out.push(b'\n')?;
     Ok(())
