@@ -1,6 +1,6 @@
 //! Says what a search has found.
 ghost use Rattle.std.specs.Prelude.{◌≡◌, ◌≤◌, IfOk, OnOk, length};
-ghost use Rattle.occ_exploring.specs.Texts.{all_text, answer_line, answer_lines, answers_text, bound_text, so_many, error_text, exploration_text, first_text, found_line, held_text, rest_text, stop_kind_text, lasting_text, left_text, processes_named, said_of, waiting_line, waiting_text, waits_word};
+ghost use Rattle.occ_exploring.specs.Texts.{all_text, answer_line, answer_lines, answers_text, bound_text, so_many, error_text, exploration_text, first_text, found_line, held_text, known_text, rest_text, stop_kind_text, lasting_text, left_text, process_named, processes_named, said_of, waiting_head, waiting_line, waiting_text, waits_word};
 ghost use Rattle.occ_shown.specs.Answers.{AddsText};
 
 use crate::strings::write_string;
@@ -227,14 +227,21 @@ fn write_ended(alloc: Global, out: &mut Vec<u8>, states: usize) -> Result<(), Al
     Ok(())
 }
 
+/// A process, by its number.
+fn write_number(alloc: Global, out: &mut Vec<u8>, number: u32) -> Result<(), AllocError>
+    ensures { OnOk result (AddsText out.old out.new (process_named number)) }
+{
+    let text = format!(in alloc; "p{number} ")?;
+    out.extend_from_slice(text.as_bytes())
+}
+
 /// Processes, by their numbers.
 fn write_numbers(alloc: Global, out: &mut Vec<u8>, numbers: &[u32]) -> Result<(), AllocError>
     ensures { OnOk result (AddsText out.old out.new (processes_named numbers.now)) }
 {
     let mut rest = numbers;
     while let Some((number, others)) = rest.split_first() {
-        let text = format!(in alloc; "p{number} ")?;
-        out.extend_from_slice(text.as_bytes())?;
+        write_number(alloc, out, *number)?;
         rest = others;
     }
     Ok(())
@@ -250,14 +257,21 @@ fn waits_word(numbers: &[u32]) -> &'static [u8]
     }
 }
 
-/// Who waits for good while others go on, and by how many choices.
-fn write_waiting_line(alloc: Global, out: &mut Vec<u8>, waiting: &Waiting) -> Result<(), AllocError>
-    ensures { OnOk result (AddsText out.old out.new (waiting_line waiting.now)) }
+/// Who waits for good while others go on.
+fn write_waiting_head(alloc: Global, out: &mut Vec<u8>, numbers: &[u32]) -> Result<(), AllocError>
+    ensures { OnOk result (AddsText out.old out.new (waiting_head numbers.now)) }
 {
-    let numbers = waiting.numbers.as_slice();
     write_numbers(alloc, out, numbers)?;
     out.extend_from_slice(waits_word(numbers))?;
     out.extend_from_slice(b" for good while others go on, by ")?;
+    Ok(())
+}
+
+/// The same, and by how many choices.
+fn write_waiting_line(alloc: Global, out: &mut Vec<u8>, waiting: &Waiting) -> Result<(), AllocError>
+    ensures { OnOk result (AddsText out.old out.new (waiting_line waiting.now)) }
+{
+    write_waiting_head(alloc, out, waiting.numbers.as_slice())?;
     write_counted(alloc, out, waiting.choices.len(), b"choice")?;
     out.push(b'\n')?;
     Ok(())
@@ -277,6 +291,18 @@ fn write_waiting(
     }
 }
 
+/// Who was found to wait for good, and that these are all answers.
+fn write_known(
+    alloc: Global,
+    out: &mut Vec<u8>,
+    exploration: &Exploration,
+) -> Result<(), AllocError>
+    ensures { OnOk result (AddsText out.old out.new (known_text exploration.now)) }
+{
+    write_waiting(alloc, out, &exploration.waiting)?;
+    write_all(alloc, out, exploration.states)
+}
+
 /// Whether these are all answers, how long runs go on, and who was found to wait for good.
 fn write_verdict(
     alloc: Global,
@@ -290,8 +316,7 @@ fn write_verdict(
     match &exploration.verdict {
         Verdict::All(lasting) => {
             write_lasting(alloc, out, lasting)?;
-            write_waiting(alloc, out, &exploration.waiting)?;
-            write_all(alloc, out, exploration.states)
+            write_known(alloc, out, exploration)
         }
         Verdict::More => {
             write_waiting(alloc, out, &exploration.waiting)?;
