@@ -7,3 +7,4 @@ mod ToldPages
 mod Terminals
 mod Told
 mod Watched
+mod Graphs
