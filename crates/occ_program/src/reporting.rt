@@ -1,5 +1,5 @@
 //! Tells what each process stands at where an answer of a search has not ended.
-ghost use Rattle.std.specs.Prelude.{◌≡◌, ◌<◌, IfOk, IsFalse, IsTrue, ◌⊎◌, ◌≢◌, length};
+ghost use Rattle.std.specs.Prelude.{codes, ◌≡◌, ◌<◌, IfOk, IsFalse, IsTrue, ◌⊎◌, ◌≢◌, length};
 ghost use Rattle.occ_term.specs.declared.ending.Ending.TheVariants.{Ended};
 ghost use Rattle.occ_explaining.specs.Studied.{IsStudied};
 ghost use Rattle.occ_program.specs.Coming.{options_in};
@@ -57,11 +57,32 @@ fn waiting_told(
     let Ok(studied) = study(&options_of(words), alloc, inputs.source.as_slice()) else {
         return Err(AllocError);
     };
-    let mut text = Vec::new(alloc);
-    text.extend_from_slice(b"while others go on:\n")?;
-    let report = run_report(alloc, words, inputs, &studied, waiting.choices.as_slice())?;
-    text.extend_from_slice(report.as_slice())?;
+    let text = waiting_report(alloc, words, inputs, &studied, waiting)?;
     Ok(Some(text))
+}
+
+/// What stands above the report of a state where some wait for good.
+fn waiting_head(alloc: Global) -> Result<Vec<u8>, AllocError>
+    ensures { IfOk result (λ head. head.items ≡ codes "while others go on:\n") }
+{
+    Vec::from_slice(alloc, b"while others go on:\n")
+}
+
+/// That, and the report of the run by their choices.
+fn waiting_report(
+    alloc: Global,
+    words: &Words<'_>,
+    inputs: &Inputs,
+    studied: &Studied,
+    waiting: &Waiting,
+) -> Result<Vec<u8>, AllocError>
+    requires { IsStudied (options_in words.now) inputs.now.source.items studied.now }
+    ensures { IfOk result (λ text. TellsWait words.now inputs.now waiting.now text.items) }
+{
+    let mut text = waiting_head(alloc)?;
+    let report = run_report(alloc, words, inputs, studied, waiting.choices.as_slice())?;
+    text.extend_from_slice(report.as_slice())?;
+    Ok(text)
 }
 
 /// What is told of these answers.
