@@ -1,34 +1,16 @@
 -- Names that are reached: one more, and none.
 use Rattle.std.proofs.Common.{◌≡◌, ◌∙◌, ◌⊎◌, inl, inr, sym, ap, subst, refl, List, [], ◌∷◌, length, Bool, true, false, cond, Some, None, arith}
-use Rattle.std.specs.Prelude.{bytes_eq, ◌||◌}
+use Rattle.std.specs.Prelude.{bytes_eq}
 use Rattle.std.specs.List.{list_any}
 use Rattle.std.proofs.Math.Bool.{true≢false}
 use Rattle.std.proofs.lemmas.Slice.Eq.{bytes_eq-Decides}
-use Rattle.std.proofs.lemmas.List.Folds.{list_any-append, list_any_more, list_any_none}
+use Rattle.std.proofs.lemmas.List.Folds.{list_any_none}
 use Rattle.occ_reach.specs.Calls.{Called}
 use Rattle.occ_reach.specs.Reach.{among}
 use Rattle.occ_reach.specs.Passes.{AddsName, Begins}
 
 none_any : {X : Type 0} (p : X → Bool) → list_any p [] ≡ false
 none_any p = list_any_none p [] (λ k d h. absurd (omega arith))
-
-any_one : {X : Type 0} (p : X → Bool) (x : X) → list_any p (x ∷ []) ≡ p x
-any_one p x = list_any_more p (x ∷ []) 0 x (omega arith) ∙ ap (λ b. b || p x) (none_any p)
-
-among_more : (names : List Called) (k f : Called) → among (names ++ k ∷ []) f ≡ (among names f || bytes_eq f k)
-among_more names k f = list_any-append (bytes_eq f) names (k ∷ []) ∙ ap (λ b. among names f || b) (any_one (bytes_eq f) k)
-
-either : (a b : Bool) → (a || b) ≡ true → (a ≡ true) ⊎ (b ≡ true)
-either true b h = inl refl
-either false b h = inr h
-
-left_true : (a b : Bool) → a ≡ true → (a || b) ≡ true
-left_true true b h = refl
-left_true false b h = absurd (true≢false (sym h))
-
-right_true : (a b : Bool) → b ≡ true → (a || b) ≡ true
-right_true true b h = refl
-right_true false b h = h
 
 pub name_added : (old new : List Called) (k name : Called) → k ≡ name → ((q : Called) → among new q ≡ cond (bytes_eq k q) true (among old q)) → AddsName old new name
 name_added old new k name same is = subst (AddsName old new) same (
