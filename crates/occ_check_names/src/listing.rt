@@ -23,7 +23,7 @@ pub type Values = IndexMap<i64, ()>;
 /// # Errors
 ///
 /// A refused growth.
-#[tactic(auto, using(crate::proofs::Keys::was_new, crate::proofs::Keys::one_more))]
+#[tactic(auto, using(crate::proofs::Keys::one_more))]
 pub fn list_name(names: &mut Names, name: Letters) -> Result<bool, AllocError>
     ensures added { IfOk result (λ added.
         added ≡ not (list_any (bytes_eq name) (keys names.old))) }
@@ -39,7 +39,7 @@ pub fn list_name(names: &mut Names, name: Letters) -> Result<bool, AllocError>
 /// # Errors
 ///
 /// A refused growth.
-#[tactic(auto, using(crate::proofs::Keys::was_new, crate::proofs::Keys::one_more))]
+#[tactic(auto, using(crate::proofs::Keys::one_more))]
 pub fn list_word(words: &mut Words, word: u32) -> Result<bool, AllocError>
     ensures added { IfOk result (λ added.
         added ≡ not (list_any (nat_eq word) (keys words.old))) }
@@ -55,7 +55,7 @@ pub fn list_word(words: &mut Words, word: u32) -> Result<bool, AllocError>
 /// # Errors
 ///
 /// A refused growth.
-#[tactic(auto, using(crate::proofs::Keys::was_new, crate::proofs::Keys::one_more))]
+#[tactic(auto, using(crate::proofs::Keys::one_more))]
 pub fn list_value(values: &mut Values, value: i64) -> Result<bool, AllocError>
     ensures added { IfOk result (λ added.
         added ≡ not (list_any (int_eq value) (keys values.old))) }
