@@ -1,6 +1,7 @@
 -- What lines of one process unfold to in the code, as the definitions have it.
 -- Manual: nothing; this is (own).
 use Rattle.std.specs.Prelude.{Bool, List, Option, Result, Ok, Err, [], false, ◌&&◌, map, option_map, reverse, ◌≡◌, Some, ℕ, Vec}
+use Rattle.indexmap.specs.IndexMap.{keys}
 use Rattle.occ_tree_grammar.specs.Many.{◌>>=◌}
 use Rattle.occ_tree_grammar.specs.Expressions.Trees.{Expression, expression_of}
 use Rattle.occ_tree_grammar.specs.Lines.Trees as L
@@ -43,7 +44,7 @@ listed_of (Tagged tag targets) = A.tagged_list tag (targets_of targets)
 
 -- the last constant first
 abbrev pub chosen_of : Chosen → A.Chosen
-chosen_of c = record { constants = reverse c.constants.keys; has_else = c.has_else }
+chosen_of c = record { constants = reverse (keys c.constants); has_else = c.has_else }
 
 -- what is chosen then is what the definition gives
 abbrev pub Chooses : {X : Type 0} → Result X CheckFault → Chosen → Option A.Chosen → Type 0

@@ -8,9 +8,9 @@ ghost use Rattle.occ_check_acting.specs.Action.{Chooses, as_assignment, as_outpu
 ghost use Rattle.occ_check_names.specs.View.{Gives, Lends, Makes, one_value};
 
 use crate::target::{apart, placed, stored, stored_list};
-use indexmap::IndexSet;
 use occ_check_names::context::Context;
 use occ_check_names::fault::CheckFault;
+use occ_check_names::listing::{Values, list_value};
 use occ_check_names::operators::{is_number, is_same_type};
 use occ_check_names::scope::Scope;
 use occ_check_names::typed::{Part, Typed};
@@ -36,7 +36,7 @@ pub enum Listed {
 /// The constants that stand in the options of a CASE so far, and whether ELSE does.
 pub struct Chosen {
     /// The constants, in order.
-    pub constants: IndexSet<i64>,
+    pub constants: Values,
     /// Whether ELSE stands there.
     pub has_else: bool,
 }
@@ -335,7 +335,7 @@ fn choosing_one(
     ensures { Chooses result chosen.new
         (meant.choosing (constant.now ∷ []) (chosen_of chosen.old)) }
 {
-    let added = chosen.constants.insert(*constant)?;
+    let added = list_value(&mut chosen.constants, *constant)?;
     if !added {
         return Err(constant_twice(alloc, line, *constant));
     }

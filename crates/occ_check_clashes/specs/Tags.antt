@@ -2,6 +2,7 @@
 -- Manual: nothing; this is (own).
 use Rattle.std.specs.Prelude.{List, Option, [], ◌≡◌, ℕ, bytes_eq, reverse}
 use Rattle.std.specs.Map.{lookup}
+use Rattle.indexmap.specs.IndexMap.{keys}
 use Rattle.occ_term.specs.declared.protocol.Protocol.{Protocol}
 use Rattle.occ_term.specs.declared.protocol.Protocol.TheVariants.{Simple, CountedArray, Sequential, Variant}
 use Rattle.occ_term.specs.declared.protocol.Tag.{Tag}
@@ -26,7 +27,7 @@ AreTagsOf p t = (x : Name) → number_at x t.numbers.entries ≡ tag_number (tag
 
 -- the numbers that are listed, the last one first
 abbrev pub listed_in : Tags → List ℕ
-listed_in t = reverse t.listed.keys
+listed_in t = reverse (keys t.listed)
 
 -- the number of a tag that is not listed before
 abbrev pub next_tag : Protocol → Name → Tags → Option ℕ

@@ -7,8 +7,9 @@ ghost use Rattle.occ_check_names.specs.View.{Answers};
 ghost use Rattle.occ_check_names.specs.declared.fault.CheckFault.TheVariants.{Memory};
 ghost use Rattle.occ_check_clashes.specs.Tags.{AreTagsOf, listed_in, number_at, tags_of, next_tag};
 
-use indexmap::{IndexMap, IndexSet};
+use indexmap::IndexMap;
 use occ_check_names::fault::CheckFault;
+use occ_check_names::listing::{Words, list_word};
 use occ_check_typing::item::word_of;
 use occ_held::letters::Letters;
 use occ_term::{Protocol, Tag};
@@ -19,7 +20,7 @@ pub struct Tags {
     /// The number of each name: of the first tag that has it.
     pub numbers: IndexMap<Letters, usize>,
     /// The numbers that are listed so far, in order.
-    pub listed: IndexSet<u32>,
+    pub listed: Words,
 }
 
 impl Drop for Tags {
@@ -45,7 +46,7 @@ impl Tags {
         let numbers = numbers_of(alloc, tags_in(protocol))?;
         Ok(Tags {
             numbers,
-            listed: IndexSet::new(alloc),
+            listed: IndexMap::new(alloc),
         })
     }
 
@@ -65,7 +66,7 @@ impl Tags {
             None => return Err(CheckFault::Tag { line }),
         };
         let tag = word_of(line, number)?;
-        let added = self.listed.insert(tag)?;
+        let added = list_word(&mut self.listed, tag)?;
         if added {
             Ok(tag)
         } else {

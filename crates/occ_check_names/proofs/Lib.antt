@@ -1,3 +1,4 @@
 pub mod Scopes
 pub mod ComponentNames
 pub mod Literals
+pub mod Keys

@@ -1,3 +1,4 @@
 pub mod View
 pub mod Reading
 pub mod Measuring
+pub mod Listing

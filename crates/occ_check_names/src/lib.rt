@@ -7,6 +7,7 @@ pub mod constant;
 pub mod context;
 pub mod fault;
 pub mod known;
+pub mod listing;
 pub mod literal;
 pub mod measuring;
 pub mod numbers;

@@ -14,7 +14,7 @@ ghost use Rattle.occ_check_names.specs.Reading.{ReadsIn};
 ghost use Rattle.occ_check_opened.specs.Progress.{nodes_weight, KeepsOpen, OpensNothing, ReadsLine, parts_weight};
 ghost use Rattle.occ_check_opened.specs.Weights.{option_nodes};
 
-use indexmap::IndexSet;
+use indexmap::IndexMap;
 use occ_check_acting::action::{Chosen, choosing, choosing_else, selector};
 use occ_check_names::context::Context;
 use occ_check_names::fault::CheckFault;
@@ -256,7 +256,7 @@ pub fn none_chosen(alloc: Global) -> Chosen
     ensures { chosen_of result ≡ meant.none_chosen }
 {
     Chosen {
-        constants: IndexSet::new(alloc),
+        constants: IndexMap::new(alloc),
         has_else: false,
     }
 }

@@ -13,11 +13,12 @@ ghost use Rattle.occ_check_typing.specs.Typing.{given_type_in, declared_in, name
 
 use crate::expression::typed;
 use crate::types::{carried_by, open_sizes_of, protocol_of, sizes_of};
-use indexmap::IndexSet;
+use indexmap::IndexMap;
 use occ_check_names::constant::constant_of;
 use occ_check_names::context::Context;
 use occ_check_names::fault::{CheckFault, twice};
 use occ_check_names::known::{Access, Carried, Known, Stretch};
+use occ_check_names::listing::{Names, list_name};
 use occ_check_names::measuring::count_declaration;
 use occ_check_names::numbers::{Numbers, components};
 use occ_check_names::operators::{is_same_type, primitive_of};
@@ -160,9 +161,9 @@ fn names_of(alloc: Global, names: &OneOrMore<Letters>) -> Result<Items<Letters>,
 pub fn once(alloc: Global, line: u32, names: &[Letters]) -> Result<(), CheckFault>
     ensures { Allows scopes.once result names.now }
 {
-    let mut seen: IndexSet<Letters> = IndexSet::new(alloc);
+    let mut seen: Names = IndexMap::new(alloc);
     for name in names {
-        let added = seen.insert(name.copy()?)?;
+        let added = list_name(&mut seen, name.copy()?)?;
         if !added {
             return Err(twice(alloc, line, name));
         }

@@ -1,10 +1,10 @@
 -- Names that are reached: one more, and none.
-use Rattle.std.proofs.Common.{◌≡◌, ◌∙◌, ◌⊎◌, inl, inr, sym, ap, subst, refl, List, [], ◌∷◌, ◌++◌, length, Bool, true, false, if◌then◌else◌, Some, None, arith}
-use Rattle.std.specs.Prelude.{bytes_eq, ◌||◌}
+use Rattle.std.proofs.Common.{◌≡◌, ◌∙◌, ◌⊎◌, inl, inr, sym, ap, subst, refl, List, [], ◌∷◌, length, Bool, true, false, cond, Some, None, arith}
+use Rattle.std.specs.Prelude.{bytes_eq}
 use Rattle.std.specs.List.{list_any}
 use Rattle.std.proofs.Math.Bool.{true≢false}
 use Rattle.std.proofs.lemmas.Slice.Eq.{bytes_eq-Decides}
-use Rattle.std.proofs.lemmas.List.Folds.{list_any-append, list_any_more, list_any_none}
+use Rattle.std.proofs.lemmas.List.Folds.{list_any_none}
 use Rattle.occ_reach.specs.Calls.{Called}
 use Rattle.occ_reach.specs.Reach.{among}
 use Rattle.occ_reach.specs.Passes.{AddsName, Begins}
@@ -12,38 +12,20 @@ use Rattle.occ_reach.specs.Passes.{AddsName, Begins}
 none_any : {X : Type 0} (p : X → Bool) → list_any p [] ≡ false
 none_any p = list_any_none p [] (λ k d h. absurd (omega arith))
 
-any_one : {X : Type 0} (p : X → Bool) (x : X) → list_any p (x ∷ []) ≡ p x
-any_one p x = list_any_more p (x ∷ []) 0 x (omega arith) ∙ ap (λ b. b || p x) (none_any p)
-
-among_more : (names : List Called) (k f : Called) → among (names ++ k ∷ []) f ≡ (among names f || bytes_eq f k)
-among_more names k f = list_any-append (bytes_eq f) names (k ∷ []) ∙ ap (λ b. among names f || b) (any_one (bytes_eq f) k)
-
-either : (a b : Bool) → (a || b) ≡ true → (a ≡ true) ⊎ (b ≡ true)
-either true b h = inl refl
-either false b h = inr h
-
-left_true : (a b : Bool) → a ≡ true → (a || b) ≡ true
-left_true true b h = refl
-left_true false b h = absurd (true≢false (sym h))
-
-right_true : (a b : Bool) → b ≡ true → (a || b) ≡ true
-right_true true b h = refl
-right_true false b h = h
-
-pub name_added : (old new : List Called) (k name : Called) → k ≡ name → new ≡ (if list_any (bytes_eq k) old then old else old ++ k ∷ []) → AddsName old new name
-name_added old new k name same is = subst (AddsName old new) same (by (list_any (bytes_eq k) old) refl is)
+pub name_added : (old new : List Called) (k name : Called) → k ≡ name → ((q : Called) → among new q ≡ cond (bytes_eq k q) true (among old q)) → AddsName old new name
+name_added old new k name same is = subst (AddsName old new) same (
+  is k ∙ ap (λ b. cond b true (among old k)) ((bytes_eq-Decides k k).1 refl),
+  (λ f h. is f ∙ kept (bytes_eq k f) (among old f) h),
+  (λ f h. by f (bytes_eq k f) refl (sym (is f) ∙ h)),
+)
   where
-    by : (b : Bool) → list_any (bytes_eq k) old ≡ b → new ≡ (if b then old else old ++ k ∷ []) → AddsName old new k
-    by true e n = subst (λ ks. AddsName old ks k) (sym n) (e, (λ f h. h), (λ f h. inl h))
-    by false e n = subst (λ ks. AddsName old ks k) (sym n) (
-      among_more old k k ∙ right_true (among old k) (bytes_eq k k) ((bytes_eq-Decides k k).1 refl),
-      (λ f h. among_more old k f ∙ left_true (among old f) (bytes_eq f k) h),
-      (λ f h. added f (either (among old f) (bytes_eq f k) (sym (among_more old k f) ∙ h))),
-    )
-      where
-        added : (f : Called) → (among old f ≡ true) ⊎ (bytes_eq f k ≡ true) → (among old f ≡ true) ⊎ (f ≡ k)
-        added f (inl h) = inl h
-        added f (inr h) = inr ((bytes_eq-Decides f k).0 h)
+    kept : (b c : Bool) → c ≡ true → cond b true c ≡ true
+    kept true c h = refl
+    kept false c h = h
+
+    by : (f : Called) (b : Bool) → bytes_eq k f ≡ b → cond b true (among old f) ≡ true → (among old f ≡ true) ⊎ (f ≡ k)
+    by f true e h = inr (sym ((bytes_eq-Decides k f).0 e))
+    by f false e h = inl h
 
 pub none_among : (names : List Called) → length names ≡ 0 → (f : Called) → among names f ≡ false
 none_among [] e f = none_any (bytes_eq f)

@@ -5,19 +5,19 @@ ghost use Rattle.occ_reach.specs.Passes.{AddsName, Begins, IsPass, Reaches};
 ghost use Rattle.occ_reach.specs.Reach.{among};
 
 use crate::calls::Call;
-use indexmap::IndexSet;
 use occ_held::letters::Letters;
 use std::alloc::{AllocError, Global};
+use std::collections::HashSet;
 
 /// Whether this name is among those that are reached.
-pub(crate) fn is_reached(reached: &IndexSet<Letters>, name: &Letters) -> bool
+pub(crate) fn is_reached(reached: &HashSet<Letters>, name: &Letters) -> bool
     ensures { result ≡ among reached.now.keys name.now }
 {
     reached.contains(name)
 }
 
 /// Adds a name to those that are reached.
-fn reach(reached: &mut IndexSet<Letters>, name: &Letters) -> Result<(), AllocError>
+fn reach(reached: &mut HashSet<Letters>, name: &Letters) -> Result<(), AllocError>
     ensures { OnOk result (AddsName reached.old.keys reached.new.keys name.now) }
 {
     reached.insert(name.copy()?)?;
@@ -28,7 +28,7 @@ fn reach(reached: &mut IndexSet<Letters>, name: &Letters) -> Result<(), AllocErr
 /// others.
 fn pass<'a>(
     alloc: Global,
-    reached: &mut IndexSet<Letters>,
+    reached: &mut HashSet<Letters>,
     calls: &[Call<'a>],
 ) -> Result<Vec<Call<'a>>, AllocError>
     ensures { IfOk result (λ others.
@@ -49,10 +49,10 @@ fn pass<'a>(
 }
 
 /// The set that has this name alone, or none.
-fn set_of(alloc: Global, main: Option<&Letters>) -> Result<IndexSet<Letters>, AllocError>
+fn set_of(alloc: Global, main: Option<&Letters>) -> Result<HashSet<Letters>, AllocError>
     ensures { IfOk result (λ reached. Begins (named main.entry) reached.keys) }
 {
-    let mut reached = IndexSet::new(alloc);
+    let mut reached = HashSet::new(alloc);
     if let Some(main) = main {
         reach(&mut reached, main)?;
     }
@@ -64,7 +64,7 @@ pub(crate) fn reached_from(
     alloc: Global,
     main: Option<&Letters>,
     calls: Vec<Call<'_>>,
-) -> Result<IndexSet<Letters>, AllocError>
+) -> Result<HashSet<Letters>, AllocError>
     ensures { IfOk result (λ reached. Reaches main.entry calls.entry.items reached.keys) }
 {
     let mut reached = set_of(alloc, main)?;

@@ -6,10 +6,10 @@ ghost use Rattle.occ_reach.specs.Reach.{AreUnreached, FindsBehind, last_proc, to
 
 use crate::calls::{calls_of, proc_begun};
 use crate::reached::{is_reached, reached_from};
-use indexmap::IndexSet;
 use occ_held::letters::Letters;
 use occ_text::Line;
 use std::alloc::{AllocError, Global};
+use std::collections::HashSet;
 
 /// A PROC that no call reaches from the last one.
 #[derive(Clone, Copy)]
@@ -47,7 +47,7 @@ fn last_proc(mut lines: &[Line]) -> Option<&Letters>
 /// Adds the first line of a PROC that is not reached.
 fn add_head<'a>(
     out: &mut Vec<Unchecked<'a>>,
-    names: &IndexSet<Letters>,
+    names: &HashSet<Letters>,
     line: &'a Line,
 ) -> Result<(), AllocError>
     ensures { OnOk result (FindsBehind names.now.keys (logical_line_of line.now ∷ [])
@@ -65,7 +65,7 @@ fn add_head<'a>(
 /// The first lines of the PROCs that are not reached.
 fn heads_beyond<'a>(
     alloc: Global,
-    reached: &IndexSet<Letters>,
+    reached: &HashSet<Letters>,
     mut lines: &'a [Line],
 ) -> Result<Vec<Unchecked<'a>>, AllocError>
     ensures { IfOk result (λ found.
