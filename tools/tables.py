@@ -173,8 +173,8 @@ def page_part(name, said, place):
 
 differ = False
 TABLES = {
-    "crates/occ_json/src/page_foot.rt": page_part("FOOT", "The end of the page that shows a run, with its script", 1),
-    "crates/occ_json/src/page_head.rt": page_part("HEAD", "The beginning of the page that shows a run", 0),
+    "crates/occ_shown/src/page_foot.rt": page_part("FOOT", "The end of the page that shows a run, with its script", 1),
+    "crates/occ_shown/src/page_head.rt": page_part("HEAD", "The beginning of the page that shows a run", 0),
     "crates/occ_explain/src/cause_table.rt": causes,
     "crates/occ_explaining/src/refusal_names.rt": names,
     "docs/occam.1": manual,

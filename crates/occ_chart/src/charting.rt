@@ -21,7 +21,7 @@ use crate::reaches::reaches_of;
 use crate::stub::Stub;
 use crate::xml::{write_attribute, write_number};
 use occ_board::Shown;
-use occ_net_trace::Trace;
+use occ_net_tables::Trace;
 use occ_term::{Channel, End, Ending};
 use std::alloc::{AllocError, Global};
 

@@ -5,7 +5,7 @@ ghost use Rattle.occ_chart.specs.LeftOut.{count_others, is_between_others, is_le
 
 use crate::stub::Stub;
 use occ_board::Shown;
-use occ_net_trace::Entry;
+use occ_net_tables::Entry;
 use occ_term::{End, Text};
 use std::alloc::{AllocError, Global};
 

@@ -5,7 +5,7 @@ ghost use Rattle.occ_chart.specs.LeftOut.{count_seen, listed};
 
 use crate::left_out::{is_between_others, seen};
 use occ_board::Shown;
-use occ_net_trace::Entries;
+use occ_net_tables::Entries;
 use occ_shown::shown_as;
 use occ_term::Channel;
 use std::alloc::{AllocError, Global};

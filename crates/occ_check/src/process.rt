@@ -9,7 +9,7 @@ ghost use Rattle.occ_check_opened.specs.Progress.{Reads};
 ghost use Rattle.occ_check_parts.specs.Copies.{ReadsCopies};
 
 use crate::opening::process_opened;
-use occ_check_clashes::tags::Tags;
+use occ_check_typing::tags::Tags;
 use occ_check_names::fault::CheckFault;
 use occ_check_opened::entering::headed;
 use occ_check_opened::here::Here;

@@ -12,7 +12,7 @@ use Rattle.occ_check_meaning.specs.Items.{apart, as_target, assigned_item, assig
 use Rattle.occ_check_meaning.specs.Scope.{Names, Stretch, each_of, keep}
 use Rattle.occ_check_meaning.proofs.Steps.{bind_some, some_is}
 use Rattle.occ_check_acting.specs.Action.{side_assigned}
-use Rattle.occ_check_clashes.specs.Clash.{stretches_at}
+use Rattle.occ_check_typing.specs.Clash.{stretches_at}
 use Rattle.occ_check_typing.specs.Zipped.{zipped}
 use Rattle.occ_check_names.specs.View.{Refuses, variable_part}
 use Rattle.occ_check_names.specs.declared.fault.CheckFault.{CheckFault}

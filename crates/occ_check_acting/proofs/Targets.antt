@@ -12,7 +12,7 @@ use Rattle.occ_check_meaning.specs.Scope.{Names, Stretch, each_of, keep}
 use Rattle.occ_check_meaning.specs.Expressions.{place_of}
 use Rattle.occ_check_meaning.specs.Items.{Aim, aim, aim_of, apart, clash, clashes_with_one, counted_aim, stretches_of, some_clash, stored, target_of, targets_of}
 use Rattle.occ_check_acting.specs.Action.{stored_one}
-use Rattle.occ_check_clashes.specs.Clash.{stretches_at}
+use Rattle.occ_check_typing.specs.Clash.{stretches_at}
 use Rattle.occ_check_typing.specs.Zipped.{zipped}
 use Rattle.occ_check_names.specs.View.{Refuses}
 use Rattle.occ_check_names.specs.declared.fault.CheckFault.{CheckFault}

@@ -2,13 +2,13 @@
 
 ghost use Rattle.std.specs.Prelude.{◌≡◌, []};
 ghost use Rattle.occ_check_acting.specs.Action.{each_stored_in, stored_in, takes, counted_target, list_stored_in, one_stored_in, plain_target, stored_list_in};
-ghost use Rattle.occ_check_clashes.specs.Clash.{stretches_at};
+ghost use Rattle.occ_check_typing.specs.Clash.{stretches_at};
 ghost use Rattle.occ_check_meaning.specs.Expressions as expressions;
 ghost use Rattle.occ_check_meaning.specs.Items as meant;
 ghost use Rattle.occ_check_names.specs.View.{Allows, Gives, part_of};
 ghost use Rattle.occ_term.specs.View.{place_of, target_of, targets_of};
 
-use occ_check_clashes::clash::some_clash;
+use occ_check_typing::clash::some_clash;
 use occ_check_names::context::Context;
 use occ_check_names::fault::CheckFault;
 use occ_check_names::operators::is_same_type;

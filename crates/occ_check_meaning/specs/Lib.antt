@@ -16,3 +16,11 @@ pub mod Meant
 pub mod ProgramUnfolding
 pub mod Examples
 pub mod CallExamples
+pub mod Counting
+pub mod Having
+pub mod Numbering
+pub mod Growth
+pub mod CellOrder
+pub mod Scoping
+pub mod Limits
+pub mod Laws

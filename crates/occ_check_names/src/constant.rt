@@ -4,8 +4,7 @@ ghost use Rattle.std.specs.Prelude.{◌≡◌, Some};
 ghost use Rattle.occ_term.specs.View.{expression_of};
 ghost use Rattle.occ_check_meaning.specs.Constants.{constant, is_within};
 
-use occ_constants::{is_constant, value_of_constant};
-use occ_term::TermExpr;
+use occ_term::{TermExpr, is_constant, value_of_constant};
 
 /// The value of a constant that does not fault; none of any other expression.
 pub fn constant_of(e: &TermExpr) -> Option<i64>

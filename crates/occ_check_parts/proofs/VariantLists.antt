@@ -24,8 +24,8 @@ use Rattle.occ_check_meaning.specs.Performing.{Calling}
 use Rattle.occ_check_meaning.specs.Recursion.{all_declared, all_variants, unfolded, variant_unfolded}
 use Rattle.occ_check_meaning.specs.Scope.{Scope}
 use Rattle.occ_check_names.specs.View.{Refuses}
-use Rattle.occ_check_clashes.specs.Tags.{AreTagsOf, number_at}
-use Rattle.occ_check_clashes.specs.declared.tags.Tags.{Tags}
+use Rattle.occ_check_typing.specs.Tags.{AreTagsOf, number_at}
+use Rattle.occ_check_typing.specs.declared.tags.Tags.{Tags}
 use Rattle.occ_check_names.specs.declared.fault.CheckFault.{CheckFault}
 use Rattle.occ_check_typing.proofs.Refusing.{then_refused}
 

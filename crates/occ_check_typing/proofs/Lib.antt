@@ -11,3 +11,8 @@ pub mod Tagging
 pub mod AnyPair
 pub mod Overlaps
 pub mod Components
+pub mod Among
+pub mod NamedCells
+pub mod Clashes
+pub mod NamingOthers
+pub mod TagLists

@@ -4,3 +4,5 @@ pub mod Overlap
 pub mod Spans
 pub mod Positive
 pub mod Zipped
+pub mod Clash
+pub mod Tags

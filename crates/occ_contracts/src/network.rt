@@ -11,7 +11,7 @@ use occ_machine::{Code, Task};
 use occ_net::{History, Lease, NetFault, Network, Outcome};
 use occ_net_replay::Choice;
 use occ_net_tables as tables;
-use occ_net_trace::Trace;
+use occ_net_tables::Trace;
 use occ_proc::Segment;
 use occ_term::Ending;
 use std::alloc::{AllocError, Global};

@@ -5,7 +5,7 @@ ghost use Rattle.occ_shown.specs.Counting.{failures_of, writer_of};
 ghost use Rattle.occ_contracts.specs.Agreement.{BothGive};
 
 use occ_board::Shown;
-use occ_net_trace::{Entry, Trace};
+use occ_net_tables::{Entry, Trace};
 use occ_shown::{
     Counted, answer, channel_bytes, is_shown, shown_as, tag_name, watch_lines, write_answer,
     write_message, write_name, write_value,

@@ -20,7 +20,7 @@ use Rattle.occ_net_replay.specs.Waiting.{IsReplay, IsTurn, listens_on}
 use Rattle.occ_net_replay.proofs.Alone.{its_term, l, r, at_wait, output_on, listener, fork_within}
 use Rattle.occ_net_replay.proofs.Law.{d, procs, keyboard_protocol, belongs, all_followed}
 use Rattle.occ_net_replay.proofs.Tables.{or_else}
-use Rattle.occ_explore_walks.proofs.Lists.{one_some}
+use Rattle.occ_explore_laws.proofs.Lists.{one_some}
 use Rattle.occ_ends.specs.Ends.{all_using, using}
 use Rattle.occ_ends.specs.ForGood.{ClosedSetsWaitForGood, IsClosedSet, IsLeftWithin, IsOutside, LeadsLater, Set, goes_on, stays}
 use Rattle.occ_ends.proofs.Unmet.{ComesTo, IsLeftAt, IsUnmet, in_or_out, meet_on, mover_may, unmet_sets_wait}

@@ -4,7 +4,7 @@ use Rattle.std.specs.Prelude.{slice_get}
 use mathlib.Core.Bool.{true≢false}
 use Rattle.occ_machine.specs.Machine.{Body}
 use Rattle.occ_net_replay.specs.Replay.{Tasks}
-use Rattle.occ_explore_walks.proofs.Lists.{get_inside, push_cases, push_keeps, push_last}
+use Rattle.occ_explore_laws.proofs.Lists.{get_inside, push_cases, push_keeps, push_last}
 use Rattle.occ_ends.specs.Endless.{AgainTo, ComeAgain, ComesAgain, flag, is_set}
 use Rattle.occ_ends.proofs.Rounds.{lt_or_le}
 

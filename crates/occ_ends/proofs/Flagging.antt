@@ -7,7 +7,7 @@ use Rattle.occ_machine.specs.Machine.{Body}
 use Rattle.occ_machine.specs.declared.task.Task.{Task}
 use Rattle.occ_net_replay.specs.Replay.{HasTask, Tasks}
 use Rattle.occ_net_replay.proofs.Tables.{set_other, set_same, task_once}
-use Rattle.occ_explore_walks.proofs.Lists.{get_some, same_or_other, set_many}
+use Rattle.occ_explore_laws.proofs.Lists.{get_some, same_or_other, set_many}
 use Rattle.occ_ends.specs.Endless.{AreEndless, AreFlagged, FlagsBelow, IsBelow, IsEndless, StandsInLoop, flag, in_a_loop, as_a_branch, is_set}
 use Rattle.occ_ends.proofs.Rounds.{lt_or_le}
 

@@ -14,7 +14,7 @@ use Rattle.occ_net_replay.specs.Replay.{HasTask, Tasks, is_done}
 use Rattle.occ_net_replay.specs.Waiting.{and_channel, channels_of}
 use Rattle.occ_net_replay.proofs.Tables.{or_else, or_first, or_second, set_other}
 use Rattle.std.proofs.lemmas.Bool.{eq-eqb, eqb-true}
-use Rattle.occ_explore_walks.proofs.Lists.{at_index, get_inside, one_some, same_or_other}
+use Rattle.occ_explore_laws.proofs.Lists.{at_index, get_inside, one_some, same_or_other}
 use Rattle.occ_ends.specs.declared.uses.ProcessUses.{ProcessUses}
 use Rattle.occ_ends.specs.Ends.{Using, is_unended, noted_for, task_is}
 use Rattle.occ_ends.specs.Endless.{flag, is_set}

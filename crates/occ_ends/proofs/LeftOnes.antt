@@ -17,7 +17,7 @@ use Rattle.occ_machine.specs.declared.task.Wait.TheVariants.{Ready, Took, Offers
 use Rattle.occ_net_replay.specs.Replay.{HasTask, Tasks}
 use Rattle.occ_net_replay.proofs.Tables.{or_else, or_first, or_second}
 use Rattle.occ_net_tables.proofs.Keys.{first_held}
-use Rattle.occ_explore_walks.proofs.Lists.{get_inside, get_some, get_there}
+use Rattle.occ_explore_laws.proofs.Lists.{get_inside, get_some, get_there}
 use Rattle.occ_ends.specs.declared.ends.Ends.{Ends}
 use Rattle.occ_ends.specs.Ends.{AreDue, Circles, IsCircle, Using, arm_writer, arm_writers, end_noted, is_unended, last_with, of_declared, or_first as first_of, others_noted, others_of, reader_among, reader_due, stands_still, task_is, task_waits_for, unended_among, waits_on, writer_among, writer_due}
 use Rattle.occ_ends.specs.Endless.{AreEndless, ComeAgain, flag}

@@ -2,7 +2,7 @@
 use Rattle.std.proofs.Common.{Bool, List, Option, None, Some, [], ◌∷◌, ◌+◌, ◌<◌, ◌≡◌, ◌≤◌, ◌∙◌, ◌⊎◌, ap, arith, false, inl, inr, length, refl, subst, suc, sym, true, zero, ℕ}
 use Rattle.std.specs.Prelude.{if◌then◌else◌, min, nat_lt, option_map, replicate, slice_get, ◌&&◌, ◌||◌}
 use Rattle.std.proofs.lemmas.Bool.Decides.{nat_tests}
-use Rattle.occ_explore_walks.proofs.Lists.{same_or_other}
+use Rattle.occ_explore_laws.proofs.Lists.{same_or_other}
 use Rattle.occ_term.specs.Uses.{Numbers, Uses, empty_set}
 use Rattle.occ_usage.specs.Noted.{between}
 use Rattle.occ_net_tables.specs.Keys.{flat}

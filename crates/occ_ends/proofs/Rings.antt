@@ -4,7 +4,7 @@ use Rattle.std.specs.Prelude.{slice_get, ◌%◌}
 use Rattle.std.proofs.Math.Nat.{mod-eq_of_lt, mod_self}
 use Rattle.std.proofs.lemmas.List.{length-drop, length-take-le}
 use Rattle.occ_term.specs.Frames.{is_held}
-use Rattle.occ_explore_walks.proofs.Lists.{get_inside}
+use Rattle.occ_explore_laws.proofs.Lists.{get_inside}
 use Rattle.occ_ends.specs.Ends.{Circles, IsAgain, IsOnce, IsRing}
 use Rattle.occ_ends.proofs.Rounds.{lt_or_le}
 

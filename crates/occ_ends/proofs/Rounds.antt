@@ -9,10 +9,10 @@ use Rattle.occ_term.specs.Frames.{is_held}
 use Rattle.std.proofs.lemmas.Bool.{eqb-true}
 use Rattle.occ_net_replay.proofs.Tables.{or_else}
 use Rattle.occ_net_tables.proofs.Keys.{first_held, later_held}
-use Rattle.occ_explore_walks.specs.declared.graph.Edge.{Edge}
-use Rattle.occ_explore_walks.specs.declared.graph.Fan.{Fan}
-use Rattle.occ_explore_walks.specs.Walks.{HasWalk, IsEdge, IsGraph, IsLongest, IsRound, IsWalk, led_to}
-use Rattle.occ_explore_walks.proofs.Lists.{get_inside, get_some, get_there, one_some, push_cases, push_keeps, push_last, same_or_other}
+use Rattle.occ_explore_laws.specs.declared.graph.Edge.{Edge}
+use Rattle.occ_explore_laws.specs.declared.graph.Fan.{Fan}
+use Rattle.occ_explore_laws.specs.Walks.{HasWalk, IsEdge, IsGraph, IsLongest, IsRound, IsWalk, led_to}
+use Rattle.occ_explore_laws.proofs.Lists.{get_inside, get_some, get_there, one_some, push_cases, push_keeps, push_last, same_or_other}
 use Rattle.occ_ends.specs.Ends.{AreWaits, LeadWithin, Circles, IsCircle, IsFanOf, IsRing, IsRoot, edge_to, edges_to}
 
 pub lt_or_le : (n e : ℕ) → (n < e) ⊎ (e ≤ n)

@@ -13,9 +13,9 @@ use Rattle.occ_machine.specs.declared.task.Wait.TheVariants.{Ready, Took, Offers
 use Rattle.occ_net_replay.specs.Replay.{Tasks, is_done, ready_from}
 use Rattle.occ_net_tables.specs.Keys.{flat}
 use Rattle.occ_usage.specs.Noted.{uses_in}
-use Rattle.occ_explore_walks.specs.declared.graph.Edge.{Edge}
-use Rattle.occ_explore_walks.specs.declared.graph.Fan.{Fan}
-use Rattle.occ_explore_walks.specs.Walks.{IsEdge}
+use Rattle.occ_explore_laws.specs.declared.graph.Edge.{Edge}
+use Rattle.occ_explore_laws.specs.declared.graph.Fan.{Fan}
+use Rattle.occ_explore_laws.specs.Walks.{IsEdge}
 use Rattle.occ_ends.specs.declared.uses.ProcessUses.{ProcessUses}
 use Rattle.occ_ends.specs.declared.ends.Ends.{Ends}
 use Rattle.occ_usage.specs.declared.noted.Use.{Use}

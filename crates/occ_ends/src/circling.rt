@@ -3,7 +3,7 @@ ghost use Rattle.std.specs.Prelude.{◌≡◌, ◌<◌, ◌≤◌, IfNone, IfOk,
 ghost use Rattle.occ_ends.specs.Ends.{AddsUnended, HoldWaits, HoldsCircle, IsAgain, IsFresh, IsRoot, LeadWithin, ListsOthers, ListsUnended, ListsWaits, MakesRing, arm_writer, arm_writers, edge_to, edges_to, end_noted};
 
 use crate::ends::{Ends, is_unended};
-use occ_explore_walks::{Edge, Fan, Lasting, lasting};
+use occ_explore_laws::{Edge, Fan, Lasting, lasting};
 use occ_machine::{Arm, Wait};
 use occ_net_replay::Choice;
 use occ_net_tables::Tables;

@@ -1,7 +1,7 @@
 -- The members of an object, of equal parts.
 use Rattle.std.proofs.Common.{◌≡◌, ◌∙◌, ◌+◌, ◌∷◌, List, [], ap, ℕ}
 use Rattle.std.specs.Prelude.{codes}
-use Rattle.occ_json.specs.Objects.{Said, number, text, exactly}
+use Rattle.occ_shown.specs.Objects.{Said, number, text, exactly}
 
 -- those of a refusal
 abbrev pub refusal_members : (file : List ℕ) → (line column end n : ℕ) → (name wrong hint : List ℕ) → List (List ℕ × Said)

@@ -5,8 +5,8 @@ use Rattle.std.specs.Fmt.{decimal}
 use Rattle.std.specs.List.{list_any}
 use Rattle.std.specs.Option.{option_copied}
 use Rattle.std.specs.Prelude.{Bool, List, None, Option, Some, [], bytes_eq, codes, false, if◌then◌else◌, min, nat_lt, not, suc, zero, ℕ, ◌&&◌, ◌++◌, ◌+◌, ◌||◌, ◌∷◌}
-use Rattle.occ_places.specs.Places.{Known, name_of, stops_of}
-use Rattle.occ_places.specs.declared.stop.Stop.{Stop}
+use Rattle.occ_report.specs.Places.{Known, name_of, stops_of}
+use Rattle.occ_report.specs.declared.stop.Stop.{Stop}
 
 -- ---- what they are called
 

@@ -25,8 +25,8 @@ use Rattle.occ_explain.specs.Explanations.{explained_text}
 use Rattle.occ_chart.specs.declared.part.Part.{Part}
 use Rattle.occ_explaining.specs.Charting.{IsRunChart}
 use Rattle.occ_explaining.specs.ColumnNames.{column_names, left_out_of}
-use Rattle.occ_places.specs.Places.{Fits, Known}
-use Rattle.occ_steps.specs.Steps.{IsSteps}
+use Rattle.occ_report.specs.Places.{Fits, Known}
+use Rattle.occ_report.specs.Steps.{IsSteps}
 use Rattle.occ_report.specs.Reports.{IsCircleOf, IsReport}
 
 -- the number and the line of a refusal of the text; 0 where it has no line

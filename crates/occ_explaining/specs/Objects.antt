@@ -6,7 +6,7 @@ use Rattle.occ_explaining.specs.Files.{SourceFiles, place_told}
 use Rattle.occ_explaining.specs.declared.refusal_names.TheConstants.{NAMES}
 use Rattle.occ_explain.specs.Places.{line_numbered}
 use Rattle.occ_explain.specs.declared.explaining.Explanation.{Explanation}
-use Rattle.occ_json.specs.Objects.{number, text, exactly, object_json}
+use Rattle.occ_shown.specs.Objects.{number, text, exactly, object_json}
 use Rattle.occ_play.specs.declared.fault.PlayFault.{PlayFault}
 use Rattle.occ_text.specs.Spelling.{is_name_part}
 

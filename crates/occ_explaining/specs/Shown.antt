@@ -1,11 +1,11 @@
 -- Pages that show runs.
 -- Manual: nothing; this is (own).
 use Rattle.std.specs.Prelude.{List, Vec, [], length, min, suc, zero, ℕ, ◌++◌, ◌∷◌, ◌≡◌}
-use Rattle.occ_json.specs.Pages.{page_text}
-use Rattle.occ_json.specs.declared.pages.RunTexts.{RunTexts}
+use Rattle.occ_shown.specs.Pages.{page_text}
+use Rattle.occ_shown.specs.declared.pages.RunTexts.{RunTexts}
 use Rattle.occ_machine.specs.Compiled.{Program}
 use Rattle.occ_net_replay.specs.declared.choice.Choice.{Choice}
-use Rattle.occ_places.specs.Places.{Known, name_of}
+use Rattle.occ_report.specs.Places.{Known, name_of}
 use Rattle.occ_play.specs.declared.playing.Options.{Options}
 use Rattle.occ_term.specs.UnfoldedProgram.{UnfoldedProgram}
 use Rattle.occ_explaining.specs.Traced.{IsTraced}

@@ -4,7 +4,7 @@ use Rattle.std.specs.Borrow.{Bor}
 use Rattle.std.specs.Prelude.{List, Option, Vec, length, map, min, ℕ, ◌≡◌}
 use Rattle.occ_chart.specs.declared.part.Part.{Part}
 use Rattle.occ_ends.specs.Ends.{all_using, noted_for}
-use Rattle.occ_json.specs.declared.pages.RunTexts.{RunTexts}
+use Rattle.occ_shown.specs.declared.pages.RunTexts.{RunTexts}
 use Rattle.occ_net_replay.specs.declared.choice.Choice.{Choice}
 use Rattle.occ_play.specs.declared.playing.Options.{Options}
 use Rattle.occ_term.specs.UnfoldedProgram.{UnfoldedProgram, meaning}

@@ -2,7 +2,7 @@
 -- Manual: nothing; this is (own).
 use Rattle.std.specs.Prelude.{List, Vec, [], ℕ, ◌++◌, ◌≡◌, ◌∷◌}
 use Rattle.occ_machine.specs.Compiled.{Program}
-use Rattle.occ_json.specs.Json.{json_text}
+use Rattle.occ_shown.specs.Json.{json_text}
 use Rattle.occ_net_replay.specs.declared.choice.Choice.{Choice}
 use Rattle.occ_term.specs.declared.ending.Ending.{Ending}
 use Rattle.occ_term.specs.Endings.{ending_text}

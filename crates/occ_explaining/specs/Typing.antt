@@ -7,7 +7,7 @@ use Rattle.occ_play.specs.Playing.{IsTextsCode, Refuses, Unfolds}
 use Rattle.occ_play.specs.Status.{fault_status}
 use Rattle.occ_play.specs.declared.fault.PlayFault.{PlayFault}
 use Rattle.occ_play.specs.declared.playing.Options.{Options}
-use Rattle.occ_steps.specs.Past.{IsFirstPast}
+use Rattle.occ_report.specs.Past.{IsFirstPast}
 use Rattle.occ_term.specs.UnfoldedProgram.{UnfoldedProgram, meaning}
 use Rattle.occ_term.specs.Uses.{uses_of}
 

@@ -5,7 +5,7 @@ use Rattle.std.specs.Fmt.{decimal}
 use Rattle.occ_explaining.specs.Files.{SourceFiles, files_of, place_told}
 use Rattle.occ_explaining.specs.declared.files.Files.{Files}
 use Rattle.occ_files.specs.Names.{printed_name}
-use Rattle.occ_json.specs.Objects.{number, text, exactly, object_json}
+use Rattle.occ_shown.specs.Objects.{number, text, exactly, object_json}
 use Rattle.occ_play.specs.Playing.{RefusesText}
 use Rattle.occ_play.specs.declared.fault.PlayFault.{PlayFault}
 use Rattle.occ_play.specs.declared.fault.PlayFault.TheVariants as play

@@ -6,7 +6,7 @@ ghost use Rattle.occ_explaining.specs.Studied.{NamesNone};
 ghost use Rattle.occ_chart.specs.Labels.{texts_of};
 
 use crate::studied::Studied;
-use occ_places::{Places, Stop};
+use occ_report::{Places, Stop};
 use std::alloc::{AllocError, Global};
 
 /// How many processes have a name at most, and may stand at the foot.

@@ -8,7 +8,7 @@ use crate::files::{Files, place_told};
 use crate::refusal_names::NAMES;
 use crate::refused::refusal_of;
 use occ_explain::{Explanation, explain};
-use occ_json::{Member, Value, object_line};
+use occ_shown::{Member, Value, object_line};
 use occ_play::PlayFault;
 use std::alloc::{AllocError, Global};
 

@@ -4,7 +4,7 @@ ghost use Rattle.occ_explaining.specs.Studied.{PastBy};
 
 use crate::studied::Studied;
 use occ_net_replay::Choice;
-use occ_steps::first_past;
+use occ_report::first_past;
 use std::alloc::{AllocError, Global};
 
 /// The turn, from 1, of the first of these choices that names none of the processes that are ready then in the run of a source; none

@@ -4,7 +4,7 @@ ghost use Rattle.occ_explaining.specs.Studied.{StepsBy};
 
 use crate::studied::Studied;
 use occ_net_replay::Choice;
-use occ_steps::steps;
+use occ_report::steps;
 use std::alloc::{AllocError, Global};
 
 /// The line of each turn of the run of a source by these choices, with the lines of the source at which turns stop.

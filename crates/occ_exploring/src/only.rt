@@ -5,8 +5,7 @@ ghost use Rattle.occ_play.specs.Playing.{Refuses};
 
 use crate::lines::{write_answer, write_counted};
 use crate::using::uses_of;
-use occ_explore::{Answer, Asked};
-use occ_only_answer::only_answer;
+use occ_explore::{Answer, Asked, only_answer};
 use occ_play::{Options, PlayFault, code_of};
 use occ_term::Ending;
 use std::alloc::{AllocError, Global};

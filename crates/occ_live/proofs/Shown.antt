@@ -6,7 +6,7 @@ use Rattle.std.specs.Prelude.{Err, IfErr, IfOk, Ok, Result}
 use Rattle.occ_term.specs.declared.communication.Communication.{Communication}
 use Rattle.occ_term.specs.Runs.{bytes_of, messages_on}
 use Rattle.occ_live_laws.proofs.Shown.{bytes_more, said_more}
-use Rattle.occ_net_trace.specs.Places.{Place, place_behind}
+use Rattle.occ_net_tables.specs.TracePlaces.{Place, place_behind}
 use Rattle.occ_shown.specs.Answers.{AreByteMessages, channel_bytes}
 use Rattle.occ_shown.specs.Counting.{failures_of as writes_failed, writer_of}
 use Rattle.occ_shown.specs.declared.counted.Counted.{Counted}

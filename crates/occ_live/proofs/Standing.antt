@@ -18,7 +18,7 @@ use Rattle.occ_net_replay.specs.Following.{AreBytes, or_limit}
 use Rattle.occ_net_replay.specs.Replay.{Net, Replays, ending_of, first_net, ready_from, selected_process}
 use Rattle.occ_net_replay.proofs.Law.{replays_are_runs}
 use Rattle.occ_net_tables.specs.Halves.{LooksPastBytes, StaysWithinBytes, with_used}
-use Rattle.occ_net_trace.specs.Places.{Place}
+use Rattle.occ_net_tables.specs.TracePlaces.{Place}
 use Rattle.occ_net_tables.specs.Holding.{Holds, HoldsFirst, trace_in}
 use Rattle.occ_net_tables.specs.Outcomes.{Begins}
 use Rattle.occ_files.specs.Reading.{ReadsNext, reader_of}

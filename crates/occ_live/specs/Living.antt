@@ -16,7 +16,7 @@ use Rattle.occ_choices.specs.declared.plan.Plan.{Plan}
 use Rattle.occ_net_replay.specs.declared.choice.Choice.{Choice}
 use Rattle.occ_net_replay.specs.Following.{AreBytes}
 use Rattle.occ_net_replay.specs.Replay.{HasTask, Net, OneTurn, Replays, ending_of, first_net, ready_from, selected_process}
-use Rattle.occ_net_trace.specs.Places.{Place, place_behind}
+use Rattle.occ_net_tables.specs.TracePlaces.{Place, place_behind}
 use Rattle.occ_net_tables.specs.Halves.{BeganTurn, StaysWithinBytes}
 use Rattle.occ_net_tables.specs.Holding.{Holds, trace_in}
 use Rattle.occ_net_tables.specs.Outcomes.{Begins, IsOutcome}

@@ -5,7 +5,7 @@ ghost use Rattle.occ_shown.specs.Answers.{AreByteMessages};
 ghost use Rattle.occ_shown.specs.Counting.{failures_of};
 
 use crate::fault::LiveFault;
-use occ_net_trace::{Mark, News, Trace};
+use occ_net_tables::{Mark, News, Trace};
 use occ_shown::{Counted, write_answer, write_bytes};
 use occ_term::SCREEN;
 use std::alloc::Global;

@@ -3,7 +3,7 @@ ghost use Rattle.std.specs.Prelude.{◌≡◌, ◌↔◌, ◌∷◌, [], IfNone,
 ghost use Rattle.std.specs.Iterator.{YieldsFirst, item_count};
 ghost use Rattle.occ_net.specs.Histories.{messages_in};
 
-use occ_net_trace::{Entries, MessageView};
+use occ_net_tables::{Entries, MessageView};
 use std::marker::Model;
 
 /// The messages of a channel, in order: a view of the trace.

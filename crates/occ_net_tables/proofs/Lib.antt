@@ -1,3 +1,5 @@
+pub mod Passing
+pub mod Reading
 pub mod ReadyLists
 pub mod Moves
 pub mod LightWaits

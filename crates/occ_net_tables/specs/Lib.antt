@@ -1,3 +1,10 @@
+pub mod Flat
+pub mod Kept
+pub mod Passing
+pub mod TracePlaces
+pub mod TraceRoom
+pub mod Values
+pub mod Views
 pub mod Keys
 pub mod Endings
 pub mod Light

@@ -12,7 +12,7 @@ use crate::tables::Tables;
 use occ_choices::Plan;
 use occ_machine::Code;
 use occ_net_replay::Choice;
-use occ_net_trace::Trace;
+use crate::Trace;
 use occ_proc::Scratch;
 use occ_term::Ending;
 use std::alloc::{AllocError, Global};

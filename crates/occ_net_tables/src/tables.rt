@@ -7,7 +7,7 @@ ghost use Rattle.occ_net_tables.specs.Holding.{HeldBy, HoldsFirst, trace_in};
 use crate::entries::{empty, no_counts};
 use crate::tasks::put_task;
 use occ_machine::{Code, Task, Wait};
-use occ_net_trace::Trace;
+use crate::Trace;
 use occ_term::{Ending, Errors, Fault, Frame};
 use std::alloc::{AllocError, Global};
 

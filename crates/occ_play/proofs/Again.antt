@@ -2,7 +2,7 @@
 use Rattle.std.proofs.Common.{◌≡◌, ◌∙◌, ◌<◌, ◌≤◌, ◌^◌, ◌+◌, ℕ, Bool, List, [], ◌∷◌, ◌++◌, Option, Some, refl, sym, ap, subst, length, arith, length-append, append-nil}
 use Rattle.occ_text.proofs.LineLaws.{one_reading}
 use Rattle.occ_tree_grammar.specs.Processes.Trees.{Item}
-use Rattle.occ_tree_laws.proofs.Whole.{one_tree}
+use Rattle.occ_tree_grammar.proofs.Whole.{one_tree}
 use Rattle.occ_term.specs.Runs.{shown, shown_by}
 use Rattle.occ_term.specs.Terms.{Term}
 use Rattle.occ_term.specs.UnfoldedProgram.{UnfoldedProgram, meaning}

@@ -6,7 +6,7 @@ use Rattle.occ_explaining.specs.Shown.{PageOf}
 use Rattle.occ_explaining.specs.declared.studied.Studied.{Studied}
 use Rattle.occ_explore.specs.declared.exploration.Answer.{Answer}
 use Rattle.occ_explore.specs.declared.exploration.Asked.{Asked}
-use Rattle.occ_json.specs.declared.pages.RunTexts.{RunTexts}
+use Rattle.occ_shown.specs.declared.pages.RunTexts.{RunTexts}
 use Rattle.occ_net_replay.specs.declared.choice.Choice.{Choice}
 use Rattle.occ_play.specs.declared.playing.Options.{Options}
 use Rattle.occ_play_inputs.specs.declared.inputs.Inputs.{Inputs}

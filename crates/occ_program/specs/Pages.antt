@@ -13,7 +13,7 @@ use Rattle.occ_explaining.specs.Explaining.{IsNamedChart, StepsOf}
 use Rattle.occ_explaining.specs.Shown.{IsShownRun, PageOf}
 use Rattle.occ_explaining.specs.Studied.{IsStudied}
 use Rattle.occ_explaining.specs.declared.studied.Studied.{Studied}
-use Rattle.occ_json.specs.declared.pages.RunTexts.{RunTexts}
+use Rattle.occ_shown.specs.declared.pages.RunTexts.{RunTexts}
 use Rattle.occ_net_replay.specs.declared.choice.Choice.{Choice}
 use Rattle.occ_machine.specs.Compiled.{Program}
 use Rattle.occ_play.specs.Playing.{IsTextsCode}

@@ -13,7 +13,7 @@ use crate::program::options_of;
 use occ_explaining::{Studied, page_of, run_texts, study};
 use occ_exploring::{Answer, Asked, MOST_ANSWERS, answer_line};
 use occ_files::Folder;
-use occ_json::RunTexts;
+use occ_shown::RunTexts;
 use occ_play_inputs::{Failure, Inputs, Stream, Words};
 use std::alloc::{AllocError, Global};
 

@@ -1,1 +1,5 @@
+pub mod Adding
+pub mod PlaceLines
 pub mod Lines
+mod Turns
+mod PastReady

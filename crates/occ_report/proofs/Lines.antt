@@ -22,7 +22,7 @@ use Rattle.occ_ends.specs.Endless.{HeldIn}
 use Rattle.occ_ends.specs.ForGood.{AreWaiting}
 use Rattle.occ_ends.specs.Kinds.{IsRest}
 use Rattle.occ_net_replay.specs.Replay.{Tasks}
-use Rattle.occ_places.specs.Places.{Known}
+use Rattle.occ_report.specs.Places.{Known}
 use Rattle.occ_report.specs.Reports.{ended_among, ended_line, for_good_text, those_line, IsCircleOf, IsReport, Noted, choosing_among, circle_text, kind_told, report_head, task_lines, task_line, told_of, task_chooses}
 
 -- a loop's step: the lines so far, and that of one more process

@@ -1,1 +1,5 @@
+pub mod Located
+pub mod Places
 pub mod Reports
+pub mod Steps
+pub mod Past

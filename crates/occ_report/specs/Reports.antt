@@ -27,10 +27,10 @@ use Rattle.occ_ends.specs.Kinds.{IsRest, TellsCircle, kind_of}
 use Rattle.occ_ends.specs.declared.kinds.Kind.{Kind}
 use Rattle.occ_ends.specs.declared.kinds.Kind.TheVariants as stops
 use Rattle.occ_ends.specs.declared.kinds.Left.{Left}
-use Rattle.occ_places.specs.declared.stop.Kind.{Kind as Place}
-use Rattle.occ_places.specs.declared.stop.Kind.TheVariants as kinds
-use Rattle.occ_places.specs.declared.stop.Stop.{Stop}
-use Rattle.occ_places.specs.Places.{Known, name_of, stop_of}
+use Rattle.occ_report.specs.declared.stop.Kind.{Kind as Place}
+use Rattle.occ_report.specs.declared.stop.Kind.TheVariants as kinds
+use Rattle.occ_report.specs.declared.stop.Stop.{Stop}
+use Rattle.occ_report.specs.Places.{Known, name_of, stop_of}
 use Rattle.occ_term.specs.declared.names.Channel.{Channel}
 use Rattle.occ_net_tables.specs.declared.tables.Tables.{Tables}
 use Rattle.occ_net_tables.specs.Holding.{HeldBy}

@@ -1,10 +1,30 @@
-//! What each process stands at where a run has ended without its end: [`report`] tells, of each one that is left, on which
-//! channel it waits, with which message, and who is at its other end; [`circle_of`] which processes wait in a circle.
+//! Where a run stands. [`places_of`] tells of each process the PROC that its branch calls, and the line of what it stops at: it goes
+//! through the tree as the unfolding does, and tells a line only where the code has what the tree has, place by place.
+//! [`report`] tells of each process that is left on which channel it waits, with which message, and who is at its other end.
+//! [`steps`] writes a line for each turn of a run, and [`first_past`] finds a choice that names none of the processes that are ready.
 #![tactic(auto)]
 
+mod agreement;
 mod ended;
+mod heads;
 mod kinds;
+mod past;
+pub mod places;
+pub mod placing;
 pub mod reporting;
+mod scope;
 mod standing;
+mod stepping;
+pub mod stop;
+mod stops;
+mod taking;
+mod text_lines;
+mod walk;
 
+pub use past::first_past;
+pub use places::Places;
+pub use placing::places_of;
 pub use reporting::{circle_of, report};
+pub use stepping::steps;
+pub use stop::{Kind, Stop};
+

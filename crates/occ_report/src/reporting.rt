@@ -10,7 +10,7 @@ use occ_choices::Plan;
 use occ_ends::{Left, ProcessUses, ends_of, left_in, waiting_in};
 use occ_machine::Code;
 use occ_net_tables::{Keep, Ran, Tables, run_tables};
-use occ_places::Places;
+use crate::Places;
 use occ_term::Ending;
 use std::alloc::{AllocError, Global};
 

@@ -13,7 +13,7 @@ use Rattle.occ_board.specs.Traces.{Publishing, all_published, held_by, publishin
 use Rattle.occ_board.proofs.Prefixes.{prefix_self, prefix_trans}
 use Rattle.occ_net.specs.Networks.{IsNetwork, IsState, Past}
 use Rattle.occ_net_replay.specs.Replay.{Net, Replays, begins, first_net}
-use Rattle.occ_net_trace.specs.Places.{Place, StandBehind, place_behind}
+use Rattle.occ_net_tables.specs.TracePlaces.{Place, StandBehind, place_behind}
 use Rattle.occ_shown.specs.Answers.{entries_in, names_of}
 use Rattle.occ_run.specs.Gathered.{IsOfRun}
 use Rattle.occ_run.specs.Telling.{IsBehind, IsNext, IsTake, IsTraceOf, MayTell, and_news, taken}

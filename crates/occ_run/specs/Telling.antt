@@ -12,7 +12,7 @@ use Rattle.occ_board.specs.Traces.{Publishing, publishing}
 use Rattle.occ_net.specs.Networks.{InState, IsState, Past}
 use Rattle.occ_net_replay.specs.declared.choice.Choice.{Choice}
 use Rattle.occ_net_replay.specs.Replay.{Net, Replays}
-use Rattle.occ_net_trace.specs.Places.{Place, StandBehind, place_behind}
+use Rattle.occ_net_tables.specs.TracePlaces.{Place, StandBehind, place_behind}
 use Rattle.occ_shown.specs.Answers.{entries_in, names_of}
 
 -- behind what was held the network's trace was published, and the board is closed

@@ -18,7 +18,7 @@ use crate::tokens::{Token, Tokens, come_back, end, go_out};
 use occ_board::{Front, Head};
 use occ_machine::Task;
 use occ_net::Lease;
-use occ_net_trace::{Mark, News};
+use occ_net_tables::{Mark, News};
 use occ_proc::Scratch;
 use std::alloc::{AllocError, Global};
 use std::marker::{Brand, Model, PhantomData};

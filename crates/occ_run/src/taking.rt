@@ -5,7 +5,7 @@ ghost use Rattle.occ_run.specs.Telling.{IsNext, taken};
 use crate::desk::OneRun;
 use logbook::Plain;
 use occ_board::{Edition, Front, Head};
-use occ_net_trace::Trace;
+use occ_net_tables::Trace;
 use std::marker::PhantomData;
 
 /// The edition that is all of a trace.

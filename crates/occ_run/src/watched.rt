@@ -25,7 +25,7 @@ use occ_board::{Front, Head, Naming, Note, Publisher, Shown, open_history};
 use occ_choices::is_crew;
 use occ_machine::Code;
 use occ_net::{Network, Outcome};
-use occ_net_trace::{Mark, News, Trace};
+use occ_net_tables::{Mark, News, Trace};
 use occ_shown::{is_shown, shown_as};
 use occ_term::Channel;
 use std::alloc::{AllocError, Global};

@@ -4,7 +4,7 @@ use Rattle.std.specs.Prelude.{if◌then◌else◌, nat_eq}
 use Rattle.std.proofs.lemmas.Bool.{eq-eqb, eqb-true}
 use Rattle.occ_term.specs.Runs.{bytes_in, bytes_of, messages_on}
 use Rattle.occ_term.specs.declared.communication.Communication.{Communication as Made}
-use Rattle.occ_net_trace.specs.Passing.{AreElsewhere, FindsNext}
+use Rattle.occ_net_tables.specs.Passing.{AreElsewhere, FindsNext}
 use Rattle.occ_shown.specs.Answers.{AreByteMessages, IsByteMessage}
 
 -- those that are elsewhere give none

@@ -1,2 +1,5 @@
 pub mod Answers
 pub mod Counting
+pub mod Json
+pub mod Objects
+pub mod Pages

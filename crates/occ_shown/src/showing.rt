@@ -3,10 +3,10 @@ ghost use Rattle.std.specs.Prelude.{◌≡◌, ◌∷◌, [], ◌<◌, ◌+◌, 
 ghost use Rattle.std.specs.Option.{option_copied};
 ghost use Rattle.occ_term.specs.Runs.{bytes_in, entries};
 ghost use Rattle.occ_shown.specs.Answers.{AreByteMessages, IsByteMessage, answer_text, part_text, later_text, items_text, end_text, ends_text, line_text, trace_text, report_of, HasBytes, all_shown, channel_bytes, bytes_sent, channel_head, communication_text, entries_in, entry_at, items_on, with_report, AddsText};
-ghost use Rattle.occ_net_trace.specs.Views.{part_viewed};
+ghost use Rattle.occ_net_tables.specs.Views.{part_viewed};
 
 use crate::values::{tag_name, write_array, write_name, write_number, write_value};
-use occ_net_trace::{Entries, Entry, MessageView, PartView, PartViews, Trace};
+use occ_net_tables::{Entries, Entry, MessageView, PartView, PartViews, Trace};
 use occ_term::{Channel, ERROR, End, Ending, Primitive, Protocol, SCREEN};
 use std::alloc::{AllocError, Global};
 

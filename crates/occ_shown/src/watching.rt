@@ -3,12 +3,12 @@ ghost use Rattle.std.specs.Prelude.{◌≡◌, ◌↔◌, IfOk, IsTrue, OnOk, sl
 ghost use Rattle.std.specs.Option.{option_copied};
 ghost use Rattle.occ_term.specs.Runs.{entries, tag_shown};
 ghost use Rattle.occ_shown.specs.Answers.{items_text, later_text, line_text, name_of_channel, names_of, part_text, trace_text, entries_in, entry_at, entry_head, AddsText};
-ghost use Rattle.occ_net_trace.specs.Views.{part_viewed};
+ghost use Rattle.occ_net_tables.specs.Views.{part_viewed};
 
 use crate::showing::{LINE_FEED, write_ends, write_part};
 use crate::values::{tag_name, write_number};
 use occ_board::Shown;
-use occ_net_trace::{Entry, PartView, Trace};
+use occ_net_tables::{Entry, PartView, Trace};
 use occ_term::{Channel, Name, Part, Text};
 use std::alloc::{AllocError, Global};
 

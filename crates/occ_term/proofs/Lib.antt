@@ -31,3 +31,5 @@ pub mod ExpressionExamples
 pub mod ProcessExamples
 pub mod FaultExamples
 pub mod NetworkExamples
+pub mod Chained
+pub mod Chains

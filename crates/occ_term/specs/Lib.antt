@@ -43,3 +43,5 @@ pub mod FaultExamples
 pub mod NetworkExamples
 pub mod CommonOperators
 pub mod FrameParts
+pub mod Chains
+pub mod Operands

@@ -1,11 +1,13 @@
 //! What a program means: messages, terms, values, private steps, communication and runs, and when a
 //! program keeps the usage rules. The definitions stand in `specs/`, over pure data, through which this
 //! crate's types are seen; [`laws`] and the small programs of [`examples`] check them, and [`value_of`] answers
-//! what an expression is worth.
+//! what an expression is worth. [`value_of_constant`] answers that of expressions without a cell, a component and a letter of a
+//! string, also where an operand is a number that is no INT, and [`is_constant`] says which those are.
 #![tactic(auto)]
 
 pub mod cell_rows;
 pub mod communication;
+mod constant;
 pub mod ending;
 pub mod examples;
 pub mod expression;
@@ -28,6 +30,7 @@ pub mod value;
 
 pub use cell_rows::{CellRow, CellRows};
 pub use communication::{Communication, End};
+pub use constant::{is_constant, value_of_constant};
 pub use ending::Ending;
 pub use expression::{
     Array, Declaration, Item, Monadic, Operator, Place, Replicator, Target, TermExpr,
@@ -45,3 +48,4 @@ pub use term::{Arm, Branch, Choice, Reception, Selection, Term, Variant};
 pub use text::Text;
 pub use unfolded::Unfolded;
 pub use value::value_of;
+

@@ -14,7 +14,7 @@ use occ_text::{Line, Source};
 use occ_tree_grammar::ParseFault;
 use occ_tree_grammar::limits::MOST_LEVELS;
 use occ_tree_grammar::tree::process::{Item, Program};
-use occ_tree_processes::processes::read::declaration;
+use occ_tree_reader::processes::read::declaration;
 use std::alloc::Global;
 
 /// The lines, where there is one.

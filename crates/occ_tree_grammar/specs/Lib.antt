@@ -5,3 +5,5 @@ pub mod Lines
 pub mod Lists
 pub mod Many
 pub mod Processes
+pub mod Joining
+pub mod Laws

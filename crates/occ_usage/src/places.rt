@@ -8,8 +8,7 @@ ghost use Rattle.occ_usage.specs.Noted.{on_component, span_named};
 ghost use Rattle.occ_term.specs.View.{array_of, expression_of, item_of, place_of};
 ghost use Rattle.occ_term.specs.Terms as terms;
 
-use occ_constants::{is_constant, value_of_constant};
-use occ_term::{Array, Item, Place, TermExpr};
+use occ_term::{Array, Item, Place, TermExpr, is_constant, value_of_constant};
 
 /// Numbers one after another.
 #[derive(Clone, Copy)]

@@ -38,10 +38,10 @@ fn laws_can_be_called(_rt: HostRuntime) {
     occ_term::laws::steps::one_turn();
     occ_term::laws::runs::one_ending();
     occ_text::laws::one_reading();
-    occ_tree_laws::laws::one_form();
-    occ_tree_laws::laws::reading();
-    occ_tree_laws::laws::reading_expressions();
-    occ_tree_laws::laws::operators_lead_on();
+    occ_tree_grammar::laws::one_form();
+    occ_tree_grammar::laws::reading();
+    occ_tree_grammar::laws::reading_expressions();
+    occ_tree_grammar::laws::operators_lead_on();
     occ_net_replay::laws::replays_are_runs();
     occ_net_replay::laws::ready_tasks_stop();
     occ_code::laws::one_code();

@@ -6,7 +6,7 @@ use Rattle.occ_tree_grammar.specs.Processes.Views.{arm_of, choice_of, process_of
 use Rattle.occ_term.specs.View.{arms_of, branch_of, branches_of, choices_of, declarations_of, option_of, options_of, term_of, variant_of as term_variant_of, variants_of}
 use Rattle.occ_check_meaning.specs.Actions.{headed, new_tag, none_chosen}
 use Rattle.occ_tree_grammar.specs.Lines.Views as lines
-use Rattle.occ_check_clashes.specs.Tags.{listed_in}
+use Rattle.occ_check_typing.specs.Tags.{listed_in}
 use Rattle.occ_check_parts.proofs.VariantLists.{no_more_variants, no_tag, tags_kept, variant_done, variant_refused, variants_grown, variants_none, variants_step}
 use Rattle.occ_check_acting.specs.Action.{chosen_of}
 use Rattle.occ_check.proofs.Gathering.{gathered_first, gathered_last, gathered_next, gathered_refused, part_within}

@@ -13,7 +13,7 @@ use Rattle.occ_check.proofs.Gathering.{Gathered}
 use Rattle.occ_check_parts.proofs.ChoiceLists.{choices_in, put_choices}
 use Rattle.occ_check_parts.proofs.ArmLists.{arms_in, put_arms}
 use Rattle.occ_check_parts.proofs.OptionLists.{options_in, put_options}
-use Rattle.occ_check_clashes.specs.Tags.{AreTagsOf, listed_in}
+use Rattle.occ_check_typing.specs.Tags.{AreTagsOf, listed_in}
 use Rattle.occ_check_parts.proofs.VariantLists.{put_variants, variants_in}
 use Rattle.occ_check_parts.proofs.Beside.{branches_in, branch_one, branch_step, put_branch}
 use Rattle.occ_check.proofs.InTurn.{in_turn, in_turn_one, in_turn_step, put_term}

@@ -1,6 +1,6 @@
 use Rattle.std.proofs.Common.{rules}
 use Rattle.occ_tree_grammar.specs.Processes.Views.{program_of}
-use Rattle.occ_check_laws.proofs.WellFormed.{well_formed}
+use Rattle.occ_check_meaning.proofs.WellFormed.{well_formed}
 use Rattle.occ_check.specs.CheckRefuses.{CheckRefuses}
 use Rattle.occ_check.proofs.WholePrograms.{all_refused, found_unfolds}
 use Rattle.occ_check.proofs.program.unfold.Goals as goal

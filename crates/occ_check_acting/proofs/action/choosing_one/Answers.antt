@@ -4,7 +4,7 @@ use Rattle.indexmap.specs.IndexMap.{keys}
 use Rattle.std.proofs.lemmas.Int.{to_z-of_z}
 use Rattle.occ_check_meaning.specs.Actions.{has_constant}
 use Rattle.occ_check_acting.specs.Action.{chosen_of}
-use Rattle.occ_check_clashes.proofs.Among.{constant_told, constants_more}
+use Rattle.occ_check_typing.proofs.Among.{constant_told, constants_more}
 use Rattle.occ_check_acting.proofs.CaseConstants.{chosen_before, chosen_now}
 use Rattle.occ_check_typing.proofs.Refusals.{refused}
 use Rattle.occ_check_acting.proofs.action.choosing_one.Goals as goal

@@ -1,7 +1,7 @@
 use Rattle.std.proofs.Common.{ap, subst, sym, ◌∙◌}
 use Rattle.occ_term.specs.View.{targets_of}
 use Rattle.occ_check_meaning.specs.Items.{apart}
-use Rattle.occ_check_clashes.specs.Clash.{stretches_at}
+use Rattle.occ_check_typing.specs.Clash.{stretches_at}
 use Rattle.occ_check_names.specs.View.{Refuses}
 use Rattle.occ_check_acting.proofs.Targets.{stored_clashes, stored_gives, stored_nothing}
 use Rattle.occ_check_acting.proofs.target.stored_list.Goals as goal

@@ -1,6 +1,6 @@
 use Rattle.std.proofs.Common.{◌≡◌, ◌<◌, ◌≤◌, ◌∙◌, [], ap, arith, length, map, subst, sym}
-use Rattle.occ_explore_walks.specs.declared.graph.Lasting.TheVariants.{Forever, Within}
-use Rattle.occ_explore_walks.specs.Walks.{IsGraph, IsLasting}
+use Rattle.occ_explore_laws.specs.declared.graph.Lasting.TheVariants.{Forever, Within}
+use Rattle.occ_explore_laws.specs.Walks.{IsGraph, IsLasting}
 use Rattle.occ_ends.specs.Ends.{AreWaits, Circles, IsCircle, IsRing, others_noted}
 use Rattle.occ_ends.proofs.Rounds.{no_waits, ring_is, some_circles, within_graph}
 use Rattle.occ_ends.proofs.circling.circle.Goals as goal

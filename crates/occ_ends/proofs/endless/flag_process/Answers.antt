@@ -1,6 +1,6 @@
 use Rattle.std.proofs.Common.{◌≡◌, ◌∙◌, ◌⊎◌, inl, inr, ap, refl, true, IsTrue, Some}
 use Rattle.std.specs.Prelude.{slice_get}
-use Rattle.occ_explore_walks.proofs.Lists.{at_index, set_many}
+use Rattle.occ_explore_laws.proofs.Lists.{at_index, set_many}
 use Rattle.occ_ends.specs.Endless.{StandsInLoop, flag, is_set}
 use Rattle.occ_ends.proofs.Flagging.{gets, has_none, is_endless, is_not}
 use Rattle.occ_ends.proofs.endless.flag_process.Goals as goal

@@ -1,6 +1,6 @@
 use Rattle.std.proofs.Common.{arith, below_more}
 use Rattle.occ_machine.specs.declared.instr.Instr.TheVariants.{LoopBack}
-use Rattle.occ_explore_walks.proofs.Lists.{get_inside}
+use Rattle.occ_explore_laws.proofs.Lists.{get_inside}
 use Rattle.occ_ends.proofs.endless.is_in_endless_loop.Goals as goal
 
 pub loop-last-preserved : goal.loop-last-preserved

@@ -1,7 +1,7 @@
 use Rattle.std.proofs.Common.{◌≡◌, ◌≤◌, ◌<◌, ◌+◌, ◌∙◌, ap, arith, inl, length, refl, sym, true, Some}
 use Rattle.std.specs.Prelude.{option_map, slice_get, slice_set}
 use Rattle.occ_net_replay.proofs.Tables.{set_other, set_same}
-use Rattle.occ_explore_walks.proofs.Lists.{at_index, set_many}
+use Rattle.occ_explore_laws.proofs.Lists.{at_index, set_many}
 use Rattle.occ_ends.specs.Ends.{marked}
 use Rattle.occ_ends.proofs.Marking.{mark_end, mark_step}
 use Rattle.occ_ends.proofs.ends.mark.Goals as goal

@@ -1,6 +1,6 @@
 use Rattle.std.proofs.Common.{map}
 use Rattle.occ_ends.specs.Ends.{noted_for}
-use Rattle.occ_explore_walks.proofs.Lists.{at_index}
+use Rattle.occ_explore_laws.proofs.Lists.{at_index}
 use Rattle.occ_ends.proofs.ClosedSets.{read_mapped}
 use Rattle.occ_ends.proofs.for_good.leave_out_insides.Goals as goal
 

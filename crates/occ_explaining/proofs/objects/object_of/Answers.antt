@@ -1,6 +1,6 @@
 use Rattle.std.proofs.Common.{◌≡◌, ◌∙◌, subst}
 use Rattle.std.specs.Prelude.{IfOk, codes}
-use Rattle.occ_json.specs.Objects.{object_json}
+use Rattle.occ_shown.specs.Objects.{object_json}
 use Rattle.occ_explaining.proofs.Members.{refusal_same}
 use Rattle.occ_explaining.proofs.objects.object_of.Goals as goal
 

@@ -1,7 +1,7 @@
 use Rattle.std.proofs.Common.{◌≡◌, ◌∙◌, ap, map, subst}
 use Rattle.occ_ends.specs.Ends.{all_using, noted_for}
 use Rattle.occ_text.specs.Words.{logical_lines}
-use Rattle.occ_places.specs.Places.{Fits}
+use Rattle.occ_report.specs.Places.{Fits}
 use Rattle.occ_term.specs.UnfoldedProgram.{meaning}
 use Rattle.occ_term.specs.View.{term_of}
 use Rattle.occ_explaining.proofs.studied.study.Goals as goal

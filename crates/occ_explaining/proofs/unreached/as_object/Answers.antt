@@ -1,6 +1,6 @@
 use Rattle.std.proofs.Common.{◌≡◌, ◌∙◌, ◌+◌, ◌*◌, ap, subst}
 use Rattle.std.specs.Prelude.{IfOk, codes}
-use Rattle.occ_json.specs.Objects.{object_json}
+use Rattle.occ_shown.specs.Objects.{object_json}
 use Rattle.occ_explaining.proofs.Members.{unchecked_same}
 use Rattle.occ_explaining.proofs.unreached.as_object.Goals as goal
 

@@ -1,7 +1,7 @@
 use Rattle.std.proofs.Common.{map, subst}
 use Rattle.std.specs.Prelude.{IfSome}
 use Rattle.occ_ends.specs.Ends.{noted_for}
-use Rattle.occ_only_answer.specs.Only.{IsOnlyAnswer}
+use Rattle.occ_explore.specs.Only.{IsOnlyAnswer}
 use Rattle.occ_exploring.proofs.OfUses.{only_by}
 use Rattle.occ_exploring.proofs.only.only_answer_in.Goals as goal
 

@@ -2,7 +2,7 @@ use Rattle.std.proofs.Common.{◌≡◌, ◌+◌, ◌∙◌, ◌++◌, [], ◌�
 use Rattle.occ_exploring.specs.Texts.{answer_line}
 use Rattle.occ_explaining.specs.Shown.{IsShownRun}
 use Rattle.occ_explore.specs.declared.exploration.Answer.{Answer}
-use Rattle.occ_json.specs.declared.pages.RunTexts.{RunTexts}
+use Rattle.occ_shown.specs.declared.pages.RunTexts.{RunTexts}
 use Rattle.occ_net_replay.specs.declared.choice.Choice.{Choice}
 use Rattle.occ_program.specs.Coming.{options_in}
 use Rattle.occ_program.specs.Pages.{AreRunsOf}

@@ -1,5 +1,5 @@
 use Rattle.std.proofs.Common.{List, ◌≡◌, ◌+◌, ◌++◌, length}
-use Rattle.occ_json.specs.declared.pages.RunTexts.{RunTexts}
+use Rattle.occ_shown.specs.declared.pages.RunTexts.{RunTexts}
 use Rattle.occ_program.specs.Pages.{AreRunsOf}
 use Rattle.occ_program.proofs.paging.runs_of.Given as goal
 

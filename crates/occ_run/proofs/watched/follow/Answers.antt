@@ -2,7 +2,7 @@ use Rattle.std.proofs.Common.{◌≡◌, ◌∙◌, refl, sym, ap, subst, List}
 use mathlib.Core.List.{IsPrefix}
 use Rattle.occ_term.specs.declared.names.Channel.{Channel}
 use Rattle.occ_board.specs.Traces.{Publishing}
-use Rattle.occ_net_trace.specs.Places.{place_behind}
+use Rattle.occ_net_tables.specs.TracePlaces.{place_behind}
 use Rattle.occ_run.specs.Telling.{and_news}
 use Rattle.occ_run.proofs.Telling.{begins_held, few, held_begins, may_show, told_first, told_next}
 use Rattle.occ_run.proofs.watched.follow.Goals as goal

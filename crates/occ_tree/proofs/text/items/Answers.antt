@@ -2,7 +2,7 @@ use Rattle.std.proofs.Common.{◌≡◌, ◌∷◌, ◌++◌, [], map}
 use Rattle.std.proofs.lemmas.List.{map_push}
 use Rattle.std.proofs.lemmas.Result.{err_from_is_err_and}
 use Rattle.occ_tree_grammar.specs.Processes.Views.{item_of}
-use Rattle.occ_tree_parts.proofs.ManyLoop.{goes_on, ends, is_full, is_last}
+use Rattle.occ_tree_reader.proofs.ManyLoop.{goes_on, ends, is_full, is_last}
 use Rattle.occ_tree.proofs.text.items.Goals.{else-loop-test, then-loop-test+in_default}
 use Rattle.occ_tree.proofs.text.items.Goals as goal
 

@@ -5,7 +5,7 @@ use Rattle.occ_tree_grammar.specs.Many.{as_many}
 use Rattle.occ_tree_grammar.specs.Processes.Trees.{Item}
 use Rattle.occ_tree_grammar.specs.Processes.Views.{item_of}
 use Rattle.occ_tree_grammar.specs.Processes.Reading.{at_any, item_at}
-use Rattle.occ_tree_parts.proofs.ManyLoop.{SoFar}
+use Rattle.occ_tree_reader.proofs.ManyLoop.{SoFar}
 use Rattle.occ_tree.proofs.text.items.Given as goal
 
 abbrev pub invariant-loop : goal.invariant-loop

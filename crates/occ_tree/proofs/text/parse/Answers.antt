@@ -3,7 +3,7 @@ use Rattle.occ_text.specs.Words.{logical_lines}
 use Rattle.occ_tree_grammar.specs.Expressions.Reading.{Gives}
 use Rattle.occ_tree_grammar.specs.Processes.Trees.{Item}
 use Rattle.occ_tree_grammar.specs.Processes.Views.{program_of}
-use Rattle.occ_tree_laws.proofs.Whole.{is_found, is_read}
+use Rattle.occ_tree_grammar.proofs.Whole.{is_found, is_read}
 use Rattle.occ_tree.proofs.text.parse.Goals as goal
 
 pub returns-clause-found : goal.returns-clause-found

@@ -1,5 +1,0 @@
-use Rattle.occ_check_laws.proofs.ScopedTree as Scoped
-use Rattle.occ_check_laws.proofs.laws.alternatives_are_scoped.Goals as goal
-
-pub returns : goal.returns
-returns c = λ items t m u. Scoped.alternatives_are_scoped u

@@ -1,5 +1,0 @@
-use Rattle.occ_check_laws.proofs.ScopedTree as Scoped
-use Rattle.occ_check_laws.proofs.laws.arms_set_the_same_again.Goals as goal
-
-pub returns : goal.returns
-returns c = λ items t m u. Scoped.arms_set_the_same_again u

@@ -1,5 +1,0 @@
-use Rattle.occ_check_laws.proofs.OrderedProgram as Ordered
-use Rattle.occ_check_laws.proofs.laws.cells_in_order.Goals as goal
-
-pub returns : goal.returns
-returns c = λ items t m u. Ordered.cells_in_order u

@@ -1,5 +1,0 @@
-use Rattle.occ_check_laws.proofs.Limits.{keeps_limits}
-use Rattle.occ_check_laws.proofs.laws.limits_are_kept.Goals as goal
-
-pub returns : goal.returns
-returns c = λ items t m u. keeps_limits u

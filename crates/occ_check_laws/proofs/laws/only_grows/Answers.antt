@@ -1,5 +1,0 @@
-use Rattle.occ_check_laws.proofs.Growth.{unfolding_grown, program_grown, start_limits}
-use Rattle.occ_check_laws.proofs.laws.only_grows.Goals as goal
-
-pub returns : goal.returns
-returns c = record { part = λ sc depth n m p t u. unfolding_grown u; whole = λ items t m u. (program_grown u, (program_grown u).limits start_limits) }

@@ -1,5 +1,0 @@
-use Rattle.occ_check_laws.proofs.Numbering.{unfolding_numbered, program_numbered}
-use Rattle.occ_check_laws.proofs.laws.processes_in_order.Goals as goal
-
-pub returns : goal.returns
-returns c = record { part = λ sc depth n m p t u. unfolding_numbered u; whole = λ items t m u. program_numbered u }

@@ -1,8 +1,0 @@
-pub mod Counting
-pub mod Having
-pub mod Numbering
-pub mod Growth
-pub mod CellOrder
-pub mod Scoping
-pub mod Limits
-pub mod Laws

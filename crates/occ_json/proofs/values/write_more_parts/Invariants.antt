@@ -1,6 +1,0 @@
-use Rattle.std.proofs.Common.{◌≡◌, ◌++◌, take}
-use Rattle.occ_json.specs.Json.{more_parts}
-use Rattle.occ_json.proofs.values.write_more_parts.Given as goal
-
-abbrev pub invariant-loop-part : goal.invariant-loop-part
-invariant-loop-part l = l.out.items ≡ l.fn.out.items ++ more_parts (take l.part-index l.parts)

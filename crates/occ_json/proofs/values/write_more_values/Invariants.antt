@@ -1,6 +1,0 @@
-use Rattle.std.proofs.Common.{◌≡◌, ◌++◌, take}
-use Rattle.occ_json.specs.Json.{more_values}
-use Rattle.occ_json.proofs.values.write_more_values.Given as goal
-
-abbrev pub invariant-loop-value : goal.invariant-loop-value
-invariant-loop-value l = l.out.items ≡ l.fn.out.items ++ more_values l.primitive (take l.value-index l.values)

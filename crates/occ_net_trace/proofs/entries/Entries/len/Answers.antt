@@ -1,6 +1,0 @@
-use Rattle.std.proofs.Common.{◌∙◌, ap, length, sym}
-use Rattle.occ_net_trace.proofs.Reading.{count_read}
-use Rattle.occ_net_trace.proofs.entries.Entries.len.Goals as goal
-
-pub returns : goal.returns
-returns c = sym (count_read c.self.inside.heads.now _ _ _) ∙ ap length c.self.view_is

@@ -1,6 +1,0 @@
-use Rattle.std.proofs.Common.{take}
-use Rattle.occ_net_trace.specs.Passing.{HeadsElsewhere}
-use Rattle.occ_net_trace.proofs.entries.place_on.Given as goal
-
-abbrev pub invariant-loop-place : goal.invariant-loop-place
-invariant-loop-place l = HeadsElsewhere l.chan (take l.place l.heads)

@@ -1,2 +1,0 @@
-mod Choices
-mod Like

@@ -1,4 +1,0 @@
-use Rattle.occ_places.proofs.scope.Procedures.find.Given as goal
-
-abbrev pub decreases-outwards : goal.decreases-outwards
-decreases-outwards l = l.steps

@@ -1,7 +1,0 @@
--- What is known of a process, as the code has it.
--- Manual: nothing; this is (own).
-use Rattle.occ_places.specs.Places.{Known}
-use Rattle.occ_places.specs.declared.places.Located.{Located}
-
-abbrev pub known : Located → Known
-known l = record { name = l.name.items; stops = l.stops.items }

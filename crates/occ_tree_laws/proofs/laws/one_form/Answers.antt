@@ -1,9 +1,0 @@
-use Rattle.occ_tree_laws.proofs.ProcessAgain.{one_program}
-use Rattle.occ_tree_laws.proofs.Whole.{one_tree}
-use Rattle.occ_tree_laws.proofs.laws.one_form.Goals as goal
-
-pub returns-clause-within : goal.returns-clause-within
-returns-clause-within c = one_tree
-
-pub returns-clause-under_any_bounds : goal.returns-clause-under_any_bounds
-returns-clause-under_any_bounds c = one_program

@@ -1,9 +1,0 @@
-use Rattle.occ_tree_laws.proofs.ProcessSound.{program_sound}
-use Rattle.occ_tree_laws.proofs.ProcessAgain.{program_again}
-use Rattle.occ_tree_laws.proofs.laws.reading.Goals as goal
-
-pub returns-clause-sound : goal.returns-clause-sound
-returns-clause-sound c = program_sound
-
-pub returns-clause-again : goal.returns-clause-again
-returns-clause-again c = program_again

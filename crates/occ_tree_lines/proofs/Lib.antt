@@ -1,2 +1,0 @@
-mod Arms
-mod DeclaredNames

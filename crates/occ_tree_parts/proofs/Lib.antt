@@ -1,2 +1,0 @@
-pub mod ManyLoop
-pub mod Steps

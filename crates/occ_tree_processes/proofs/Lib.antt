@@ -1,2 +1,0 @@
-mod Levels
-mod Openings

@@ -1,3 +1,0 @@
-pub mod Heads
-pub mod Opened
-pub mod Rows

@@ -1,0 +1,4 @@
+pub mod Reads
+pub mod Heads
+pub mod Opened
+pub mod Rows
