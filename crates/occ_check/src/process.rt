@@ -9,7 +9,6 @@ ghost use Rattle.occ_check_opened.specs.Progress.{Reads};
 ghost use Rattle.occ_check_parts.specs.Copies.{ReadsCopies};
 
 use crate::opening::process_opened;
-use occ_check_typing::tags::Tags;
 use occ_check_names::fault::CheckFault;
 use occ_check_opened::entering::headed;
 use occ_check_opened::here::Here;
@@ -20,6 +19,7 @@ use occ_check_parts::choices::{OpenedChoice, choice_opened};
 use occ_check_parts::copies::{OpenedCopy, copy_opened, next_value};
 use occ_check_parts::options::{OpenedOption, none_chosen, option_opened};
 use occ_check_parts::variants::{OpenedVariant, line_of, tag_of, variant_opened};
+use occ_check_typing::tags::Tags;
 use occ_held::Held;
 use occ_held::parts::Listed;
 use occ_term::{

@@ -8,11 +8,11 @@ ghost use Rattle.occ_check_meaning.specs.Items as meant;
 ghost use Rattle.occ_check_names.specs.View.{Allows, Gives, part_of};
 ghost use Rattle.occ_term.specs.View.{place_of, target_of, targets_of};
 
-use occ_check_typing::clash::some_clash;
 use occ_check_names::context::Context;
 use occ_check_names::fault::CheckFault;
 use occ_check_names::operators::is_same_type;
 use occ_check_names::typed::Part;
+use occ_check_typing::clash::some_clash;
 use occ_check_typing::item::variable_of;
 use occ_check_typing::types::are_same_sizes;
 use occ_held::Held;

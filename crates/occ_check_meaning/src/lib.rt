@@ -7,4 +7,3 @@
 pub mod laws;
 pub mod rows;
 pub mod well_formed;
-

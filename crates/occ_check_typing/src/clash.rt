@@ -11,9 +11,9 @@ ghost use Rattle.occ_check_names.specs.View.{subscripts_of};
 
 use crate::named::span_named;
 use crate::naming::some_names_another;
-use occ_check_names::constant::constant_of;
 use crate::overlap::some_meet;
 use crate::span::Span;
+use occ_check_names::constant::constant_of;
 use occ_term::{Place, Target, TermExpr};
 use std::alloc::{AllocError, Global};
 

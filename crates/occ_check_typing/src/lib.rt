@@ -18,4 +18,3 @@ pub mod replicator;
 pub mod span;
 pub mod tags;
 pub mod types;
-

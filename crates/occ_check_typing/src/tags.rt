@@ -7,10 +7,10 @@ ghost use Rattle.occ_check_names.specs.View.{Answers};
 ghost use Rattle.occ_check_names.specs.declared.fault.CheckFault.TheVariants.{Memory};
 ghost use Rattle.occ_check_typing.specs.Tags.{AreTagsOf, listed_in, number_at, tags_of, next_tag};
 
+use crate::item::word_of;
 use indexmap::IndexMap;
 use occ_check_names::fault::CheckFault;
 use occ_check_names::listing::{Words, list_word};
-use crate::item::word_of;
 use occ_held::letters::Letters;
 use occ_term::{Protocol, Tag};
 use std::alloc::Global;

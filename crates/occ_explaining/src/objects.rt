@@ -8,8 +8,8 @@ use crate::files::{Files, place_told};
 use crate::refusal_names::NAMES;
 use crate::refused::refusal_of;
 use occ_explain::{Explanation, explain};
-use occ_shown::{Member, Value, object_line};
 use occ_play::PlayFault;
+use occ_shown::{Member, Value, object_line};
 use std::alloc::{AllocError, Global};
 
 /// Whether a name may have this byte.

@@ -8,9 +8,9 @@ use crate::reported::report_of;
 use crate::stepped::steps_of;
 use crate::studied::Studied;
 use crate::tracing::{Form, trace_of};
-use occ_shown::{RunTexts, page};
 use occ_net_replay::Choice;
 use occ_report::Places;
+use occ_shown::{RunTexts, page};
 use std::alloc::{AllocError, Global};
 
 /// What a page has of the run of a source by these choices: this line, the trace, the turns, and the report on the end.

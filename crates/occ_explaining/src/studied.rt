@@ -7,8 +7,8 @@ ghost use Rattle.occ_text.specs.Words.{logical_lines};
 
 use occ_ends::{ProcessUses, process_uses};
 use occ_machine::Code;
-use occ_report::{Places, places_of};
 use occ_play::{Options, PlayFault, code_of, unfolded_of};
+use occ_report::{Places, places_of};
 use occ_text::{Source, read_lines};
 use occ_tree::parse;
 use occ_tree_grammar::tree::process::Program;

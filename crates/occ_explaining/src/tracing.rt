@@ -8,9 +8,9 @@ ghost use Rattle.occ_explaining.specs.Traced.{IsFormText};
 use crate::reported::plan_of;
 use crate::studied::Studied;
 use occ_board::Shown;
-use occ_shown::{json_lines, shown_as, watch_lines};
 use occ_net_replay::Choice;
 use occ_net_tables::{Trace, run};
+use occ_shown::{json_lines, shown_as, watch_lines};
 use occ_term::{Channel, Ending};
 use std::alloc::{AllocError, Global};
 

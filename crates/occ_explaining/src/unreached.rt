@@ -7,9 +7,9 @@ ghost use Rattle.occ_reach.specs.Reach.{unchecked_head};
 use crate::files::{Files, place_told};
 use crate::studied::lines_of;
 use occ_files::printed_name;
-use occ_shown::{Member, Value, object_line};
 use occ_play::PlayFault;
 use occ_reach::{Unchecked, unchecked_procs};
+use occ_shown::{Member, Value, object_line};
 use std::alloc::{AllocError, Global};
 
 /// The name of a file, where the source has several.

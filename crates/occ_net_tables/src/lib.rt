@@ -33,4 +33,3 @@ pub use tables::Tables;
 pub use trace::Trace;
 pub use trace_entries::{Entries, Entry};
 pub use turning::Begun;
-

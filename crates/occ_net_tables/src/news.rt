@@ -2,9 +2,9 @@
 ghost use Rattle.std.specs.Prelude.{◌≡◌, [], OnOk, drop};
 ghost use Rattle.occ_net_tables.specs.Kept.{kept_behind};
 
-use crate::trace_entries::Entries;
 use crate::lists::Lists;
 use crate::pieces::Pieces;
+use crate::trace_entries::Entries;
 use std::alloc::{AllocError, Global};
 use std::marker::Model;
 

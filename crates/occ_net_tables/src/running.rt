@@ -7,12 +7,12 @@ ghost use Rattle.occ_net_tables.specs.Rows.{CanRunRow, KeepsRow};
 ghost use Rattle.occ_net_tables.specs.Turning.{HasRunSoFar};
 ghost use Rattle.occ_choices.specs.Plans.{choices_of};
 
+use crate::Trace;
 use crate::ready::place_among;
 use crate::tables::Tables;
 use occ_choices::Plan;
 use occ_machine::Code;
 use occ_net_replay::Choice;
-use crate::Trace;
 use occ_proc::Scratch;
 use occ_term::Ending;
 use std::alloc::{AllocError, Global};

@@ -4,10 +4,10 @@ ghost use Rattle.occ_net_replay.specs.Replay.{ending_of, is_done, main_done, sto
 ghost use Rattle.occ_net_tables.specs.Endings.{ends_by};
 ghost use Rattle.occ_net_tables.specs.Holding.{HeldBy, HoldsFirst, trace_in};
 
+use crate::Trace;
 use crate::entries::{empty, no_counts};
 use crate::tasks::put_task;
 use occ_machine::{Code, Task, Wait};
-use crate::Trace;
 use occ_term::{Ending, Errors, Fault, Frame};
 use std::alloc::{AllocError, Global};
 

@@ -4,11 +4,11 @@ ghost use Rattle.occ_term.specs.declared.communication.Communication.{Communicat
 ghost use Rattle.occ_net_tables.specs.TracePlaces.{StandBehind, place_behind};
 ghost use Rattle.occ_net_tables.specs.Views.{Pushes};
 
-use crate::trace_entries::Entries;
 use crate::lists::Lists;
 use crate::news::{Mark, News};
 use crate::pieces::Pieces;
 use crate::shapes::Head;
+use crate::trace_entries::Entries;
 use occ_term::{End, Message};
 use std::alloc::{AllocError, Global};
 use std::marker::Model;

@@ -13,8 +13,8 @@ use crate::program::options_of;
 use occ_explaining::{Studied, page_of, run_texts, study};
 use occ_exploring::{Answer, Asked, MOST_ANSWERS, answer_line};
 use occ_files::Folder;
-use occ_shown::RunTexts;
 use occ_play_inputs::{Failure, Inputs, Stream, Words};
+use occ_shown::RunTexts;
 use std::alloc::{AllocError, Global};
 
 /// Writes a page that shows the runs of the first of these answers, and says how many more there are, into the file that the words name.

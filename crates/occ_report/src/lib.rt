@@ -27,4 +27,3 @@ pub use placing::places_of;
 pub use reporting::{circle_of, report};
 pub use stepping::steps;
 pub use stop::{Kind, Stop};
-

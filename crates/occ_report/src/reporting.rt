@@ -3,6 +3,7 @@ ghost use Rattle.std.specs.Prelude.{◌≡◌, IfOk, OnOk};
 ghost use Rattle.occ_report.specs.Reports.{IsCircleBy, IsReportBy, WaitingAt, count_text, report_head, report_tail};
 ghost use Rattle.occ_shown.specs.Answers.{AddsText};
 
+use crate::Places;
 use crate::ended::write_ended;
 use crate::kinds::write_kind;
 use crate::standing::{Ends, write_circle, write_lines};
@@ -10,7 +11,6 @@ use occ_choices::Plan;
 use occ_ends::{Left, ProcessUses, ends_of, left_in, waiting_in};
 use occ_machine::Code;
 use occ_net_tables::{Keep, Ran, Tables, run_tables};
-use crate::Places;
 use occ_term::Ending;
 use std::alloc::{AllocError, Global};
 

@@ -7,9 +7,9 @@ ghost use Rattle.occ_shown.specs.Answers.{AddsText, HasWords};
 ghost use Rattle.occ_report.specs.Reports.{arm_told, arms_told, awaited_told, branches_text, choosing_ones, halted_text, halting_text, line_told, name_text, task_chooses, offer_told, on_line, process_text, AddsChoosing, AddsCircle, AddsLine, ListsChoosing, AddsOnLine, AddsTaskLine, AddsTaskLines, choosing_told, joining_text, reader_at, standing_told, writer_at, ring_head, ring_text};
 
 use crate::kinds::by_number;
+use crate::{Kind, Places, Stop};
 use occ_machine::{Arm, Wait};
 use occ_net_tables::Tables;
-use crate::{Kind, Places, Stop};
 use occ_shown::{write_message, write_name};
 use occ_term::{Channel, Ending, Fault, KEYBOARD, Message};
 use std::alloc::{AllocError, Global};

@@ -3,13 +3,13 @@ ghost use Rattle.std.specs.Prelude.{◌+◌, ◌<◌, IfOk};
 ghost use Rattle.occ_net_tables.specs.Settling.{Standing};
 ghost use Rattle.occ_report.specs.Steps.{AddsStep, IsSteps};
 
+use crate::Places;
 use crate::heads::write_head;
 use crate::stops::write_tail;
 use crate::taking::next_turn;
 use occ_machine::Code;
 use occ_net_replay::Choice;
 use occ_net_tables::{News, Tables};
-use crate::Places;
 use occ_proc::Scratch;
 use std::alloc::{AllocError, Global};
 

@@ -5,11 +5,11 @@ ghost use Rattle.occ_shown.specs.Answers.{ends_text, names_of, AddsText};
 ghost use Rattle.occ_report.specs.Steps.{all_made_text, arm_text, arm_channels, stop_line, made_text, stop_text, stopped_told, AddsTail, awaits_text, chooses_text, joins_text, last_made, offers_text};
 ghost use Rattle.occ_term.specs.Runs.{entries};
 
+use crate::{Places, Stop};
 use occ_board::Shown;
 use occ_chart::{words_of, write_end, write_message};
 use occ_machine::{Arm, Task, Wait};
 use occ_net_tables::News;
-use crate::{Places, Stop};
 use occ_shown::{shown_as, write_name, write_numbers};
 use occ_term::{Channel, Ending, Fault, Message};
 use std::alloc::{AllocError, Global};

@@ -24,4 +24,3 @@ pub use pages::{RunTexts, page};
 pub use showing::{answer, channel_bytes, write_bytes};
 pub use values::{tag_name, write_array, write_name, write_numbers, write_value};
 pub use watching::{is_shown, shown_as, watch_lines};
-

@@ -48,4 +48,3 @@ pub use term::{Arm, Branch, Choice, Reception, Selection, Term, Variant};
 pub use text::Text;
 pub use unfolded::Unfolded;
 pub use value::value_of;
-

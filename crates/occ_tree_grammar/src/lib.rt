@@ -14,4 +14,3 @@ pub mod lines;
 pub mod tree;
 
 pub use fault::ParseFault;
-

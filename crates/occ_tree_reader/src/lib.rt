@@ -11,4 +11,3 @@ pub mod processes;
 pub mod read_decl;
 pub mod read_head;
 pub mod word;
-

@@ -11,6 +11,11 @@ ghost use Rattle.occ_tree_grammar.specs.Lines.HeadReading.{names_at, sort_at, na
 ghost use Rattle.occ_tree_grammar.specs.Limits.{brackets};
 ghost use Rattle.occ_tree_reader.specs.Reads.{ReadsDeclHead};
 
+use crate::expressions::symbol::prim;
+use crate::item::expression;
+use crate::kind::{carried, declared_sizes, formals, part, value_type};
+use crate::list::further;
+use crate::word::{colon, is, name};
 use occ_held::letters::Letters;
 use occ_text::{Key, Sym, Token};
 use occ_tree_grammar::ParseFault;
@@ -18,11 +23,6 @@ use occ_tree_grammar::lines::head::{DeclHead, TagHead};
 use occ_tree_grammar::lines::separator::Separator;
 use occ_tree_grammar::tree::expr::Expr;
 use occ_tree_grammar::tree::line::{OneOrMore, Part, Sort, ValueType};
-use crate::expressions::symbol::prim;
-use crate::item::expression;
-use crate::kind::{carried, declared_sizes, formals, part, value_type};
-use crate::list::further;
-use crate::word::{colon, is, name};
 use std::alloc::Global;
 
 /// The names and what they are declared as, where nothing follows them.

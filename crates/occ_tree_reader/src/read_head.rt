@@ -13,6 +13,9 @@ ghost use Rattle.occ_tree_grammar.specs.Lines.HeadReading.{received_head as head
 ghost use Rattle.occ_tree_grammar.specs.Limits.{brackets};
 ghost use Rattle.occ_tree_reader.specs.Reads.{ReadsProcessHead, ReadsChoiceHead, ReadsOptionHead, ReadsArmHead, arm_behind};
 
+use crate::item::{actuals, behind_question, expression, out, replicator, var, var_behind};
+use crate::list::further;
+use crate::word::{assign, question};
 use occ_held::letters::Letters;
 use occ_text::{Key, Sym, Token};
 use occ_tree_grammar::ParseFault;
@@ -22,11 +25,6 @@ use occ_tree_grammar::lines::head::{
 use occ_tree_grammar::lines::separator::Separator;
 use occ_tree_grammar::tree::expr::Expr;
 use occ_tree_grammar::tree::line::{Action, Guard, OneOrMore, Out, Target, Var, VariantGuard};
-use crate::item::{
-    actuals, behind_question, expression, out, replicator, var, var_behind,
-};
-use crate::list::further;
-use crate::word::{assign, question};
 use std::alloc::Global;
 
 /// The action, where nothing follows it.

@@ -2,8 +2,8 @@
 use crate::compared::check_count;
 use crate::sources::{ARMS, CELLS, MERGE, PIPELINE, TAGS};
 use occ_machine::{Code, Instr, Slot};
-use occ_report::{Places, places_of};
 use occ_play::{Options, code_of};
+use occ_report::{Places, places_of};
 use occ_text::read_lines;
 use occ_tree::parse;
 use std::alloc::Global;

@@ -11,13 +11,13 @@ ghost use Rattle.occ_tree_reader.specs.Opened.{decl_left_at, decl_left_of, left_
 use crate::processes::line::{end_line, line_of};
 use crate::processes::opened::OpenedDecl;
 use crate::processes::protocol::tags;
+use crate::read_decl::decl_head;
 use occ_held::letters::Letters;
 use occ_text::Line;
 use occ_tree_grammar::ParseFault;
 use occ_tree_grammar::lines::head::DeclHead;
 use occ_tree_grammar::tree::line::Formals;
 use occ_tree_grammar::tree::process::{Decl, Item, Process, Protocol};
-use crate::read_decl::decl_head;
 use std::alloc::Global;
 
 /// The line of a declaration that must stand at this level: its number and what it says.

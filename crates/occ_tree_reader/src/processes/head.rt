@@ -10,11 +10,11 @@ ghost use Rattle.occ_tree_reader.specs.Opened.{opened_head, option_over, variant
 
 use crate::processes::line::line_of;
 use crate::processes::opened::{Opened, process_opened};
+use crate::read_head::{arm_head, choice_head, option_head, process_head, variant_head};
 use occ_text::Line;
 use occ_tree_grammar::ParseFault;
 use occ_tree_grammar::lines::head::{ArmHead, ChoiceHead, OptionHead, VariantHead};
 use occ_tree_grammar::tree::process::{Decl, Process, Selection, Variant};
-use crate::read_head::{arm_head, choice_head, option_head, process_head, variant_head};
 use std::alloc::Global;
 
 /// The line of a process that must stand at this level: its number, and what has to stand under it.

@@ -6,9 +6,9 @@ ghost use Rattle.occ_tree_grammar.specs.Fronts.{ReadsLines, lines_found};
 ghost use Rattle.occ_tree_grammar.specs.Expressions.Reading.{Gives};
 ghost use Rattle.occ_tree_grammar.specs.Processes.Reading.{at_level, at_decl, line_at, is_case, is_colon, case_at, end_at};
 
+use crate::read_decl::begins_declaration;
 use occ_text::{Key, Line, Sym, Token};
 use occ_tree_grammar::ParseFault;
-use crate::read_decl::begins_declaration;
 
 /// The lines, where the first is at this level.
 pub fn lines_at(level: u32, lines: &[Line]) -> Option<&[Line]>

@@ -8,11 +8,11 @@ ghost use Rattle.occ_tree_grammar.specs.Processes.Reading.{at_level, tag_with, t
 ghost use Rattle.occ_tree_grammar.specs.Limits.{most_levels, brackets};
 
 use crate::processes::line::{case_line, end_line, line_of, lines_at, too_deep};
+use crate::read_decl::tag_head;
 use occ_held::letters::Letters;
 use occ_text::Line;
 use occ_tree_grammar::ParseFault;
 use occ_tree_grammar::tree::process::{Protocol, Tag};
-use crate::read_decl::tag_head;
 use std::alloc::Global;
 
 fn tag_inside(
