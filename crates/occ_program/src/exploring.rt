@@ -361,6 +361,7 @@ fn search<P: Progress>(
         words.first,
         words.graph.is_some(),
         words.states,
+        words.memory,
         progress,
     )
 }
@@ -385,9 +386,11 @@ fn print_answers<W: Write>(
 ) -> Result<bool, AllocError>
     requires room { failures_of out.old < 2 ^ 64 - 1 }
     ensures { IfOk result
-        (Prints W.contents (exploration_text asked words.now.states found.now) out.old out.new) }
+        (Prints W.contents
+        (exploration_text asked words.now.states words.now.memory found.now)
+        out.old out.new) }
 {
-    let text = exploration_text(alloc, found, asked, words.states)?;
+    let text = exploration_text(alloc, found, asked, words.states, words.memory)?;
     Ok(write_answer(text.as_slice(), out).is_ok())
 }
 
