@@ -98,8 +98,8 @@ SearchedTo words source keyboard asked (Ok e) =
 SearchedTo words source keyboard asked (Err fault) = Refuses (options_in words) source fault
 
 -- what is printed of it
-abbrev pub found_text : Words → Asked → Exploration → List ℕ
-found_text words asked e = exploration_text asked words.states words.memory e
+abbrev pub search_text : Words → Asked → Exploration → List ℕ
+search_text words asked e = exploration_text asked words.states words.memory e
 
 abbrev pub found_status : Result Exploration PlayFault → ℕ
 found_status (Ok e) = search_status e

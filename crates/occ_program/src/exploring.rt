@@ -6,7 +6,7 @@ ghost use Rattle.occ_files.specs.declared.reason.Reason.{Reason};
 ghost use Rattle.occ_play_inputs.specs.Failures.{FailsToWrite, trouble};
 ghost use Rattle.occ_play_inputs.specs.declared.failure.Failure.{Failure};
 ghost use Rattle.occ_play_inputs.specs.declared.failure.Stream.TheVariants as stream;
-ghost use Rattle.occ_program.specs.Coming.{IsSearchStatus, OnlyTo, Prints, SearchedTo, found_status, found_text};
+ghost use Rattle.occ_program.specs.Coming.{IsSearchStatus, OnlyTo, Prints, SearchedTo, found_status, search_text};
 ghost use Rattle.occ_program.specs.Pages.{AreRecorded, answer_file, answer_files, waiting_files, waiting_file};
 ghost use Rattle.occ_play.specs.Status.{fault_status};
 ghost use Rattle.occ_shown.specs.Counting.{failures_of};
@@ -385,7 +385,7 @@ fn print_answers<W: Write>(
 ) -> Result<bool, AllocError>
     requires room { failures_of out.old < 2 ^ 64 - 1 }
     ensures { IfOk result
-        (Prints W.contents (found_text words.now asked found.now) out.old out.new) }
+        (Prints W.contents (search_text words.now asked found.now) out.old out.new) }
 {
     let text = exploration_text(alloc, found, asked, words.states, words.memory)?;
     Ok(write_answer(text.as_slice(), out).is_ok())
