@@ -10,7 +10,7 @@ use Rattle.occ_check_meaning.specs.Numbers.{Numbers, more_processes}
 use Rattle.occ_check_meaning.specs.Performing.{Calling}
 use Rattle.occ_check_meaning.specs.Recursion.{all_beside, unfolded}
 use Rattle.occ_check_meaning.specs.Scope.{Scope}
-use Rattle.occ_check.proofs.Listing.{before}
+use Rattle.occ_check.proofs.PartByPart.{before}
 
 abbrev pub branches_in : Scope Calling → ℕ → List Process → Numbers → Option (Branches × Numbers)
 branches_in sc depth xs n = all_beside (nodes (map process_of xs)) sc depth n

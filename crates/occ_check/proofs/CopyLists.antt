@@ -21,7 +21,7 @@ use Rattle.occ_check.specs.View.{Refuses}
 use Rattle.occ_check.specs.Weights.{weight}
 use Rattle.occ_check.specs.declared.fault.CheckFault.{CheckFault}
 use Rattle.occ_check.proofs.Beside.{all_branches, numbered_as, put_branch}
-use Rattle.occ_check.proofs.Listing.{before, one_more}
+use Rattle.occ_check.proofs.PartByPart.{before, one_more}
 use Rattle.occ_check.proofs.Refusals.{none_then, refused_with}
 use Rattle.occ_check.proofs.Refusing.{then_refused}
 

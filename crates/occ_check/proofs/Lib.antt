@@ -33,7 +33,7 @@ pub mod EnteringScopes
 pub mod OneLine
 pub mod Nesting
 pub mod OpenedParts
-pub mod Listing
+pub mod PartByPart
 pub mod HeldLists
 pub mod VariantLists
 pub mod ArmLists

@@ -17,7 +17,7 @@ use Rattle.occ_tree_grammar.specs.Many.{◌>>=◌}
 use Rattle.occ_term.specs.Terms as T
 use Rattle.occ_term.specs.Terms.{no_arms, no_choices, no_options, no_terms, no_variants}
 use Rattle.occ_term.specs.declared.term.Term.{the_lemmas}
-use Rattle.occ_check.proofs.Listing.{before, listed_refused, listed_next, listed_last}
+use Rattle.occ_check.proofs.PartByPart.{before, listed_refused, listed_next, listed_last}
 use Rattle.occ_term.specs.declared.term.Branch.{the_lemmas as branch_lemmas}
 use Rattle.occ_check_meaning.specs.Numbers.{more_processes}
 use Rattle.occ_check.proofs.Beside.{all_branches, branch_none, branch_one, branch_step, branches_in, no_body, no_number, one_branch, put_branch}

@@ -8,7 +8,7 @@ use Rattle.occ_check_meaning.specs.Recursion.{unfolded}
 use Rattle.occ_check.specs.Opened.{left_weight, copy_for}
 use Rattle.occ_check.specs.Weights.{node_size, nodes_size}
 use Rattle.occ_check.specs.Progress.{counted, meant_at, weight_at}
-use Rattle.occ_check.proofs.Listing.{Listed}
+use Rattle.occ_check.proofs.PartByPart.{Listed}
 use Rattle.occ_check.proofs.Gathering.{Gathered}
 use Rattle.occ_check.proofs.ChoiceLists.{choices_in, put_choices}
 use Rattle.occ_check.proofs.ArmLists.{arms_in, put_arms}
