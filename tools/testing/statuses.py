@@ -75,7 +75,7 @@ RACE = HEAD + """  [3]CHAN OF BYTE c:
         screen ! x
 :
 """
-DEFAULTS = {"--limit": "1000000", "--quantum": "1", "--errors": "halt", "--tries": "1", "--arrows": "200", "--explore": "answers", "--states": "1000000"}
+DEFAULTS = {"--limit": "1000000", "--quantum": "1", "--errors": "halt", "--tries": "1", "--arrows": "200", "--explore": "answers", "--states": "1000000", "--memory": "1024"}
 # examples with words for their charts
 PICTURES = {
     "faults/dining": [], "sharing/farm": [], "sharing/pool": ["--last", "40"], "pipelines/primes": [], "pipelines/squash": [], "first_steps/relay": [], "selection/stack": [],
