@@ -31,6 +31,7 @@ fn stop_for(
         next,
         line: mark.line,
         kind: mark.kind,
+        call: mark.around.call,
     })
 }
 

@@ -2,16 +2,18 @@
 ghost use Rattle.std.specs.Prelude.{◌≡◌, IfOk, OnOk, Some, codes, slice_get};
 ghost use Rattle.occ_net_tables.specs.Holding.{HeldBy};
 ghost use Rattle.occ_term.specs.Endings.{ending_text};
-ghost use Rattle.occ_report.specs.Places.{name_of, stop_of};
 ghost use Rattle.occ_shown.specs.Answers.{AddsText, HasWords};
-ghost use Rattle.occ_report.specs.Reports.{arm_told, arms_told, awaited_told, branches_text, choosing_ones, halted_text, halting_text, line_told, name_text, task_chooses, offer_told, on_line, process_text, AddsChoosing, AddsCircle, AddsLine, ListsChoosing, AddsOnLine, AddsTaskLine, AddsTaskLines, choosing_told, joining_text, reader_at, standing_told, writer_at, ring_head, ring_text};
+ghost use Rattle.occ_report.specs.Reports.{arm_told, arms_told, awaited_told, branches_text, choosing_ones, halted_text, halting_text, line_of, line_told, name_text, place_told, task_chooses, offer_told, on_line, process_text, AddsChoosing, AddsCircle, AddsLine, AddsLines, ListsChoosing, AddsOnLine, AddsTaskLine, AddsTaskLines, choosing_told, joining_text, reader_at, standing_told, writer_at, ring_head, ring_text};
 
+use crate::calls::write_calls;
+use crate::faults::write_faulted;
 use crate::kinds::by_number;
+use crate::source_lines::{write_channel, written_at};
 use crate::{Kind, Places, Stop};
-use occ_machine::{Arm, Wait};
+use occ_machine::{Arm, Code, Task, Wait};
 use occ_net_tables::Tables;
-use occ_shown::{write_message, write_name};
-use occ_term::{Channel, Ending, Fault, KEYBOARD, Message};
+use occ_shown::write_message;
+use occ_term::{Channel, Ending, Fault, KEYBOARD, Message, Unfolded};
 use std::alloc::{AllocError, Global};
 
 /// By channel, of the processes that are left: who may input from it, and who may output to it.
@@ -19,6 +21,15 @@ use std::alloc::{AllocError, Global};
 pub(crate) struct Ends<'a> {
     pub(crate) readers: &'a [Option<u32>],
     pub(crate) writers: &'a [Option<u32>],
+}
+
+/// By what it is told where processes stand: the source, its program and its code, and where the processes of that stand in it.
+#[derive(Clone, Copy)]
+pub(crate) struct Told<'a> {
+    pub(crate) source: &'a [u8],
+    pub(crate) unfolded: &'a Unfolded,
+    pub(crate) code: &'a Code,
+    pub(crate) places: &'a Places,
 }
 
 fn write_process(alloc: Global, out: &mut Vec<u8>, number: u32) -> Result<(), AllocError>
@@ -67,19 +78,20 @@ fn write_writer(
     }
 }
 
-/// A channel from which a message is awaited.
+/// A channel from which a message is awaited, by the name that is written there.
 fn write_awaited(
     alloc: Global,
     out: &mut Vec<u8>,
     channels: &[Channel],
     writers: &[Option<u32>],
+    written: &[u8],
     chan: u32,
 ) -> Result<(), AllocError>
     ensures { OnOk result
-        (AddsText out.old out.new (awaited_told channels.now writers.now chan)) }
+        (AddsText out.old out.new (awaited_told channels.now writers.now written.now chan)) }
 {
     out.extend_from_slice(b"awaits ")?;
-    write_name(alloc, out, channels, chan)?;
+    write_channel(alloc, out, channels, written, chan)?;
     write_writer(alloc, out, writers, chan)
 }
 
@@ -96,7 +108,7 @@ fn write_arm(
     match chan {
         Some(chan) => {
             out.extend_from_slice(b"; ")?;
-            write_awaited(alloc, out, channels, writers, chan)
+            write_awaited(alloc, out, channels, writers, &[], chan)
         }
         None => out.extend_from_slice(b"; SKIP"),
     }
@@ -227,16 +239,17 @@ fn write_offer(
     out: &mut Vec<u8>,
     channels: &[Channel],
     readers: &[Option<u32>],
+    written: &[u8],
     chan: u32,
     message: &Message,
 ) -> Result<(), AllocError>
-    ensures { OnOk result
-        (AddsText out.old out.new (offer_told channels.now readers.now chan message.now)) }
+    ensures { OnOk result (AddsText out.old out.new
+        (offer_told channels.now readers.now written.now chan message.now)) }
 {
     out.extend_from_slice(b"offers ")?;
     write_message(alloc, out, message, chan, channels)?;
     out.extend_from_slice(b" on ")?;
-    write_name(alloc, out, channels, chan)?;
+    write_channel(alloc, out, channels, written, chan)?;
     write_reader(alloc, out, readers, chan)
 }
 
@@ -279,15 +292,17 @@ fn halted_text(stop: Option<Stop>) -> &'static [u8]
     }
 }
 
-/// What a process stands at, of whose stop this is known; nothing where it is at its end.
+/// What a process stands at, of whose stop this is known, and the name with which the line there begins; nothing where it is at its end.
 fn standing(
     alloc: Global,
     channels: &[Channel],
     ends: Ends<'_>,
     stop: Option<Stop>,
+    written: &[u8],
     wait: &Wait,
 ) -> Result<Option<Vec<u8>>, AllocError>
-    ensures { IfOk result (HasWords (standing_told channels.now ends.entry stop wait.now)) }
+    ensures { IfOk result
+        (HasWords (standing_told channels.now ends.entry stop written.now wait.now)) }
 {
     let mut out = Vec::new(alloc);
     match wait {
@@ -296,9 +311,11 @@ fn standing(
         Wait::Halted => return text_of(alloc, halted_text(stop)),
         Wait::Done => return Ok(None),
         Wait::Offers { chan, message } => {
-            write_offer(alloc, &mut out, channels, ends.readers, *chan, message)?
+            write_offer(alloc, &mut out, channels, ends.readers, written, *chan, message)?
         }
-        Wait::Awaits { chan } => write_awaited(alloc, &mut out, channels, ends.writers, *chan)?,
+        Wait::Awaits { chan } => {
+            write_awaited(alloc, &mut out, channels, ends.writers, written, *chan)?
+        }
         Wait::Chooses { arms, .. } => {
             write_choosing(alloc, &mut out, channels, ends.writers, arms.as_slice())?
         }
@@ -340,13 +357,25 @@ fn write_named(out: &mut Vec<u8>, name: &[u8]) -> Result<(), AllocError>
     out.extend_from_slice(name)
 }
 
-/// The line of a stop, where it is known.
-fn write_line(alloc: Global, out: &mut Vec<u8>, stop: Option<Stop>) -> Result<(), AllocError>
-    ensures { OnOk result (AddsText out.old out.new (line_told stop)) }
+/// The line at which a process stands that waits so, where it is known.
+fn line_of(stop: Option<Stop>, wait: &Wait) -> Option<u32>
+    ensures { result ≡ line_of stop wait.now }
 {
+    if let Wait::Faulted(fault) = wait {
+        return Some(fault.line);
+    }
     match stop {
-        Some(stop) => {
-            let line = stop.line;
+        Some(stop) => Some(stop.line),
+        None => None,
+    }
+}
+
+/// The line, where it is known.
+fn write_line(alloc: Global, out: &mut Vec<u8>, line: Option<u32>) -> Result<(), AllocError>
+    ensures { OnOk result (AddsText out.old out.new (line_told line)) }
+{
+    match line {
+        Some(line) => {
             let text = format!(in alloc; ", line {line}")?;
             out.extend_from_slice(text.as_bytes())
         }
@@ -354,81 +383,116 @@ fn write_line(alloc: Global, out: &mut Vec<u8>, stop: Option<Stop>) -> Result<()
     }
 }
 
-/// A line for a process, of this text.
+/// Where a process stands, of whose stop this is known: the line, and the calls within whose PROCs that is.
+fn place_text(
+    alloc: Global,
+    places: &Places,
+    number: u32,
+    stop: Option<Stop>,
+    task: &Task,
+) -> Result<Vec<u8>, AllocError>
+    ensures { IfOk result (λ text. text.items ≡ place_told places.now number stop task.now) }
+{
+    let mut out = Vec::new(alloc);
+    let line = line_of(stop, &task.wait);
+    write_line(alloc, &mut out, line)?;
+    let (calls, stops) = (places.calls(number), places.stops(number));
+    write_calls(alloc, &mut out, calls, stops, stop, &task.wait, task.pc)?;
+    Ok(out)
+}
+
+/// A line for a process, of where it stands and of this text.
 fn write_text(
     alloc: Global,
     out: &mut Vec<u8>,
     number: u32,
     name: &[u8],
-    stop: Option<Stop>,
+    place: &[u8],
     text: &[u8],
 ) -> Result<(), AllocError>
     ensures { OnOk result
-        (AddsText out.old out.new (on_line number name.now stop (Some text.now))) }
+        (AddsText out.old out.new (on_line number name.now place.now (Some text.now))) }
 {
     out.extend_from_slice(b"  ")?;
     write_process(alloc, out, number)?;
     write_named(out, name)?;
-    write_line(alloc, out, stop)?;
+    out.extend_from_slice(place)?;
     out.extend_from_slice(b": ")?;
     out.extend_from_slice(text)?;
     out.extend_from_slice(b"\n")
 }
 
-/// A line for a process, of the text that there is for it.
+/// A line for a process, of where it stands and of the text that there is for it.
 fn write_on_line(
     alloc: Global,
     out: &mut Vec<u8>,
     number: u32,
     name: &[u8],
-    stop: Option<Stop>,
+    place: &[u8],
     text: Option<Vec<u8>>,
 ) -> Result<(), AllocError>
-    ensures { OnOk result (AddsOnLine number name.now stop text out.old out.new) }
+    ensures { OnOk result (AddsOnLine number name.now place.now text out.old out.new) }
 {
     match text {
-        Some(text) => write_text(alloc, out, number, name, stop, text.as_slice()),
+        Some(text) => write_text(alloc, out, number, name, place, text.as_slice()),
         None => Ok(()),
     }
 }
 
-/// The line of a process, where it is left.
+/// The line of a process, where it is left, of whose stop this is known.
 fn write_standing(
     alloc: Global,
     out: &mut Vec<u8>,
     channels: &[Channel],
     ends: Ends<'_>,
+    told: Told<'_>,
     number: u32,
-    name: &[u8],
+    task: &Task,
     stop: Option<Stop>,
-    wait: &Wait,
 ) -> Result<(), AllocError>
     ensures { OnOk result
-        (AddsLine channels.now ends.entry name.now stop number wait.now out.old out.new) }
+        (AddsLine channels.now ends.entry told.entry number task.now stop out.old out.new) }
 {
-    let text = standing(alloc, channels, ends, stop, wait)?;
-    write_on_line(alloc, out, number, name, stop, text)
+    let name = told.places.name(number);
+    let written = written_at(told.source, stop);
+    let text = standing(alloc, channels, ends, stop, written, &task.wait)?;
+    let place = place_text(alloc, told.places, number, stop, task)?;
+    write_on_line(alloc, out, number, name, place.as_slice(), text)
 }
 
-/// The line of the process with this number, where it is left.
+/// The line of a process, where it is left, and those below it.
 fn write_task(
     alloc: Global,
     out: &mut Vec<u8>,
     channels: &[Channel],
     ends: Ends<'_>,
-    places: &Places,
+    told: Told<'_>,
+    number: u32,
+    task: &Task,
+) -> Result<(), AllocError>
+    ensures { OnOk result (AddsLines
+        channels.now ends.entry told.entry number task.now out.old out.new) }
+{
+    let stop = told.places.stop(number, &task.wait, task.pc);
+    write_standing(alloc, out, channels, ends, told, number, task, stop)?;
+    write_faulted(alloc, out, told, number, task)
+}
+
+/// The lines of the process with this number, where it is left.
+fn write_numbered(
+    alloc: Global,
+    out: &mut Vec<u8>,
+    channels: &[Channel],
+    ends: Ends<'_>,
+    told: Told<'_>,
     tables: &Tables,
     number: u32,
 ) -> Result<(), AllocError>
     ensures { OnOk result (AddsTaskLine
-        channels.now ends.entry places.now tables.now number out.old out.new) }
+        channels.now ends.entry told.entry tables.now number out.old out.new) }
 {
     match tables.task(number) {
-        Some(task) => {
-            let name = places.name(number);
-            let stop = places.stop(number, &task.wait, task.pc);
-            write_standing(alloc, out, channels, ends, number, name, stop, &task.wait)
-        }
+        Some(task) => write_task(alloc, out, channels, ends, told, number, task),
         None => Ok(()),
     }
 }
@@ -439,15 +503,15 @@ pub(crate) fn write_lines(
     out: &mut Vec<u8>,
     channels: &[Channel],
     ends: Ends<'_>,
-    places: &Places,
+    told: Told<'_>,
     tables: &Tables,
     count: u32,
 ) -> Result<(), AllocError>
     ensures { OnOk result (AddsTaskLines
-        channels.now ends.entry places.now tables.now count out.old out.new) }
+        channels.now ends.entry told.entry tables.now count out.old out.new) }
 {
     for number in 0..count {
-        write_task(alloc, out, channels, ends, places, tables, number)?;
+        write_numbered(alloc, out, channels, ends, told, tables, number)?;
     }
     Ok(())
 }

@@ -7,4 +7,4 @@ use Rattle.occ_report.specs.Reports.{task_lines}
 use Rattle.occ_report.proofs.standing.write_lines.Given as goal
 
 abbrev pub invariant-loop-number : goal.invariant-loop-number
-invariant-loop-number l = (p : Program) (keyboard : List ℕ) (net : Net) → Holds p keyboard l.tables net → l.out.items ≡ l.fn.out.items ++ task_lines (names_of l.channels) l.ends.readers.now l.ends.writers.now l.places net.tasks l.number
+invariant-loop-number l = (p : Program) (keyboard : List ℕ) (net : Net) → Holds p keyboard l.tables net → l.out.items ≡ l.fn.out.items ++ task_lines (names_of l.channels) l.ends.readers.now l.ends.writers.now l.told.source.now l.told.unfolded.now.cells l.told.code.now.bodies l.told.places.now net.tasks l.number
