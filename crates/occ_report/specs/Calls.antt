@@ -34,8 +34,9 @@ abbrev pub call_at : List Call → ℕ → Option Call
 call_at calls zero = None
 call_at calls (suc n) = slice_get calls n
 
+-- a line below that of the process
 abbrev pub call_text : ℕ → List ℕ
-call_text line = codes ", called in line " ++ decimal line
+call_text line = codes "    called in line " ++ decimal line ++ codes "\n"
 
 abbrev pub with_call : Option Call → (Call → List ℕ) → List ℕ
 with_call None told = []

@@ -31,9 +31,11 @@ use Rattle.occ_report.specs.declared.stop.Kind.{Kind as Place}
 use Rattle.occ_report.specs.declared.stop.Kind.TheVariants as kinds
 use Rattle.occ_report.specs.declared.stop.Stop.{Stop}
 use Rattle.occ_report.specs.Calls.{calls_text}
-use Rattle.occ_report.specs.Faults.{fault_told}
+use Rattle.occ_report.specs.Faults.{fault_told, variables_text}
+use Rattle.occ_term.specs.Frames.{Variables}
 use Rattle.occ_report.specs.Places.{Known, calls_of, name_of, stop_of, stops_of}
 use Rattle.occ_report.specs.Written.{channel_told, written_at}
+use Rattle.occ_term.specs.UnfoldedProgram.{UnfoldedProgram}
 use Rattle.occ_term.specs.declared.names.Cell.{Cell}
 use Rattle.occ_machine.specs.Machine.{Body}
 use Rattle.occ_term.specs.declared.names.Channel.{Channel}
@@ -41,7 +43,7 @@ use Rattle.occ_net_tables.specs.declared.tables.Tables.{Tables}
 use Rattle.occ_net_tables.specs.Holding.{HeldBy}
 use Rattle.occ_ends.specs.declared.uses.ProcessUses.{ProcessUses}
 use Rattle.occ_report.specs.declared.standing.Ends.{Ends as Sides}
-use Rattle.occ_report.specs.declared.standing.Told.{Told}
+use Rattle.occ_report.specs.declared.process_lines.Told.{Told}
 
 -- by channel: the process that may input from it, or that may output to it, of those that are left
 abbrev pub Noted : Type 0
@@ -137,21 +139,25 @@ abbrev pub line_told : Option ℕ → List ℕ
 line_told None = []
 line_told (Some line) = codes ", line " ++ decimal line
 
--- the line, and those of the calls within whose PROCs it is
-abbrev pub place_told : List Known → ℕ → Option Stop → Task → List ℕ
-place_told known n stop t = line_told (line_of stop t.wait) ++ calls_text (calls_of known n) (stops_of known n) stop t.wait t.pc
+abbrev pub on_line : ℕ → (name : List ℕ) → (line : Option ℕ) → Option (List ℕ) → List ℕ
+on_line n name line None = []
+on_line n name line (Some text) = codes "  " ++ process_text n ++ name_text name ++ line_told line ++ codes ": " ++ text ++ codes "\n"
 
-abbrev pub on_line : ℕ → (name place : List ℕ) → Option (List ℕ) → List ℕ
-on_line n name place None = []
-on_line n name place (Some text) = codes "  " ++ process_text n ++ name_text name ++ place ++ codes ": " ++ text ++ codes "\n"
+-- what is told of a process, with its PROC and its line, as far as they are known
+abbrev pub process_line : Names → (readers writers : Noted) → (source : List ℕ) → List Known → ℕ → Wait → Option Stop → List ℕ
+process_line names readers writers source known n w stop = on_line n (name_of known n) (line_of stop w) (standing_text names readers writers stop (written_at source stop) w)
 
--- what is told of a process, with its PROC, its line and its calls, as far as they are known
-abbrev pub process_line : Names → (readers writers : Noted) → (source : List ℕ) → List Known → ℕ → Task → Option Stop → List ℕ
-process_line names readers writers source known n t stop = on_line n (name_of known n) (place_told known n stop t) (standing_text names readers writers stop (written_at source stop) t.wait)
+-- the calls within whose PROCs it stands, where they are known
+abbrev pub calls_told : List Known → ℕ → Task → Option Stop → List ℕ
+calls_told known n t stop = calls_text (calls_of known n) (stops_of known n) stop t.wait t.pc
 
--- and below it what is told of a fault
+abbrev pub lines_at : Names → (readers writers : Noted) → (source : List ℕ) → List Cell → List Body → List Known → ℕ → Task → Option Stop → List ℕ
+lines_at names readers writers source cells bodies known n t stop =
+    process_line names readers writers source known n t.wait stop ++ fault_told source cells bodies n t ++ calls_told known n t stop
+
+-- the line of a process, and those below it
 abbrev pub lines_of : Names → (readers writers : Noted) → (source : List ℕ) → List Cell → List Body → List Known → ℕ → Task → List ℕ
-lines_of names readers writers source cells bodies known n t = process_line names readers writers source known n t (stop_of known n t.wait t.pc) ++ fault_told source cells bodies n t
+lines_of names readers writers source cells bodies known n t = lines_at names readers writers source cells bodies known n t (stop_of known n t.wait t.pc)
 
 abbrev pub task_line : Names → (readers writers : Noted) → (source : List ℕ) → List Cell → List Body → List Known → ℕ → Option (Option Task) → List ℕ
 task_line names readers writers source cells bodies known n None = []
@@ -332,6 +338,9 @@ arms_told cs writers arms = arms_text (names_of cs) writers arms
 abbrev pub choosing_told : List Channel → Noted → List Arm → List ℕ
 choosing_told cs writers arms = codes "chooses" ++ arms_told cs writers arms
 
+abbrev pub AddsOffer : {A : Type 0} → List Channel → Noted → (written : List ℕ) → ℕ → Message → (old new : Vec ℕ A) → Type 0
+AddsOffer cs readers written c m old new = AddsText old new (offer_told cs readers written c m)
+
 abbrev pub joining_text : List ℕ → List ℕ
 joining_text ns = codes "waits for" ++ branches_text ns
 
@@ -340,12 +349,15 @@ abbrev pub standing_told : List Channel → Sides → Option Stop → (written :
 standing_told cs ends stop written w = standing_text (names_of cs) ends.readers.now ends.writers.now stop written w
 
 -- the line of a process, of the text that there is for it, and of what it stands at
-abbrev pub AddsOnLine : {A B : Type 0} → ℕ → (name place : List ℕ) → Option (Vec ℕ A) → (old new : Vec ℕ B) → Type 0
-AddsOnLine n name place text old new = AddsText old new (on_line n name place (option_map (λ v. v.items) text))
+abbrev pub AddsOnLine : {A B : Type 0} → ℕ → (name : List ℕ) → (line : Option ℕ) → Option (Vec ℕ A) → (old new : Vec ℕ B) → Type 0
+AddsOnLine n name line text old new = AddsText old new (on_line n name line (option_map (λ v. v.items) text))
 
-abbrev pub AddsLine : {A : Type 0} → List Channel → Sides → Told → ℕ → Task → Option Stop → (old new : Vec ℕ A) → Type 0
-AddsLine cs ends told n t stop old new =
-    AddsText old new (process_line (names_of cs) ends.readers.now ends.writers.now told.source.now told.places.now n t stop)
+abbrev pub AddsLine : {A : Type 0} → List Channel → Sides → Told → ℕ → Wait → Option Stop → (old new : Vec ℕ A) → Type 0
+AddsLine cs ends told n w stop old new =
+    AddsText old new (process_line (names_of cs) ends.readers.now ends.writers.now told.source.now told.places.now n w stop)
+
+abbrev pub AddsCalls : {A : Type 0} → List Known → ℕ → Task → Option Stop → (old new : Vec ℕ A) → Type 0
+AddsCalls known n t stop old new = AddsText old new (calls_told known n t stop)
 
 abbrev pub AddsLines : {A : Type 0} → List Channel → Sides → Told → ℕ → Task → (old new : Vec ℕ A) → Type 0
 AddsLines cs ends told n t old new =
@@ -353,6 +365,9 @@ AddsLines cs ends told n t old new =
 
 abbrev pub AddsFault : {A : Type 0} → Told → ℕ → Task → (old new : Vec ℕ A) → Type 0
 AddsFault told n t old new = AddsText old new (fault_told told.source.now told.unfolded.now.cells told.code.now.bodies n t)
+
+abbrev pub AddsVariables : {A : Type 0} → (held : List ℕ) → Variables → (read : List ℕ) → List Cell → (old new : Vec ℕ A) → Type 0
+AddsVariables held f read cells old new = AddsText old new (variables_text held f read 0 cells)
 
 -- of whatever network the tables hold, the lines of one process, and those of the first so many
 abbrev pub AddsTaskLine : {A : Type 0} → List Channel → Sides → Told → Tables → ℕ → (old new : Vec ℕ A) → Type 0
@@ -384,9 +399,9 @@ abbrev pub WaitingAt : {A : Type 0} → Ending → List ProcessUses → Program 
 WaitingAt ending uses p tables waiting = ending ≡ endings.Limit → AreWaitingIn uses p tables waiting
 
 -- by any term whose uses these are
-abbrev pub IsReportBy : {A : Type 0} → List ProcessUses → Program → List ℕ → Plan → List Known → (source : List ℕ) → List Cell → Vec ℕ A → Type 0
-IsReportBy uses p keyboard plan known source cells bytes =
-    (t : Term) → map noted_for uses ≡ all_using t → IsReport t p keyboard (choices_of plan) known source cells bytes.items
+abbrev pub IsReportBy : {A : Type 0} → List ProcessUses → Program → List ℕ → Plan → List Known → (source : List ℕ) → UnfoldedProgram → Vec ℕ A → Type 0
+IsReportBy uses p keyboard plan known source unfolded bytes =
+    (t : Term) → map noted_for uses ≡ all_using t → IsReport t p keyboard (choices_of plan) known source unfolded.cells bytes.items
 
 abbrev pub IsCircleBy : {A : Type 0} → List ProcessUses → Program → List ℕ → Plan → Vec ℕ A → Type 0
 IsCircleBy uses p keyboard plan circle =

@@ -171,12 +171,7 @@ fn may_hold(line: u32, stops: usize, call: &Call) -> bool
 }
 
 /// The numbers of the calls that may.
-fn holders(
-    alloc: Global,
-    line: u32,
-    stops: usize,
-    calls: &[Call],
-) -> Result<Vec<usize>, AllocError>
+fn holders(alloc: Global, line: u32, stops: usize, calls: &[Call]) -> Result<Vec<usize>, AllocError>
     ensures { IfOk result (λ found. found.items ≡ holders line stops 1 calls.now) }
 {
     let mut found = Vec::new(alloc);
@@ -241,7 +236,7 @@ fn call_of(
 fn write_call(alloc: Global, out: &mut Vec<u8>, line: u32) -> Result<(), AllocError>
     ensures { OnOk result (AddsText out.old out.new (call_text line)) }
 {
-    let text = format!(in alloc; ", called in line {line}")?;
+    let text = format!(in alloc; "    called in line {line}\n")?;
     out.extend_from_slice(text.as_bytes())
 }
 

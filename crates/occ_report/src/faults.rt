@@ -1,11 +1,11 @@
 //! What is told of a fault: the line that it stands in, and the values of the variables that were read there.
 ghost use Rattle.std.specs.Prelude.{◌≡◌, [], IfOk, OnOk};
 ghost use Rattle.occ_shown.specs.Answers.{AddsText};
-ghost use Rattle.occ_report.specs.Faults.{fault_line, is_among, is_evaluating, read_by, read_in, read_text, value_line, variables_text, with_read};
-ghost use Rattle.occ_report.specs.Reports.{AddsFault};
+ghost use Rattle.occ_report.specs.Faults.{fault_line, is_among, is_evaluating, read_by, read_in, read_text, value_line, with_read};
+ghost use Rattle.occ_report.specs.Reports.{AddsFault, AddsVariables};
 
+use crate::process_lines::Told;
 use crate::source_lines::{line_text, plain_text, unspaced};
-use crate::standing::Told;
 use occ_machine::{Body, Instr, Slot, Task, Wait};
 use occ_shown::write_value;
 use occ_term::{Cell, Frame, FrameCells, Unfolded};
@@ -112,8 +112,8 @@ fn write_variables(
     read: &[usize],
     unfolded: &Unfolded,
 ) -> Result<(), AllocError>
-    ensures { OnOk result (AddsText out.old out.new
-        (variables_text held.now frame.now read.now 0 unfolded.now.cells)) }
+    ensures { OnOk result
+        (AddsVariables held.now frame.now read.now unfolded.now.cells out.old out.new) }
 {
     unfolded.well_formed();
     let mut number: u32 = 0;
@@ -142,16 +142,18 @@ fn write_read(
     let code = body.code();
     let place = (task.pc as usize).min(code.len());
     let read = read_in(alloc, &code[..place])?;
-    write_variables(alloc, out, body.cells(), &task.frame, read.as_slice(), unfolded)
+    write_variables(
+        alloc,
+        out,
+        body.cells(),
+        &task.frame,
+        read.as_slice(),
+        unfolded,
+    )
 }
 
 /// The line of the source that a fault stands in.
-fn write_line(
-    alloc: Global,
-    out: &mut Vec<u8>,
-    source: &[u8],
-    line: u32,
-) -> Result<(), AllocError>
+fn write_line(alloc: Global, out: &mut Vec<u8>, source: &[u8], line: u32) -> Result<(), AllocError>
     ensures { OnOk result (AddsText out.old out.new (fault_line source.now line)) }
 {
     let text = plain_text(alloc, unspaced(line_text(source, line)))?;

@@ -7,11 +7,12 @@ ghost use Rattle.std.specs.List.{All};
 
 use crate::agreement::{forks_in, stops_in};
 use crate::calls::{Call, told_calls};
+use crate::marks::{Branches, Mark};
 use crate::places::{Located, Places};
 use crate::scope::Around;
 use crate::stop::Stop;
 use crate::text_lines::has_proc;
-use crate::walk::{Branches, Mark, Walk};
+use crate::walk::Walk;
 use occ_machine::{Body, Code, Instr, Slot};
 use occ_text::Line;
 use occ_tree_grammar::tree::line::Action;

@@ -6,7 +6,8 @@ ghost use Rattle.occ_shown.specs.Answers.{AddsText};
 use crate::Places;
 use crate::ended::write_ended;
 use crate::kinds::write_kind;
-use crate::standing::{Ends, Told, write_circle, write_lines};
+use crate::process_lines::{Told, write_lines};
+use crate::standing::{Ends, write_circle};
 use occ_choices::Plan;
 use occ_ends::{Left, ProcessUses, ends_of, left_in, waiting_in};
 use occ_machine::Code;
@@ -95,7 +96,7 @@ pub fn report(
     unfolded: &Unfolded,
 ) -> Result<Vec<u8>, AllocError>
     ensures { IfOk result (IsReportBy
-        uses.now code.now keyboard.now plan.now places.now source.now unfolded.now.cells) }
+        uses.now code.now keyboard.now plan.now places.now source.now unfolded.now) }
 {
     let Ran {
         ending,

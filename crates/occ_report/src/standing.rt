@@ -3,17 +3,15 @@ ghost use Rattle.std.specs.Prelude.{◌≡◌, IfOk, OnOk, Some, codes, slice_ge
 ghost use Rattle.occ_net_tables.specs.Holding.{HeldBy};
 ghost use Rattle.occ_term.specs.Endings.{ending_text};
 ghost use Rattle.occ_shown.specs.Answers.{AddsText, HasWords};
-ghost use Rattle.occ_report.specs.Reports.{arm_told, arms_told, awaited_told, branches_text, choosing_ones, halted_text, halting_text, line_of, line_told, name_text, place_told, task_chooses, offer_told, on_line, process_text, AddsChoosing, AddsCircle, AddsLine, AddsLines, ListsChoosing, AddsOnLine, AddsTaskLine, AddsTaskLines, choosing_told, joining_text, reader_at, standing_told, writer_at, ring_head, ring_text};
+ghost use Rattle.occ_report.specs.Reports.{arm_told, arms_told, awaited_told, branches_text, choosing_ones, halted_text, halting_text, task_chooses, process_text, AddsOffer, AddsChoosing, AddsCircle, ListsChoosing, choosing_told, joining_text, reader_at, standing_told, writer_at, ring_head, ring_text};
 
-use crate::calls::write_calls;
-use crate::faults::write_faulted;
 use crate::kinds::by_number;
-use crate::source_lines::{write_channel, written_at};
-use crate::{Kind, Places, Stop};
-use occ_machine::{Arm, Code, Task, Wait};
+use crate::source_lines::write_channel;
+use crate::{Kind, Stop};
+use occ_machine::{Arm, Wait};
 use occ_net_tables::Tables;
 use occ_shown::write_message;
-use occ_term::{Channel, Ending, Fault, KEYBOARD, Message, Unfolded};
+use occ_term::{Channel, Ending, Fault, KEYBOARD, Message};
 use std::alloc::{AllocError, Global};
 
 /// By channel, of the processes that are left: who may input from it, and who may output to it.
@@ -23,16 +21,7 @@ pub(crate) struct Ends<'a> {
     pub(crate) writers: &'a [Option<u32>],
 }
 
-/// By what it is told where processes stand: the source, its program and its code, and where the processes of that stand in it.
-#[derive(Clone, Copy)]
-pub(crate) struct Told<'a> {
-    pub(crate) source: &'a [u8],
-    pub(crate) unfolded: &'a Unfolded,
-    pub(crate) code: &'a Code,
-    pub(crate) places: &'a Places,
-}
-
-fn write_process(alloc: Global, out: &mut Vec<u8>, number: u32) -> Result<(), AllocError>
+pub(crate) fn write_process(alloc: Global, out: &mut Vec<u8>, number: u32) -> Result<(), AllocError>
     ensures { OnOk result (AddsText out.old out.new (process_text number)) }
 {
     let text = format!(in alloc; "p{number}")?;
@@ -243,8 +232,8 @@ fn write_offer(
     chan: u32,
     message: &Message,
 ) -> Result<(), AllocError>
-    ensures { OnOk result (AddsText out.old out.new
-        (offer_told channels.now readers.now written.now chan message.now)) }
+    ensures { OnOk result
+        (AddsOffer channels.now readers.now written.now chan message.now out.old out.new) }
 {
     out.extend_from_slice(b"offers ")?;
     write_message(alloc, out, message, chan, channels)?;
@@ -293,7 +282,7 @@ fn halted_text(stop: Option<Stop>) -> &'static [u8]
 }
 
 /// What a process stands at, of whose stop this is known, and the name with which the line there begins; nothing where it is at its end.
-fn standing(
+pub(crate) fn standing(
     alloc: Global,
     channels: &[Channel],
     ends: Ends<'_>,
@@ -311,7 +300,15 @@ fn standing(
         Wait::Halted => return text_of(alloc, halted_text(stop)),
         Wait::Done => return Ok(None),
         Wait::Offers { chan, message } => {
-            write_offer(alloc, &mut out, channels, ends.readers, written, *chan, message)?
+            write_offer(
+                alloc,
+                &mut out,
+                channels,
+                ends.readers,
+                written,
+                *chan,
+                message,
+            )?
         }
         Wait::Awaits { chan } => {
             write_awaited(alloc, &mut out, channels, ends.writers, written, *chan)?
@@ -344,174 +341,4 @@ fn write_joining(alloc: Global, out: &mut Vec<u8>, branches: &[u32]) -> Result<(
 {
     out.extend_from_slice(b"waits for")?;
     write_branches(alloc, out, branches)
-}
-
-/// The name of a PROC, where it is known.
-fn write_named(out: &mut Vec<u8>, name: &[u8]) -> Result<(), AllocError>
-    ensures { OnOk result (AddsText out.old out.new (name_text name.now)) }
-{
-    if name.is_empty() {
-        return Ok(());
-    }
-    out.push(b' ')?;
-    out.extend_from_slice(name)
-}
-
-/// The line at which a process stands that waits so, where it is known.
-fn line_of(stop: Option<Stop>, wait: &Wait) -> Option<u32>
-    ensures { result ≡ line_of stop wait.now }
-{
-    if let Wait::Faulted(fault) = wait {
-        return Some(fault.line);
-    }
-    match stop {
-        Some(stop) => Some(stop.line),
-        None => None,
-    }
-}
-
-/// The line, where it is known.
-fn write_line(alloc: Global, out: &mut Vec<u8>, line: Option<u32>) -> Result<(), AllocError>
-    ensures { OnOk result (AddsText out.old out.new (line_told line)) }
-{
-    match line {
-        Some(line) => {
-            let text = format!(in alloc; ", line {line}")?;
-            out.extend_from_slice(text.as_bytes())
-        }
-        None => Ok(()),
-    }
-}
-
-/// Where a process stands, of whose stop this is known: the line, and the calls within whose PROCs that is.
-fn place_text(
-    alloc: Global,
-    places: &Places,
-    number: u32,
-    stop: Option<Stop>,
-    task: &Task,
-) -> Result<Vec<u8>, AllocError>
-    ensures { IfOk result (λ text. text.items ≡ place_told places.now number stop task.now) }
-{
-    let mut out = Vec::new(alloc);
-    let line = line_of(stop, &task.wait);
-    write_line(alloc, &mut out, line)?;
-    let (calls, stops) = (places.calls(number), places.stops(number));
-    write_calls(alloc, &mut out, calls, stops, stop, &task.wait, task.pc)?;
-    Ok(out)
-}
-
-/// A line for a process, of where it stands and of this text.
-fn write_text(
-    alloc: Global,
-    out: &mut Vec<u8>,
-    number: u32,
-    name: &[u8],
-    place: &[u8],
-    text: &[u8],
-) -> Result<(), AllocError>
-    ensures { OnOk result
-        (AddsText out.old out.new (on_line number name.now place.now (Some text.now))) }
-{
-    out.extend_from_slice(b"  ")?;
-    write_process(alloc, out, number)?;
-    write_named(out, name)?;
-    out.extend_from_slice(place)?;
-    out.extend_from_slice(b": ")?;
-    out.extend_from_slice(text)?;
-    out.extend_from_slice(b"\n")
-}
-
-/// A line for a process, of where it stands and of the text that there is for it.
-fn write_on_line(
-    alloc: Global,
-    out: &mut Vec<u8>,
-    number: u32,
-    name: &[u8],
-    place: &[u8],
-    text: Option<Vec<u8>>,
-) -> Result<(), AllocError>
-    ensures { OnOk result (AddsOnLine number name.now place.now text out.old out.new) }
-{
-    match text {
-        Some(text) => write_text(alloc, out, number, name, place, text.as_slice()),
-        None => Ok(()),
-    }
-}
-
-/// The line of a process, where it is left, of whose stop this is known.
-fn write_standing(
-    alloc: Global,
-    out: &mut Vec<u8>,
-    channels: &[Channel],
-    ends: Ends<'_>,
-    told: Told<'_>,
-    number: u32,
-    task: &Task,
-    stop: Option<Stop>,
-) -> Result<(), AllocError>
-    ensures { OnOk result
-        (AddsLine channels.now ends.entry told.entry number task.now stop out.old out.new) }
-{
-    let name = told.places.name(number);
-    let written = written_at(told.source, stop);
-    let text = standing(alloc, channels, ends, stop, written, &task.wait)?;
-    let place = place_text(alloc, told.places, number, stop, task)?;
-    write_on_line(alloc, out, number, name, place.as_slice(), text)
-}
-
-/// The line of a process, where it is left, and those below it.
-fn write_task(
-    alloc: Global,
-    out: &mut Vec<u8>,
-    channels: &[Channel],
-    ends: Ends<'_>,
-    told: Told<'_>,
-    number: u32,
-    task: &Task,
-) -> Result<(), AllocError>
-    ensures { OnOk result (AddsLines
-        channels.now ends.entry told.entry number task.now out.old out.new) }
-{
-    let stop = told.places.stop(number, &task.wait, task.pc);
-    write_standing(alloc, out, channels, ends, told, number, task, stop)?;
-    write_faulted(alloc, out, told, number, task)
-}
-
-/// The lines of the process with this number, where it is left.
-fn write_numbered(
-    alloc: Global,
-    out: &mut Vec<u8>,
-    channels: &[Channel],
-    ends: Ends<'_>,
-    told: Told<'_>,
-    tables: &Tables,
-    number: u32,
-) -> Result<(), AllocError>
-    ensures { OnOk result (AddsTaskLine
-        channels.now ends.entry told.entry tables.now number out.old out.new) }
-{
-    match tables.task(number) {
-        Some(task) => write_task(alloc, out, channels, ends, told, number, task),
-        None => Ok(()),
-    }
-}
-
-/// The lines of the first so many processes that are left.
-pub(crate) fn write_lines(
-    alloc: Global,
-    out: &mut Vec<u8>,
-    channels: &[Channel],
-    ends: Ends<'_>,
-    told: Told<'_>,
-    tables: &Tables,
-    count: u32,
-) -> Result<(), AllocError>
-    ensures { OnOk result (AddsTaskLines
-        channels.now ends.entry told.entry tables.now count out.old out.new) }
-{
-    for number in 0..count {
-        write_numbered(alloc, out, channels, ends, told, tables, number)?;
-    }
-    Ok(())
 }

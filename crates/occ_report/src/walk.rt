@@ -1,41 +1,16 @@
 //! The stops of a process, as the tree has them, in the order of its code.
 
 use crate::calls::Calls;
+use crate::marks::{Branches, Mark, has_tag, literal};
 use crate::scope::{Around, Procedure, Procedures};
 use crate::stop::Kind;
-use occ_tree_grammar::tree::expr::{Expr, Literal, Operand};
+use occ_tree_grammar::tree::expr::Expr;
 use occ_tree_grammar::tree::line::{Action, Guard, Input};
 use occ_tree_grammar::tree::process::{Arm, Choice, Decl, Item, Process, Selection, Stmt, Variant};
 use std::alloc::{AllocError, Global};
 
 /// How many stops of a process have a number.
 const MOST_MET: usize = 4_294_967_295;
-
-/// The branches of a PAR.
-#[derive(Clone, Copy)]
-pub(crate) enum Branches<'t> {
-    /// What stands there is no PAR.
-    None,
-    /// A branch for each process.
-    Each(&'t [Process]),
-    /// Copies of a process.
-    Copies(&'t Process),
-    /// Copies of a process, but there may be none, and then there is nothing to stop at.
-    Maybe(&'t Process),
-}
-
-/// A stop.
-#[derive(Clone, Copy)]
-pub(crate) struct Mark<'t> {
-    /// The line.
-    pub line: u32,
-    /// What stands there.
-    pub kind: Kind,
-    /// The branches that begin there.
-    pub branches: Branches<'t>,
-    /// What stands round it.
-    pub around: Around<'t>,
-}
 
 /// A part of a process that is still to be gone through.
 #[derive(Clone, Copy)]
@@ -363,12 +338,7 @@ impl<'t> Walk<'t> {
     }
 
     /// The body of the PROC of this name, which is called in this line.
-    fn call(
-        &mut self,
-        line: u32,
-        name: &'t [u8],
-        around: Around<'t>,
-    ) -> Result<(), AllocError> {
+    fn call(&mut self, line: u32, name: &'t [u8], around: Around<'t>) -> Result<(), AllocError> {
         match self.procedures.find(name, around.scope, &mut self.looks) {
             Some(procedure) => {
                 let before = self.met();
@@ -514,28 +484,5 @@ impl<'t> Walk<'t> {
         let Variant::Tagged(declarations, _, _, _, body) = variant;
         let inside = self.inside(declarations, around)?;
         self.later(Part::One(body), inside)
-    }
-}
-
-/// The number that an expression is, where it is written as one.
-fn literal(e: &Expr) -> Option<i32> {
-    match e {
-        Expr::Operand(operand) => literal_operand(operand),
-        _ => None,
-    }
-}
-
-fn literal_operand(operand: &Operand) -> Option<i32> {
-    match operand {
-        Operand::Literal(Literal::Number(number), _) => Some(*number),
-        _ => None,
-    }
-}
-
-/// Whether an input takes one tag alone.
-fn has_tag(input: &Input) -> bool {
-    match input {
-        Input::Items(_, _) => false,
-        Input::Tagged(_, _, _) => true,
     }
 }

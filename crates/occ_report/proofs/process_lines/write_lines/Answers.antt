@@ -1,5 +1,5 @@
 use Rattle.occ_report.proofs.Lines.{lines_step}
-use Rattle.occ_report.proofs.standing.write_lines.Goals as goal
+use Rattle.occ_report.proofs.process_lines.write_lines.Goals as goal
 
 pub loop-number-preserved : goal.loop-number-preserved
 loop-number-preserved c = λ p keyboard net h.
