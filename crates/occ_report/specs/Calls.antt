@@ -75,16 +75,16 @@ stop_call None = 0
 stop_call (Some s) = s.call
 
 -- the call within whose PROC a process stands that waits so and goes on at this place
-abbrev pub call_of : List Call → List Stop → Option Stop → Wait → ℕ → ℕ
-call_of calls stops stop Ready p = stop_call stop
-call_of calls stops stop (Took arm indices m) p = stop_call stop
-call_of calls stops stop (Offers c m) p = stop_call stop
-call_of calls stops stop (Awaits c) p = stop_call stop
-call_of calls stops stop (Chooses pri arms) p = stop_call stop
-call_of calls stops stop (Joins ns) p = stop_call stop
-call_of calls stops stop Halted p = stop_call stop
-call_of calls stops stop Done p = stop_call stop
-call_of calls stops stop (Faulted e) p = fault_call calls stops p e.line
+abbrev pub call_within : List Call → List Stop → Option Stop → Wait → ℕ → ℕ
+call_within calls stops stop Ready p = stop_call stop
+call_within calls stops stop (Took arm indices m) p = stop_call stop
+call_within calls stops stop (Offers c m) p = stop_call stop
+call_within calls stops stop (Awaits c) p = stop_call stop
+call_within calls stops stop (Chooses pri arms) p = stop_call stop
+call_within calls stops stop (Joins ns) p = stop_call stop
+call_within calls stops stop Halted p = stop_call stop
+call_within calls stops stop Done p = stop_call stop
+call_within calls stops stop (Faulted e) p = fault_call calls stops p e.line
 
 abbrev pub calls_text : List Call → List Stop → Option Stop → Wait → ℕ → List ℕ
-calls_text calls stops stop w p = chain_text (length calls) calls (call_of calls stops stop w p)
+calls_text calls stops stop w p = chain_text (length calls) calls (call_within calls stops stop w p)

@@ -10,7 +10,7 @@ use Rattle.occ_machine.specs.declared.task.Task.{Task}
 use Rattle.occ_machine.specs.declared.task.Wait.{Wait}
 use Rattle.occ_machine.specs.declared.task.Wait.TheVariants.{Ready, Took, Offers, Awaits, Chooses, Joins, Halted, Done, Faulted}
 use Rattle.occ_shown.specs.Answers.{value_text}
-use Rattle.occ_report.specs.Written.{line_text, plain_text, unspaced}
+use Rattle.occ_report.specs.Written.{numbered_line, plain_text, unspaced}
 
 -- ---- what was read for an evaluation
 
@@ -48,9 +48,9 @@ as_list (Some place) = place ∷ []
 abbrev pub with_read : Instr ℕ → List ℕ → List ℕ
 with_read i read = (if is_evaluating i then read else []) ++ as_list (read_by i)
 
-abbrev pub read_in : List (Instr ℕ) → List ℕ → List ℕ
-read_in [] read = read
-read_in (i ∷ others) read = read_in others (with_read i read)
+abbrev pub reads_in : List (Instr ℕ) → List ℕ → List ℕ
+reads_in [] read = read
+reads_in (i ∷ others) read = reads_in others (with_read i read)
 
 -- ---- what is told of it
 
@@ -68,10 +68,10 @@ variables_text held f read n (c ∷ others) = (if is_among (place_among held n) 
 
 -- those that were read up to the place where a process of this body stands
 abbrev pub read_text : Body → List Cell → Task → List ℕ
-read_text b cells t = variables_text b.cells t.frame (read_in (take (min t.pc (length b.code)) b.code) []) 0 cells
+read_text b cells t = variables_text b.cells t.frame (reads_in (take (min t.pc (length b.code)) b.code) []) 0 cells
 
 abbrev pub fault_line : (source : List ℕ) → ℕ → List ℕ
-fault_line source line = codes "    " ++ plain_text (unspaced (line_text source line)) ++ codes "\n"
+fault_line source line = codes "    " ++ plain_text (unspaced (numbered_line source line)) ++ codes "\n"
 
 abbrev pub body_text : Option Body → List Cell → Task → List ℕ
 body_text None cells t = []

@@ -147,12 +147,12 @@ stops_in (Some k) = k.stops
 abbrev pub stops_of : List Known → ℕ → List Stop
 stops_of all n = stops_in (slice_get all n)
 
-abbrev pub calls_in : Option Known → List Call
-calls_in None = []
-calls_in (Some k) = k.calls
+abbrev pub calls_known : Option Known → List Call
+calls_known None = []
+calls_known (Some k) = k.calls
 
 abbrev pub calls_of : List Known → ℕ → List Call
-calls_of all n = calls_in (slice_get all n)
+calls_of all n = calls_known (slice_get all n)
 
 abbrev pub is_output : Kind → Bool
 is_output kinds.Output = true

@@ -119,21 +119,21 @@ name_text [] = []
 name_text (c ∷ cs) = 32 ∷ c ∷ cs
 
 -- the line of a stop, where it is known
-abbrev pub stop_line : Option Stop → Option ℕ
-stop_line None = None
-stop_line (Some s) = Some s.line
+abbrev pub line_at_stop : Option Stop → Option ℕ
+line_at_stop None = None
+line_at_stop (Some s) = Some s.line
 
 -- the line at which a process stands that waits so, where it is known
-abbrev pub line_of : Option Stop → Wait → Option ℕ
-line_of stop Ready = stop_line stop
-line_of stop (Took arm indices m) = stop_line stop
-line_of stop (Offers c m) = stop_line stop
-line_of stop (Awaits c) = stop_line stop
-line_of stop (Chooses pri arms) = stop_line stop
-line_of stop (Joins ns) = stop_line stop
-line_of stop Halted = stop_line stop
-line_of stop Done = stop_line stop
-line_of stop (Faulted e) = Some e.line
+abbrev pub standing_line : Option Stop → Wait → Option ℕ
+standing_line stop Ready = line_at_stop stop
+standing_line stop (Took arm indices m) = line_at_stop stop
+standing_line stop (Offers c m) = line_at_stop stop
+standing_line stop (Awaits c) = line_at_stop stop
+standing_line stop (Chooses pri arms) = line_at_stop stop
+standing_line stop (Joins ns) = line_at_stop stop
+standing_line stop Halted = line_at_stop stop
+standing_line stop Done = line_at_stop stop
+standing_line stop (Faulted e) = Some e.line
 
 abbrev pub line_told : Option ℕ → List ℕ
 line_told None = []
@@ -145,24 +145,24 @@ on_line n name line (Some text) = codes "  " ++ process_text n ++ name_text name
 
 -- what is told of a process, with its PROC and its line, as far as they are known
 abbrev pub process_line : Names → (readers writers : Noted) → (source : List ℕ) → List Known → ℕ → Wait → Option Stop → List ℕ
-process_line names readers writers source known n w stop = on_line n (name_of known n) (line_of stop w) (standing_text names readers writers stop (written_at source stop) w)
+process_line names readers writers source known n w stop = on_line n (name_of known n) (standing_line stop w) (standing_text names readers writers stop (written_at source stop) w)
 
 -- the calls within whose PROCs it stands, where they are known
 abbrev pub calls_told : List Known → ℕ → Task → Option Stop → List ℕ
 calls_told known n t stop = calls_text (calls_of known n) (stops_of known n) stop t.wait t.pc
 
-abbrev pub lines_at : Names → (readers writers : Noted) → (source : List ℕ) → List Cell → List Body → List Known → ℕ → Task → Option Stop → List ℕ
-lines_at names readers writers source cells bodies known n t stop =
+abbrev pub lines_told_at : Names → (readers writers : Noted) → (source : List ℕ) → List Cell → List Body → List Known → ℕ → Task → Option Stop → List ℕ
+lines_told_at names readers writers source cells bodies known n t stop =
     process_line names readers writers source known n t.wait stop ++ fault_told source cells bodies n t ++ calls_told known n t stop
 
 -- the line of a process, and those below it
-abbrev pub lines_of : Names → (readers writers : Noted) → (source : List ℕ) → List Cell → List Body → List Known → ℕ → Task → List ℕ
-lines_of names readers writers source cells bodies known n t = lines_at names readers writers source cells bodies known n t (stop_of known n t.wait t.pc)
+abbrev pub lines_told : Names → (readers writers : Noted) → (source : List ℕ) → List Cell → List Body → List Known → ℕ → Task → List ℕ
+lines_told names readers writers source cells bodies known n t = lines_told_at names readers writers source cells bodies known n t (stop_of known n t.wait t.pc)
 
 abbrev pub task_line : Names → (readers writers : Noted) → (source : List ℕ) → List Cell → List Body → List Known → ℕ → Option (Option Task) → List ℕ
 task_line names readers writers source cells bodies known n None = []
 task_line names readers writers source cells bodies known n (Some None) = []
-task_line names readers writers source cells bodies known n (Some (Some t)) = lines_of names readers writers source cells bodies known n t
+task_line names readers writers source cells bodies known n (Some (Some t)) = lines_told names readers writers source cells bodies known n t
 
 -- the lines of the first so many processes
 abbrev pub task_lines : Names → (readers writers : Noted) → (source : List ℕ) → List Cell → List Body → List Known → Tasks → ℕ → List ℕ
@@ -361,7 +361,7 @@ AddsCalls known n t stop old new = AddsText old new (calls_told known n t stop)
 
 abbrev pub AddsLines : {A : Type 0} → List Channel → Sides → Told → ℕ → Task → (old new : Vec ℕ A) → Type 0
 AddsLines cs ends told n t old new =
-    AddsText old new (lines_of (names_of cs) ends.readers.now ends.writers.now told.source.now told.unfolded.now.cells told.code.now.bodies told.places.now n t)
+    AddsText old new (lines_told (names_of cs) ends.readers.now ends.writers.now told.source.now told.unfolded.now.cells told.code.now.bodies told.places.now n t)
 
 abbrev pub AddsFault : {A : Type 0} → Told → ℕ → Task → (old new : Vec ℕ A) → Type 0
 AddsFault told n t old new = AddsText old new (fault_told told.source.now told.unfolded.now.cells told.code.now.bodies n t)

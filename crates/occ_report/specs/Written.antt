@@ -12,8 +12,8 @@ nth_line [] n = []
 nth_line (l ∷ ls) zero = l
 nth_line (l ∷ ls) (suc n) = nth_line ls n
 
-abbrev pub line_text : (source : List ℕ) → ℕ → List ℕ
-line_text source n = nth_line (lines source) (n - 1)
+abbrev pub numbered_line : (source : List ℕ) → ℕ → List ℕ
+numbered_line source n = nth_line (lines source) (n - 1)
 
 -- without the spaces that it begins with
 abbrev pub unspaced : List ℕ → List ℕ
@@ -31,7 +31,7 @@ name_in_front bytes = take (front_length bytes) bytes
 -- the name with which the line of a stop begins, where that is known: for an output or an input that of its channel
 abbrev pub written_at : (source : List ℕ) → Option Stop → List ℕ
 written_at source None = []
-written_at source (Some s) = name_in_front (unspaced (line_text source s.line))
+written_at source (Some s) = name_in_front (unspaced (numbered_line source s.line))
 
 -- a channel's name; where another one is written, as that of a formal, that and what it stands for
 abbrev pub is_its_own : (written name : List ℕ) → Bool

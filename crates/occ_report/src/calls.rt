@@ -3,7 +3,7 @@ ghost use Rattle.std.specs.Prelude.{◌≡◌, ◌≤◌, IfOk, IfSome, OnOk, le
 ghost use Rattle.std.specs.List.{All};
 ghost use Rattle.occ_text.specs.Words.{logical_lines};
 ghost use Rattle.occ_shown.specs.Answers.{AddsText};
-ghost use Rattle.occ_report.specs.Calls.{IsCallIn, call_at, call_of, call_text, calls_text, chain_text, fault_call, holders, may_hold, only_one, stops_before};
+ghost use Rattle.occ_report.specs.Calls.{IsCallIn, call_at, call_within, call_text, calls_text, chain_text, fault_call, holders, may_hold, only_one, stops_before};
 
 use crate::scope::Procedure;
 use crate::stop::Stop;
@@ -214,7 +214,7 @@ fn fault_call(
 }
 
 /// The number of the call within whose PROC a process stands that waits so; 0 where it is none, or it isn't known.
-fn call_of(
+fn call_within(
     alloc: Global,
     calls: &[Call],
     stops: &[Stop],
@@ -222,7 +222,7 @@ fn call_of(
     wait: &Wait,
     place: u32,
 ) -> Result<usize, AllocError>
-    ensures { IfOk result (λ n. n ≡ call_of calls.now stops.now stop wait.now place) }
+    ensures { IfOk result (λ n. n ≡ call_within calls.now stops.now stop wait.now place) }
 {
     if let Wait::Faulted(fault) = wait {
         return fault_call(alloc, calls, stops, place, fault.line);
@@ -276,6 +276,6 @@ pub(crate) fn write_calls(
     ensures { OnOk result (AddsText out.old out.new
         (calls_text calls.now stops.now stop wait.now place)) }
 {
-    let number = call_of(alloc, calls, stops, stop, wait, place)?;
+    let number = call_within(alloc, calls, stops, stop, wait, place)?;
     write_chain(alloc, out, calls, number)
 }

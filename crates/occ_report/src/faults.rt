@@ -1,11 +1,11 @@
 //! What is told of a fault: the line that it stands in, and the values of the variables that were read there.
 ghost use Rattle.std.specs.Prelude.{◌≡◌, [], IfOk, OnOk};
 ghost use Rattle.occ_shown.specs.Answers.{AddsText};
-ghost use Rattle.occ_report.specs.Faults.{fault_line, is_among, is_evaluating, read_by, read_in, read_text, value_line, with_read};
+ghost use Rattle.occ_report.specs.Faults.{fault_line, is_among, is_evaluating, read_by, reads_in, read_text, value_line, with_read};
 ghost use Rattle.occ_report.specs.Reports.{AddsFault, AddsVariables};
 
 use crate::process_lines::Told;
-use crate::source_lines::{line_text, plain_text, unspaced};
+use crate::source_lines::{numbered_line, plain_text, unspaced};
 use occ_machine::{Body, Instr, Slot, Task, Wait};
 use occ_shown::write_value;
 use occ_term::{Cell, Frame, FrameCells, Unfolded};
@@ -61,8 +61,8 @@ fn add_read(read: &mut Vec<usize>, instruction: &Instr<Slot>) -> Result<(), Allo
 }
 
 /// The places in the frame that were read for what is evaluated at the end of this code.
-fn read_in(alloc: Global, code: &[Instr<Slot>]) -> Result<Vec<usize>, AllocError>
-    ensures { IfOk result (λ read. read.items ≡ read_in code.now []) }
+fn reads_in(alloc: Global, code: &[Instr<Slot>]) -> Result<Vec<usize>, AllocError>
+    ensures { IfOk result (λ read. read.items ≡ reads_in code.now []) }
 {
     let mut read = Vec::new(alloc);
     let mut rest = code;
@@ -141,7 +141,7 @@ fn write_read(
 {
     let code = body.code();
     let place = (task.pc as usize).min(code.len());
-    let read = read_in(alloc, &code[..place])?;
+    let read = reads_in(alloc, &code[..place])?;
     write_variables(
         alloc,
         out,
@@ -156,7 +156,7 @@ fn write_read(
 fn write_line(alloc: Global, out: &mut Vec<u8>, source: &[u8], line: u32) -> Result<(), AllocError>
     ensures { OnOk result (AddsText out.old out.new (fault_line source.now line)) }
 {
-    let text = plain_text(alloc, unspaced(line_text(source, line)))?;
+    let text = plain_text(alloc, unspaced(numbered_line(source, line)))?;
     out.extend_from_slice(b"    ")?;
     out.extend_from_slice(text.as_slice())?;
     out.extend_from_slice(b"\n")

@@ -1,7 +1,7 @@
 //! The lines of processes, in bytes.
 ghost use Rattle.std.specs.Prelude.{◌≡◌, OnOk, Some};
 ghost use Rattle.occ_shown.specs.Answers.{AddsText};
-ghost use Rattle.occ_report.specs.Reports.{line_of, line_told, name_text, on_line, AddsCalls, AddsLine, AddsLines, AddsOnLine, AddsTaskLine, AddsTaskLines};
+ghost use Rattle.occ_report.specs.Reports.{standing_line, line_told, name_text, on_line, AddsCalls, AddsLine, AddsLines, AddsOnLine, AddsTaskLine, AddsTaskLines};
 
 use crate::calls::write_calls;
 use crate::faults::write_faulted;
@@ -34,8 +34,8 @@ fn write_named(out: &mut Vec<u8>, name: &[u8]) -> Result<(), AllocError>
 }
 
 /// The line at which a process stands that waits so, where it is known.
-fn line_of(stop: Option<Stop>, wait: &Wait) -> Option<u32>
-    ensures { result ≡ line_of stop wait.now }
+fn standing_line(stop: Option<Stop>, wait: &Wait) -> Option<u32>
+    ensures { result ≡ standing_line stop wait.now }
 {
     if let Wait::Faulted(fault) = wait {
         return Some(fault.line);
@@ -114,7 +114,7 @@ fn write_standing(
     let written = written_at(told.source, stop);
     let text = standing(alloc, channels, ends, stop, written, wait)?;
     let name = told.places.name(number);
-    write_on_line(alloc, out, number, name, line_of(stop, wait), text)
+    write_on_line(alloc, out, number, name, standing_line(stop, wait), text)
 }
 
 /// The calls within whose PROCs a process stands, of whose stop this is known.

@@ -3,7 +3,7 @@ ghost use Rattle.std.specs.Prelude.{◌≡◌, ◌∷◌, ◌<◌, ◌≤◌, �
 ghost use Rattle.std.specs.Str.Lines.{lines, strip_carriage_return};
 ghost use Rattle.occ_text.specs.Spelling.{is_name_part};
 ghost use Rattle.occ_shown.specs.Answers.{AddsText, names_of};
-ghost use Rattle.occ_report.specs.Written.{called_text, channel_told, front_length, line_text, name_in_front, plain_byte, plain_text, unspaced, written_at};
+ghost use Rattle.occ_report.specs.Written.{called_text, channel_told, front_length, numbered_line, name_in_front, plain_byte, plain_text, unspaced, written_at};
 
 use crate::stop::Stop;
 use occ_shown::write_name;
@@ -40,8 +40,8 @@ fn first_line(text: &[u8]) -> (&[u8], &[u8])
 }
 
 /// The line of this number; no byte where there is none.
-pub(crate) fn line_text(source: &[u8], number: u32) -> &[u8]
-    ensures { result.now ≡ line_text source.now number }
+pub(crate) fn numbered_line(source: &[u8], number: u32) -> &[u8]
+    ensures { result.now ≡ numbered_line source.now number }
 {
     let mut before = number.saturating_sub(1);
     let mut rest = source;
@@ -102,7 +102,7 @@ pub(crate) fn written_at(source: &[u8], stop: Option<Stop>) -> &[u8]
     ensures { result.now ≡ written_at source.now stop }
 {
     match stop {
-        Some(stop) => name_in_front(unspaced(line_text(source, stop.line))),
+        Some(stop) => name_in_front(unspaced(numbered_line(source, stop.line))),
         None => &[],
     }
 }
