@@ -11,7 +11,7 @@ use crate::headings::Head;
 use crate::heads::write_heads;
 use crate::labels::write_grounded;
 use crate::messages::write_items;
-use crate::places::{Layout, head_rows, if_close};
+use crate::places::Layout;
 use crate::xml::{Style, write_path};
 use occ_board::Shown;
 use occ_term::End;
@@ -85,14 +85,14 @@ pub(crate) fn numbered_words(alloc: Global, shown: &Shown) -> Result<Vec<u8>, Al
 
 /// How many rows so many communications take.
 #[tactic(auto, using(crate::proofs::Drawing::row_most, crate::proofs::Drawing::rows_step))]
-pub(crate) fn rows_of(close: bool, count: usize) -> usize
+pub(crate) fn rows_of(layout: &Layout, count: usize) -> usize
     requires { count ≤ 990 }
-    ensures is { result ≡ rows_of close 30 (if_close close 1) count }
+    ensures is { result ≡ rows_of layout.now.close 30 (if_close layout.now.close 1) count }
     ensures few { result ≤ 3000 }
 {
-    let (mut rows, mut left) = (if_close(close, 1), 30);
+    let (mut rows, mut left) = (layout.if_close(1) as usize, 30);
     for _ in 0..count {
-        rows = row_behind(close, left, rows) + 1;
+        rows = row_behind(layout, left, rows) + 1;
         left = rows_left(left);
     }
     rows
@@ -163,12 +163,12 @@ fn write_break(
 }
 
 /// The row of the next arrow, where so many rows are left before heads stand again.
-fn row_behind(close: bool, left: usize, number: usize) -> usize
+fn row_behind(layout: &Layout, left: usize, number: usize) -> usize
     requires { number ≤ 2 ^ 40 }
-    ensures { result ≡ row_behind close left number }
+    ensures { result ≡ row_behind layout.now.close left number }
 {
     if left == 0 {
-        number + head_rows(close)
+        number + layout.head_rows()
     } else {
         number
     }
@@ -194,12 +194,11 @@ pub(crate) fn write_arrows(
     requires near { length shown.now ≤ 990 }
     ensures { PutsArrows result out.old out.new heads.now layout.now columns.now shown.now }
 {
-    let close = layout.is_close();
-    let (mut number, mut left) = (if_close(close, 1), 30);
+    let (mut number, mut left) = (layout.if_close(1) as usize, 30);
     let mut rest = shown;
     while let Some((first, others)) = rest.split_first() {
         write_break(alloc, out, heads, layout, left, number)?;
-        let row = row_behind(close, left, number);
+        let row = row_behind(layout, left, number);
         write_arrow(alloc, out, layout, columns, row, first)?;
         number = row + 1;
         left = rows_left(left);

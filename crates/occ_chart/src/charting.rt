@@ -69,12 +69,12 @@ fn write_opening(
 }
 
 /// The height of the row below so many communications.
-fn row_below(close: bool, count: usize) -> u64
+fn row_below(layout: &Layout, count: usize) -> u64
     requires { count ≤ 990 }
-    ensures is { result ≡ row_below close count }
+    ensures is { result ≡ row_below layout.now.close count }
     ensures high { result ≤ 2 ^ 39 }
 {
-    row(rows_of(close, count))
+    row(rows_of(layout, count))
 }
 
 /// What stands over the foot.
@@ -93,7 +93,7 @@ fn above(
     ensures { IfOk result
         (HasBytes (above layout.now heads.now columns.now shown.now letters before.now)) }
 {
-    let bottom = row_below(layout.is_close(), shown.len());
+    let bottom = row_below(layout, shown.len());
     let width = 7 * letters as u64;
     let height = bottom + layout.if_close(72) + 132;
     let mut out = Vec::new(alloc);
@@ -132,7 +132,7 @@ fn write_below(
     ensures { PutsFoot result out.old out.new layout.now heads.now columns.now count stubs.now
         letters notes.now circle.now }
 {
-    let bottom = row_below(layout.is_close(), count);
+    let bottom = row_below(layout, count);
     let depth = notes_depth(layout, bottom);
     write_stubs(alloc, out, layout, columns, bottom, stubs)?;
     write_reasons(alloc, out, layout, columns, bottom, stubs)?;

@@ -15,7 +15,7 @@ const MOST_LETTERS: u64 = 1 << 46;
 const MOST_POINTS: u64 = 2000;
 
 /// This number where columns stand close, and else 0.
-pub(crate) fn if_close(close: bool, number: usize) -> usize
+fn if_close(close: bool, number: usize) -> usize
     ensures is { result ≡ if_close close number }
     ensures within { result ≤ number }
 {
@@ -23,7 +23,7 @@ pub(crate) fn if_close(close: bool, number: usize) -> usize
 }
 
 /// In how many rows heads stand by turns.
-pub(crate) fn head_rows(close: bool) -> usize
+fn head_rows(close: bool) -> usize
     ensures is { result ≡ head_rows close }
     ensures some { 0 < result }
     ensures few { result ≤ 2 }
@@ -235,13 +235,6 @@ impl Layout {
         self.places.as_slice()
     }
 
-    /// Whether they stand close.
-    pub(crate) fn is_close(&self) -> bool
-        ensures { result ≡ self.now.close }
-    {
-        self.close
-    }
-
     /// The place of a column in the picture, in points: a letter has 7.
     pub(crate) fn column(&self, number: usize) -> u64
         requires { AreNear self.now.places }
@@ -250,12 +243,20 @@ impl Layout {
         7 * place_at(self.places(), number)
     }
 
+    /// In how many rows heads stand by turns.
+    pub(crate) fn head_rows(&self) -> usize
+        ensures is { result ≡ head_rows self.now.close }
+        ensures few { result ≤ 2 }
+    {
+        head_rows(self.close)
+    }
+
     /// How far below the first row a head stands.
     pub(crate) fn head_depth(&self, column: usize) -> u64
         ensures is { result ≡ head_depth self.now column }
         ensures few { result ≤ 60 }
     {
-        30 * (column % head_rows(self.is_close())) as u64
+        30 * (column % head_rows(self.close)) as u64
     }
 
     /// How far words at the foot do.
@@ -263,7 +264,7 @@ impl Layout {
         ensures is { result ≡ foot_depth self.now column }
         ensures few { result ≤ 60 }
     {
-        14 * (column % foot_rows(self.is_close())) as u64
+        14 * (column % foot_rows(self.close)) as u64
     }
 
     /// So many points where columns stand close, and else 0.
@@ -271,7 +272,7 @@ impl Layout {
         ensures is { result ≡ if_close self.now.close points }
         ensures within { result ≤ points }
     {
-        if_close(self.is_close(), points) as u64
+        if_close(self.close, points) as u64
     }
 
     /// The place halfway between two columns.
@@ -290,7 +291,7 @@ impl Layout {
     {
         let (from, to) = (place_at(self.places(), from), place_at(self.places(), to));
         let room = ((from.max(to) - from.min(to)) as usize).saturating_sub(2);
-        if_close(self.is_close(), 24).max(room)
+        if_close(self.close, 24).max(room)
     }
 }
 
