@@ -12,8 +12,8 @@ use Rattle.occ_check_meaning.specs.Numbers.{Numbers}
 use Rattle.occ_check_meaning.specs.Performing.{Calling}
 use Rattle.occ_check_meaning.specs.Recursion.{all_in_turn, unfolded}
 use Rattle.occ_check_meaning.specs.Scope.{Scope}
-use Rattle.occ_check_opened.specs.Weights.{node_size, nodes_size}
-use Rattle.occ_check_opened.proofs.Listing.{before}
+use Rattle.occ_check.specs.Weights.{node_size, nodes_size}
+use Rattle.occ_check.proofs.PartByPart.{before}
 
 -- ---- vectors
 

@@ -16,8 +16,8 @@ use Rattle.occ_check_meaning.specs.Recursion.{all_declared, unfolded}
 use Rattle.occ_check.specs.Opening.{declarations_in, line_in, performing, statement_in, statement_size}
 use Rattle.occ_check_meaning.specs.Unfolding.{Procedures}
 use Rattle.occ_check_meaning.specs.Meant.{meant}
-use Rattle.occ_check_opened.specs.Opened.{put}
-use Rattle.occ_check_opened.specs.Weights.{decls_size, node_size, weight}
+use Rattle.occ_check.specs.Opened.{put}
+use Rattle.occ_check.specs.Weights.{decls_size, node_size, weight}
 
 -- ---- a process by its parts
 

@@ -18,8 +18,8 @@ use Rattle.occ_term.specs.Terms.{Term}
 use Rattle.occ_check_meaning.specs.Actions.{none_chosen}
 use Rattle.occ_check_meaning.specs.Performing.{Under, acted, sequenced, each_sequenced, beside, copies_beside, alternated, conditioned, selected, looped, taken_by_variant, each_of_arms, each_of_choices}
 use Rattle.occ_check_meaning.specs.Recursion.{unfolded, all_in_turn, all_beside, all_arms, arm_unfolded, all_choices, choice_unfolded, all_options, all_variants}
-use Rattle.occ_check_opened.specs.Opened.{body_unfolded, par_parts, seq_parts}
-use Rattle.occ_check_opened.specs.Weights.{node_size, nodes_size}
+use Rattle.occ_check.specs.Opened.{body_unfolded, par_parts, seq_parts}
+use Rattle.occ_check.specs.Weights.{node_size, nodes_size}
 
 abbrev pub performing : ℕ → Stmt → Under Term
 performing line (stmts.Action a) = acted line (action_of a.value)

@@ -6,22 +6,22 @@ ghost use Rattle.occ_tree_grammar.specs.Processes.Views.{held_decls, held_proces
 ghost use Rattle.occ_tree_grammar.specs.declared.tree.process.Arm.TheBlock.{hidden-the_row-Decl-0, hidden-the_row-Process-4};
 ghost use Rattle.occ_term.specs.View.{term_of};
 ghost use Rattle.occ_check_meaning.specs.Performing.{acted};
-ghost use Rattle.occ_check_opened.specs.Opened.{Begins, IsReady, IsStepReady, LeavesWithin, OpensAt, left_weight, statement_left, step_left, step_weight, body_unfolded};
-ghost use Rattle.occ_check_opened.specs.Progress.{body_weight, counted, nodes_weight, weight_at, KeepsOpen, OpensNothing};
+ghost use Rattle.occ_check.specs.Opened.{Begins, IsReady, IsStepReady, LeavesWithin, OpensAt, left_weight, statement_left, step_left, step_weight, body_unfolded};
+ghost use Rattle.occ_check.specs.Progress.{body_weight, counted, nodes_weight, weight_at, KeepsOpen, OpensNothing};
 ghost use Rattle.occ_check.specs.Opening.{IsNoCall, declarations_in, line_in, performing as statement_unfolded, statement_in, statement_size, par_of, seq_for, seq_of, while_of};
-ghost use Rattle.occ_check_opened.specs.Weights.{decl_nodes, process_nodes};
-ghost use Rattle.occ_check_opened.specs.declared.unfolder.Unfolder.{Unfolder as UnfolderState};
-ghost use Rattle.occ_check_opened.specs.OneLine.{PerformsAt, call_action};
+ghost use Rattle.occ_check.specs.Weights.{decl_nodes, process_nodes};
+ghost use Rattle.occ_check.specs.declared.unfolder.Unfolder.{Unfolder as UnfolderState};
+ghost use Rattle.occ_check.specs.OneLine.{PerformsAt, call_action};
 
-use occ_check_names::fault::CheckFault;
-use occ_check_opened::here::Here;
-use occ_check_opened::opened::{Around, Left, Opened, Step};
-use occ_check_opened::unfolder::{Call, Unfolder};
-use occ_check_parts::arms::{arms_opened, each_arm_opened, listed_arms};
-use occ_check_parts::choices::{choices_opened, each_choice_opened, listed_choices};
-use occ_check_parts::copies::copies_opened;
-use occ_check_parts::options::{listed_selections, options_opened};
-use occ_check_parts::variants::{listed_variants, variants_opened};
+use crate::arms::{arms_opened, each_arm_opened, listed_arms};
+use crate::choices::{choices_opened, each_choice_opened, listed_choices};
+use crate::copies::copies_opened;
+use crate::fault::CheckFault;
+use crate::here::Here;
+use crate::opened::{Around, Left, Opened, Step};
+use crate::options::{listed_selections, options_opened};
+use crate::unfolder::{Call, Unfolder};
+use crate::variants::{listed_variants, variants_opened};
 use occ_held::letters::Letters;
 use occ_term::Term;
 use occ_tree_grammar::tree::expr::Expr;
@@ -269,7 +269,7 @@ fn kept_declarations(process: &Process) -> &Vec<Decl>
 }
 
 /// The declarations of a process.
-#[tactic(auto, using(occ_check_opened::proofs::Parts::decls_made))]
+#[tactic(auto, using(crate::proofs::Parts::decls_made))]
 fn declarations_of(process: &Process) -> &[Decl]
     ensures { decl_nodes result.now ≡ declarations_in process.now }
 {

@@ -2,24 +2,24 @@
 
 ghost use Rattle.std.specs.Prelude.{◌≤◌, ◌+ℤ◌, ◌≤ℤ◌, pos, OnOk};
 ghost use Rattle.occ_term.specs.View.{arms_of, branches_of, choices_of, options_of, term_of, terms_of, variants_of};
-ghost use Rattle.occ_check_names.specs.View.{Unfolds};
-ghost use Rattle.occ_check_opened.specs.OpenBlocks.{Restores};
-ghost use Rattle.occ_check_opened.specs.Opened.{IsReady, body_unfolded, statement_left, alt_arms, case_options, case_variants, if_choices, par_parts, seq_parts};
-ghost use Rattle.occ_check_opened.specs.Progress.{Reads};
-ghost use Rattle.occ_check_parts.specs.Copies.{ReadsCopies};
+ghost use Rattle.occ_check.specs.View.{Unfolds};
+ghost use Rattle.occ_check.specs.OpenBlocks.{Restores};
+ghost use Rattle.occ_check.specs.Opened.{IsReady, body_unfolded, statement_left, alt_arms, case_options, case_variants, if_choices, par_parts, seq_parts};
+ghost use Rattle.occ_check.specs.Progress.{Reads};
+ghost use Rattle.occ_check.specs.Copies.{ReadsCopies};
 
+use crate::arms::{OpenedArm, arm_opened};
+use crate::choices::{OpenedChoice, choice_opened};
+use crate::copies::{OpenedCopy, copy_opened, next_value};
+use crate::entering::headed;
+use crate::fault::CheckFault;
+use crate::here::Here;
+use crate::opened::{Left, Opened, Step};
 use crate::opening::process_opened;
-use occ_check_names::fault::CheckFault;
-use occ_check_opened::entering::headed;
-use occ_check_opened::here::Here;
-use occ_check_opened::opened::{Left, Opened, Step};
-use occ_check_opened::unfolder::Unfolder;
-use occ_check_parts::arms::{OpenedArm, arm_opened};
-use occ_check_parts::choices::{OpenedChoice, choice_opened};
-use occ_check_parts::copies::{OpenedCopy, copy_opened, next_value};
-use occ_check_parts::options::{OpenedOption, none_chosen, option_opened};
-use occ_check_parts::variants::{OpenedVariant, line_of, tag_of, variant_opened};
-use occ_check_typing::tags::Tags;
+use crate::options::{OpenedOption, none_chosen, option_opened};
+use crate::tags::Tags;
+use crate::unfolder::Unfolder;
+use crate::variants::{OpenedVariant, line_of, tag_of, variant_opened};
 use occ_held::Held;
 use occ_held::parts::Listed;
 use occ_term::{

@@ -5,7 +5,7 @@ ghost use Rattle.occ_choices.specs.Plans.{choices_of, turns_from};
 use occ_net_replay::Choice;
 
 /// The choices of a run.
-#[derive(Debug, Drop)]
+#[derive(Drop)]
 pub enum Plan {
     /// So many turns, of which the one with number k, from 0, has `which` k and `pick` 0.
     Turns(u32),

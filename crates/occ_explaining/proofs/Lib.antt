@@ -1,3 +1,7 @@
+pub mod Passing
+pub mod Owning
+pub mod Rounds
+pub mod Names
 mod ChartsOfRuns
 mod Members
 mod Named

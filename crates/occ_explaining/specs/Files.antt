@@ -4,7 +4,7 @@ use Rattle.std.specs.Prelude.{List, [], codes, get_or, map, suc, zero, ℕ, ◌+
 use Rattle.std.specs.Fmt.{decimal}
 use Rattle.occ_explaining.specs.declared.files.Files.{Files}
 use Rattle.occ_files.specs.Names.{printed_name}
-use Rattle.occ_sources.specs.Sources.{place_in_files}
+use Rattle.occ_files.specs.Sources.{place_in_files}
 
 -- the name of the first, those of the others, and where each but the last one ends
 pub record SourceFiles : Type 0 where

@@ -1,3 +1,6 @@
+pub mod Calls
+pub mod Reach
+pub mod Passes
 pub mod Files
 pub mod Explaining
 pub mod Shown

@@ -9,8 +9,8 @@ use Rattle.occ_shown.specs.Objects.{number, text, exactly, object_json}
 use Rattle.occ_play.specs.Playing.{RefusesText}
 use Rattle.occ_play.specs.declared.fault.PlayFault.{PlayFault}
 use Rattle.occ_play.specs.declared.fault.PlayFault.TheVariants as play
-use Rattle.occ_reach.specs.Reach.{AreUnreached, FirstLine, unchecked_head}
-use Rattle.occ_reach.specs.declared.unchecked.Unchecked.{Unchecked}
+use Rattle.occ_explaining.specs.Reach.{AreUnreached, FirstLine, unchecked_head}
+use Rattle.occ_explaining.specs.declared.unchecked.Unchecked.{Unchecked}
 use Rattle.occ_text.specs.Lines.{LinesOf}
 use Rattle.occ_text.specs.Words.{LogicalLine}
 

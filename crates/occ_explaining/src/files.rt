@@ -2,8 +2,7 @@
 ghost use Rattle.std.specs.Prelude.{◌≡◌, ◌++◌, IfOk, OnOk};
 ghost use Rattle.occ_explaining.specs.Files.{beginning, beginnings, files_of, file_name, later_beginnings, place_told};
 
-use occ_files::printed_name;
-use occ_sources::place_in_files;
+use occ_files::{place_in_files, printed_name};
 use std::alloc::{AllocError, Global};
 
 /// The files of a source.

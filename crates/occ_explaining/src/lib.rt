@@ -5,6 +5,7 @@
 //! choices name who is ready. [`may_input`] tells whether what is typed can change anything.
 #![tactic(auto)]
 
+mod calls;
 pub mod charted;
 pub mod column_names;
 mod feet;
@@ -13,12 +14,14 @@ pub mod keyboard;
 pub mod objects;
 pub mod paged;
 pub mod past;
+mod reached;
 mod refusal_names;
 pub mod refused;
 pub mod reported;
 pub mod stepped;
 pub mod studied;
 pub mod tracing;
+mod unchecked;
 pub mod unreached;
 
 pub use charted::chart_of;

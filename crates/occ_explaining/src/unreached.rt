@@ -2,13 +2,13 @@
 ghost use Rattle.std.specs.Prelude.{◌≡◌, ◌++◌, IfErr, IfOk, OnOk, map};
 ghost use Rattle.occ_explaining.specs.Files.{files_of};
 ghost use Rattle.occ_explaining.specs.Unreached.{RefusesToTell, TellsUnreached, as_object, file_told, in_words, told_line, told_procs};
-ghost use Rattle.occ_reach.specs.Reach.{unchecked_head};
+ghost use Rattle.occ_explaining.specs.Reach.{unchecked_head};
 
 use crate::files::{Files, place_told};
 use crate::studied::lines_of;
+use crate::unchecked::{Unchecked, unchecked_procs};
 use occ_files::printed_name;
 use occ_play::PlayFault;
-use occ_reach::{Unchecked, unchecked_procs};
 use occ_shown::{Member, Value, object_line};
 use std::alloc::{AllocError, Global};
 

@@ -18,7 +18,7 @@ use std::alloc::Global;
 use std::io::{Read, Write};
 
 /// What a live run of a source came to.
-#[derive(Debug, Drop)]
+#[derive(Drop)]
 pub struct LivePlayed {
     /// What a run comes to that had the bytes from the start.
     pub played: Played,

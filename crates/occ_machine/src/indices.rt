@@ -7,13 +7,12 @@ use std::alloc::{AllocError, Global};
 use std::marker::Model;
 
 /// The values of an arm's indices, outermost first. Contracts see their list. One value alone takes no block of memory.
-#[derive(Debug)]
 pub struct Indices {
     kept: Kept,
 }
 
 /// Where the values are.
-#[derive(Debug, Drop)]
+#[derive(Drop)]
 pub(crate) enum Kept {
     None,
     One(i64),

@@ -8,7 +8,7 @@ use sqlite_items::Items;
 use std::alloc::{AllocError, Global};
 
 /// An alternative of a choosing process.
-#[derive(Debug, Drop)]
+#[derive(Drop)]
 pub struct Arm {
     /// What it is named by in the code of its ALT: how far it stands from the end of that code, never 0.
     pub number: u32,
@@ -19,7 +19,7 @@ pub struct Arm {
 }
 
 /// What a process stands at.
-#[derive(Debug, Drop)]
+#[derive(Drop)]
 pub enum Wait {
     /// May take its next turn.
     Ready,

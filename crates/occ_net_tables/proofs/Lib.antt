@@ -1,5 +1,5 @@
 pub mod Passing
-pub mod Reading
+pub mod ReadLists
 pub mod ReadyLists
 pub mod Moves
 pub mod LightWaits

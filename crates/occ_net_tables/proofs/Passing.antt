@@ -6,7 +6,7 @@ use Rattle.occ_net_tables.specs.declared.shapes.Head.{Head}
 use Rattle.occ_net_tables.specs.declared.shapes.Shape.{Shape}
 use Rattle.occ_net_tables.specs.Flat.{communications_in, items_in, lengths_behind, made, shapes_behind, words_behind}
 use Rattle.occ_net_tables.specs.Passing.{AreElsewhere, HeadsElsewhere, IsFirstOn, FindsNext}
-use Rattle.occ_net_tables.proofs.Reading.{few_read}
+use Rattle.occ_net_tables.proofs.ReadLists.{few_read}
 
 pub elsewhere_read : (c : ℕ) (hs : List Head) (ss : List Shape) (ns : List ℕ) (ws : List ℤ) → HeadsElsewhere c hs → AreElsewhere c (communications_in hs ss ns ws)
 elsewhere_read c [] ss ns ws none = tt

@@ -13,7 +13,7 @@ use std::alloc::{AllocError, Global};
 use std::marker::Model;
 
 /// An item of a message.
-#[derive(Clone, Copy, Debug)]
+#[derive(Clone, Copy)]
 pub enum PartView<'a> {
     /// A single value.
     One(Primitive, i64),

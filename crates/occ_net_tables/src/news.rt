@@ -9,7 +9,7 @@ use std::alloc::{AllocError, Global};
 use std::marker::Model;
 
 /// How far a trace had come. Contracts see the place behind its communications.
-#[derive(Debug, Drop)]
+#[derive(Drop)]
 pub struct Mark {
     pub(crate) heads: usize,
     pub(crate) shapes: usize,

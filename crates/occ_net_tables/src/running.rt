@@ -21,7 +21,7 @@ use std::alloc::{AllocError, Global};
 const MOST_IN_ROW: usize = 256;
 
 /// What is kept of a choice that was used.
-#[derive(Clone, Copy, Debug, PartialEq, Eq)]
+#[derive(Clone, Copy, PartialEq, Eq)]
 pub enum Keep {
     /// The choice as it was given.
     Given,

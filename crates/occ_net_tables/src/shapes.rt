@@ -3,7 +3,7 @@
 use occ_term::{End, Primitive};
 
 /// How an item of a message is kept.
-#[derive(Clone, Copy, Debug)]
+#[derive(Clone, Copy)]
 pub(crate) enum Shape {
     /// A single value, which is one word.
     One(Primitive),
@@ -16,7 +16,7 @@ pub(crate) enum Shape {
 }
 
 /// What a communication has beside its items.
-#[derive(Clone, Copy, Debug)]
+#[derive(Clone, Copy)]
 pub(crate) struct Head {
     pub(crate) chan: u32,
     pub(crate) sender: End,

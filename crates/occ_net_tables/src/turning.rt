@@ -17,7 +17,7 @@ use occ_proc::{Scratch, TurnEnd};
 use std::alloc::{AllocError, Global};
 
 /// A turn that has come to its stop, before anything happens behind it.
-#[derive(Clone, Copy, Debug)]
+#[derive(Clone, Copy)]
 pub struct Begun {
     /// The place of its process among the ready ones.
     pub place: usize,

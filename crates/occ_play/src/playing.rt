@@ -26,7 +26,7 @@ use std::alloc::Global;
 use std::io::Write;
 
 /// What a run came to.
-#[derive(Debug, Drop)]
+#[derive(Drop)]
 pub struct Played {
     /// How it ended.
     pub ending: Ending,
@@ -35,7 +35,7 @@ pub struct Played {
 }
 
 /// How turns are taken.
-#[derive(Clone, Copy, Debug, Drop)]
+#[derive(Clone, Copy, Drop)]
 pub struct Options {
     /// How many ends of a loop's body a turn may pass before it stops there, 1 to 65,536.
     pub quantum: u32,

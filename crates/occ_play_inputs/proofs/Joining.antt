@@ -2,8 +2,8 @@
 use Rattle.std.proofs.Common.{◌≡◌, ◌∙◌, ◌≤◌, sym, ap, refl, subst, ℕ, suc, zero, ◌+◌, List, [], ◌∷◌, ◌++◌, length, take, length-append, arith, Option, None, Some}
 use Rattle.std.specs.Prelude.{IfSome}
 use Rattle.occ_play_inputs.specs.Asked.{IsJoinFor, IsJoinOf}
-use Rattle.occ_sources.specs.Sources.{ended, ends_of, joined, line_feeds}
-use Rattle.occ_sources.proofs.Joins.{ends_snoc, joined_snoc}
+use Rattle.occ_files.specs.Sources.{ended, ends_of, joined, line_feeds}
+use Rattle.occ_files.proofs.Joins.{ends_snoc, joined_snoc}
 
 -- the first
 pub one_text : (bytes ends text : List ℕ) → bytes ≡ joined 1048577 [] (text ∷ []) → ends ≡ [] → IsJoinOf 1 bytes ends

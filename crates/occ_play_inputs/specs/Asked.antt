@@ -9,7 +9,7 @@ use Rattle.occ_play_inputs.specs.declared.inputs.Inputs.{Inputs}
 use Rattle.occ_play_inputs.specs.declared.inputs.Joined.{Joined}
 use Rattle.occ_play_inputs.specs.declared.words.Words.{Words}
 use Rattle.occ_play_inputs.specs.Seeds.{seeded}
-use Rattle.occ_sources.specs.Sources.{ended, ends_of, joined, line_feeds}
+use Rattle.occ_files.specs.Sources.{ended, ends_of, joined, line_feeds}
 
 -- one of so many seeds, and as many choices of it as the limit has
 pub record IsSeeded (limit seed tries : ℕ) (plan : Plan) : Type 0 where

@@ -1,3 +1,5 @@
+pub mod Going
+pub mod Passing
 pub mod Turns
 pub mod Doing
 pub mod Opening

@@ -4,9 +4,9 @@ ghost use Rattle.occ_term.specs.Selecting.{is_among};
 ghost use Rattle.occ_machine.specs.declared.instr.Instr.TheVariants as instructions;
 ghost use Rattle.occ_proc.specs.Doing.{OnStack};
 
+use crate::numbers::number;
+use crate::stack::Stack;
 use crate::step::Step;
-use occ_proc_quick::Stack;
-use occ_proc_quick::numbers::number;
 use std::alloc::AllocError;
 
 pub(crate) fn and_then(stack: &mut Stack, skip: usize) -> Result<Step, AllocError>

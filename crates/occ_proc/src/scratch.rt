@@ -5,7 +5,8 @@ ghost use Rattle.occ_term.specs.Messages.{message};
 ghost use Rattle.occ_proc.specs.Turns.{left_message};
 
 use crate::small_arms::SmallArm;
-use occ_proc_quick::{Spots, Stack};
+use crate::spots::Spots;
+use crate::stack::Stack;
 use occ_term::{Message, Parts};
 use std::alloc::Global;
 use std::mem;

@@ -9,7 +9,7 @@ use crate::stop::Stop;
 use occ_machine::Wait;
 
 /// What a process stands at after its turn, where that is light enough to be handed over.
-#[derive(Clone, Copy, Debug, PartialEq, Eq)]
+#[derive(Clone, Copy, PartialEq, Eq)]
 pub enum TurnEnd {
     /// It is ready.
     Ready,

@@ -53,7 +53,7 @@ pub trait Gate {
 }
 
 /// A gate that takes each turn at once.
-#[derive(Clone, Copy, Debug)]
+#[derive(Clone, Copy)]
 pub struct FreeGate;
 
 impl Gate for FreeGate {

@@ -12,7 +12,7 @@ use std::alloc::{AllocError, Global};
 pub type Done = Result<Stretch, u32>;
 
 /// Why a run stops before its limit and before its network ends.
-#[derive(Clone, Copy, Debug, PartialEq, Eq)]
+#[derive(Clone, Copy, PartialEq, Eq)]
 pub enum Stop {
     /// A thread was refused.
     Spawn,
@@ -47,7 +47,7 @@ pub enum Next {
 }
 
 /// Which of the workers that rest are to be woken.
-#[derive(Clone, Copy, Debug, PartialEq, Eq)]
+#[derive(Clone, Copy, PartialEq, Eq)]
 pub enum Wake {
     /// None of them.
     Nobody,

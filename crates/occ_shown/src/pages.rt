@@ -37,7 +37,7 @@ fn write_text(out: &mut Vec<u8>, text: &[u8]) -> Result<(), AllocError>
 
 /// What a page has of a run: a line that is told of it, which may be empty, the trace as lines of JSON, the lines of the turns, and the
 /// report on the end.
-#[derive(Debug, Drop)]
+#[derive(Drop)]
 pub struct RunTexts {
     /// The line.
     pub head: Vec<u8>,

@@ -10,8 +10,8 @@ use Rattle.occ_check_meaning.specs.Actions.{none_chosen}
 use Rattle.occ_check_meaning.specs.Numbers.{Numbers}
 use Rattle.occ_check_meaning.specs.Performing.{selected, taken_by_variant}
 use Rattle.occ_check_meaning.specs.Recursion.{all_options, all_variants}
-use Rattle.occ_check_opened.specs.Opened.{Opens, statement_left}
-use Rattle.occ_check_opened.specs.Progress.{counted, meant_at}
+use Rattle.occ_check.specs.Opened.{Opens, statement_left}
+use Rattle.occ_check.specs.Progress.{counted, meant_at}
 use Rattle.occ_check.specs.Opening.{performing as statement_unfolded}
 use Rattle.occ_check.proofs.opening.statement_opened.Goals as goal
 

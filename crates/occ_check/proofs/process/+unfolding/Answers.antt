@@ -6,39 +6,39 @@ use Rattle.occ_tree_grammar.specs.Processes.Views.{arm_of, choice_of, process_of
 use Rattle.occ_term.specs.View.{arms_of, branch_of, branches_of, choices_of, declarations_of, option_of, options_of, term_of, variant_of as term_variant_of, variants_of}
 use Rattle.occ_check_meaning.specs.Actions.{headed, new_tag, none_chosen}
 use Rattle.occ_tree_grammar.specs.Lines.Views as lines
-use Rattle.occ_check_typing.specs.Tags.{listed_in}
-use Rattle.occ_check_parts.proofs.VariantLists.{no_more_variants, no_tag, tags_kept, variant_done, variant_refused, variants_grown, variants_none, variants_step}
-use Rattle.occ_check_acting.specs.Action.{chosen_of}
+use Rattle.occ_check.specs.Tags.{listed_in}
+use Rattle.occ_check.proofs.VariantLists.{no_more_variants, no_tag, tags_kept, variant_done, variant_refused, variants_grown, variants_none, variants_step}
+use Rattle.occ_check.specs.Action.{chosen_of}
 use Rattle.occ_check.proofs.Gathering.{gathered_first, gathered_last, gathered_next, gathered_refused, part_within}
-use Rattle.occ_check_parts.proofs.ChoiceLists.{choice_in, choices_grown, choices_none, choices_step, no_more_choices}
-use Rattle.occ_check_parts.proofs.ArmLists.{arm_in, arms_grown, arms_none, arms_step, no_more_arms}
-use Rattle.occ_check_parts.proofs.OptionLists.{no_more_options, option_done, option_refused, options_grown, options_none, options_step}
+use Rattle.occ_check.proofs.ChoiceLists.{choice_in, choices_grown, choices_none, choices_step, no_more_choices}
+use Rattle.occ_check.proofs.ArmLists.{arm_in, arms_grown, arms_none, arms_step, no_more_arms}
+use Rattle.occ_check.proofs.OptionLists.{no_more_options, option_done, option_refused, options_grown, options_none, options_step}
 use Rattle.occ_tree_grammar.specs.Many.{◌>>=◌}
 use Rattle.occ_term.specs.Terms as T
 use Rattle.occ_term.specs.Terms.{no_arms, no_choices, no_options, no_terms, no_variants}
 use Rattle.occ_term.specs.declared.term.Term.{the_lemmas}
-use Rattle.occ_check_opened.proofs.Listing.{before, listed_refused, listed_next, listed_last}
+use Rattle.occ_check.proofs.PartByPart.{before, listed_refused, listed_next, listed_last}
 use Rattle.occ_term.specs.declared.term.Branch.{the_lemmas as branch_lemmas}
 use Rattle.occ_check_meaning.specs.Numbers.{more_processes}
-use Rattle.occ_check_parts.proofs.Beside.{all_branches, branch_none, branch_one, branch_step, branches_in, no_body, no_number, one_branch, put_branch}
+use Rattle.occ_check.proofs.Beside.{all_branches, branch_none, branch_one, branch_step, branches_in, no_body, no_number, one_branch, put_branch}
 use Rattle.occ_check.proofs.InTurn.{all_terms, in_turn, in_turn_none, in_turn_one, in_turn_step, item_within, put_term}
 use Rattle.occ_check_meaning.specs.Recursion.{all_arms, all_beside, all_choices, all_in_turn, all_options, all_variants, option_unfolded, unfolded, variant_unfolded}
 use Rattle.occ_check_meaning.specs.Meant.{meant}
-use Rattle.occ_check_names.specs.View.{Refuses, numbers_of, scope_in}
-use Rattle.occ_check_opened.specs.Progress.{counted, meant_at, weight_at}
-use Rattle.occ_check_opened.specs.Weights.{node_size, nodes_size, weight}
-use Rattle.occ_check_typing.proofs.Refusals.{refused_with}
+use Rattle.occ_check.specs.View.{Refuses, numbers_of, scope_in}
+use Rattle.occ_check.specs.Progress.{counted, meant_at, weight_at}
+use Rattle.occ_check.specs.Weights.{node_size, nodes_size, weight}
+use Rattle.occ_check.proofs.Refusals.{refused_with}
 use Rattle.occ_check_meaning.specs.Performing.{copied}
-use Rattle.occ_check_opened.specs.Opened.{copy_for, IsStepReady, left_weight, put, statement_left, step_left, step_weight}
-use Rattle.occ_check_parts.specs.Copies.{numbered_copy, copy_left}
-use Rattle.occ_check_parts.proofs.CopyLists.{Copied, copied_first, copied_last, copied_next, copied_refused}
-use Rattle.occ_check_opened.proofs.OpenedParts.{blocks_kept, put_done, put_refused}
-use Rattle.occ_check_parts.specs.Arms.{arm_depth, arm_left, arm_weight, arm_with, arms_within, variants_within}
-use Rattle.occ_check_parts.specs.Choices.{choice_depth, choice_left, choice_weight, choice_with, choices_within}
-use Rattle.occ_check_parts.specs.Options.{option_left, option_with}
-use Rattle.occ_check_parts.specs.Variants.{variant_left, variant_with}
-use Rattle.occ_check_parts.specs.declared.arms.OpenedArm.TheVariants as arms
-use Rattle.occ_check_parts.specs.declared.choices.OpenedChoice.TheVariants as choices
+use Rattle.occ_check.specs.Opened.{copy_for, IsStepReady, left_weight, put, statement_left, step_left, step_weight}
+use Rattle.occ_check.specs.Copies.{numbered_copy, copy_left}
+use Rattle.occ_check.proofs.CopyLists.{Copied, copied_first, copied_last, copied_next, copied_refused}
+use Rattle.occ_check.proofs.OpenedParts.{blocks_kept, put_done, put_refused}
+use Rattle.occ_check.specs.Arms.{arm_depth, arm_left, arm_weight, arm_with, arms_within, variants_within}
+use Rattle.occ_check.specs.Choices.{choice_depth, choice_left, choice_weight, choice_with, choices_within}
+use Rattle.occ_check.specs.Options.{option_left, option_with}
+use Rattle.occ_check.specs.Variants.{variant_left, variant_with}
+use Rattle.occ_check.specs.declared.arms.OpenedArm.TheVariants as arms
+use Rattle.occ_check.specs.declared.choices.OpenedChoice.TheVariants as choices
 use Rattle.occ_check.proofs.process.+unfolding.Goals as goal
 
 pub process_unfolded-performed-requires : goal.process_unfolded-performed-requires

@@ -1,5 +1,5 @@
 use Rattle.std.proofs.Common.{◌≤◌, length}
-use Rattle.occ_check_opened.specs.Progress.{counted, meant_innermost}
+use Rattle.occ_check.specs.Progress.{counted, meant_innermost}
 use Rattle.occ_check.proofs.Items.{Going}
 use Rattle.occ_check.proofs.program.items_declared.Given as goal
 

@@ -1,5 +1,5 @@
 use Rattle.std.proofs.Common.{sym}
-use Rattle.occ_check_acting.proofs.Calls.{no_first, nothing}
+use Rattle.occ_check.proofs.Calls.{no_first, nothing}
 use Rattle.occ_check.proofs.MainProcess.{last_here, no_main, not_here, nowhere}
 use Rattle.occ_check.specs.Program.{main_in}
 use Rattle.occ_check.proofs.program.main_of.Goals as goal

@@ -1,7 +1,7 @@
 use Rattle.std.proofs.Common.{◌∙◌, ◌++◌, [], ap, map, refl}
 use Rattle.occ_explaining.specs.Files.{files_of}
 use Rattle.occ_explaining.specs.Unreached.{told_line, told_lines}
-use Rattle.occ_reach.specs.Reach.{unchecked_head}
+use Rattle.occ_explaining.specs.Reach.{unchecked_head}
 use Rattle.occ_shown.proofs.Texts.{IsText, text_step}
 use Rattle.occ_explaining.proofs.unreached.told_lines.Goals as goal
 

@@ -1,6 +1,6 @@
 use Rattle.std.proofs.Common.{◌∙◌, ◌++◌, List, ap, take, ℕ}
 use Rattle.occ_play_inputs.proofs.Joining.{few_behind, whole_behind}
-use Rattle.occ_sources.specs.Sources.{ended}
+use Rattle.occ_files.specs.Sources.{ended}
 use Rattle.occ_play_inputs.proofs.inputs.read_behind.Goals as goal
 
 pub returns-clause-few : goal.returns-clause-few

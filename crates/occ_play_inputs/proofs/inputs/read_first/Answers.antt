@@ -1,6 +1,6 @@
 use Rattle.std.proofs.Common.{◌∙◌, ◌∷◌, [], List, ap, ℕ}
 use Rattle.occ_play_inputs.proofs.Joining.{one_text}
-use Rattle.occ_sources.specs.Sources.{joined}
+use Rattle.occ_files.specs.Sources.{joined}
 use Rattle.occ_play_inputs.proofs.inputs.read_first.Goals as goal
 
 pub returns-clause-joined : goal.returns-clause-joined

@@ -1,5 +1,5 @@
 use Rattle.std.proofs.Common.{◌≡◌, ◌∷◌, [], Global, List, OnOk, Vec, subst, ℕ}
-use Rattle.occ_sources.specs.Sources.{joined}
+use Rattle.occ_files.specs.Sources.{joined}
 use Rattle.occ_play_inputs.proofs.inputs.read_next.Goals as goal
 
 pub returns-clause-joined : goal.returns-clause-joined

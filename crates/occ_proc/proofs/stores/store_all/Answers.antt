@@ -2,8 +2,8 @@ use Rattle.std.proofs.Common.{◌≡◌, ◌∙◌, sym, ap, [], drop}
 use Rattle.std.specs.Prelude.{map}
 use Rattle.std.proofs.lemmas.List.{drop_all}
 use Rattle.occ_machine.specs.Machine.{frame_parts}
-use Rattle.occ_proc_quick.specs.Passing.{spot_of}
-use Rattle.occ_proc_quick.proofs.Messages.{none_stored}
+use Rattle.occ_proc.specs.Passing.{spot_of}
+use Rattle.occ_proc.proofs.Messages.{none_stored}
 use Rattle.occ_proc.proofs.stores.store_all.Goals as goal
 
 pub returns-then-i-parts : goal.returns-then-i-parts

@@ -1,7 +1,7 @@
 use Rattle.std.proofs.Common.{◌≡◌, drop}
 use Rattle.std.specs.Prelude.{map}
 use Rattle.occ_machine.specs.Machine.{frame_parts}
-use Rattle.occ_proc_quick.specs.Passing.{spot_of}
+use Rattle.occ_proc.specs.Passing.{spot_of}
 use Rattle.occ_proc.proofs.stores.store_all.Given as goal
 
 abbrev pub invariant-loop-i : goal.invariant-loop-i

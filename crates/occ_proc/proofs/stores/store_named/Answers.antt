@@ -2,7 +2,7 @@ use Rattle.std.proofs.Common.{◌∙◌, ◌+◌, sym, ap}
 use Rattle.occ_term.specs.Frames.{frame_from}
 use Rattle.occ_term.specs.Storing.{values_in}
 use Rattle.occ_machine.specs.Machine.{Moves, point}
-use Rattle.occ_proc_quick.proofs.Messages.{last_is, others_are}
+use Rattle.occ_proc.proofs.Messages.{last_is, others_are}
 use Rattle.occ_proc.proofs.stores.store_named.Goals as goal
 
 pub returns : goal.returns

@@ -1,5 +1,5 @@
 use Rattle.std.proofs.Common.{arith}
-use Rattle.occ_net_tables.proofs.Reading.{lengths_count, shapes_count}
+use Rattle.occ_net_tables.proofs.ReadLists.{lengths_count, shapes_count}
 use Rattle.occ_net_tables.proofs.lists.Lists.reserve.Goals as goal
 
 pub returns-clause-room : goal.returns-clause-room

@@ -2,7 +2,7 @@ use Rattle.std.proofs.Common.{◌∙◌, ap, drop}
 use Rattle.occ_net_tables.specs.Flat.{communications_in}
 use Rattle.occ_net_tables.specs.Kept.{kept_in}
 use Rattle.occ_net_tables.specs.TracePlaces.{Place}
-use Rattle.occ_net_tables.proofs.Reading.{behind_read, on_ok}
+use Rattle.occ_net_tables.proofs.ReadLists.{behind_read, on_ok}
 use Rattle.occ_net_tables.proofs.trace.Trace.copy_behind.Goals as goal
 
 pub returns : goal.returns

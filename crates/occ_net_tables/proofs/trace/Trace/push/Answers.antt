@@ -4,7 +4,7 @@ use Rattle.occ_net_tables.specs.Flat.{communication_head}
 use Rattle.occ_net_tables.specs.Kept.{kept_in}
 use Rattle.occ_net_tables.specs.TraceRoom.{Appends}
 use Rattle.occ_term.specs.System.{communication}
-use Rattle.occ_net_tables.proofs.Reading.{kept_here, kept_more, read_kept}
+use Rattle.occ_net_tables.proofs.ReadLists.{kept_here, kept_more, read_kept}
 use Rattle.occ_net_tables.proofs.trace.Trace.push.Goals as goal
 
 pub invariant_of-self-2 : goal.invariant_of-self-2

@@ -1,5 +1,5 @@
 use Rattle.std.proofs.Common.{◌∙◌, ap, take}
-use Rattle.occ_net_tables.proofs.Reading.{first_read}
+use Rattle.occ_net_tables.proofs.ReadLists.{first_read}
 use Rattle.occ_net_tables.proofs.trace_entries.Entries.first.Goals as goal
 
 pub returns : goal.returns

@@ -1,5 +1,5 @@
 use Rattle.std.proofs.Common.{◌∙◌, ap, length, sym}
-use Rattle.occ_net_tables.proofs.Reading.{count_read}
+use Rattle.occ_net_tables.proofs.ReadLists.{count_read}
 use Rattle.occ_net_tables.proofs.trace_entries.Entries.len.Goals as goal
 
 pub returns : goal.returns

@@ -1,6 +1,0 @@
-pub mod GivenSubscripts
-pub mod CaseConstants
-pub mod Calls
-pub mod Targets
-pub mod Receiving
-pub mod Assigning

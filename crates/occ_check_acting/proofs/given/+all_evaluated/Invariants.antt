@@ -1,5 +1,0 @@
-use Rattle.std.proofs.Common.{length}
-use Rattle.occ_check_acting.proofs.given.+all_evaluated.Given as goal
-
-abbrev pub decreases-all_evaluated : goal.decreases-all_evaluated
-decreases-all_evaluated l = length l.sizes.now

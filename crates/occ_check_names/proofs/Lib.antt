@@ -1,4 +1,0 @@
-pub mod Scopes
-pub mod ComponentNames
-pub mod Literals
-pub mod Keys

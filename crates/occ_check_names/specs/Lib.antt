@@ -1,4 +1,0 @@
-pub mod View
-pub mod Reading
-pub mod Measuring
-pub mod Listing

@@ -1,4 +1,0 @@
-use Rattle.occ_check_opened.proofs.one_line.counted_output.Goals as goal
-
-pub returns : goal.returns
-returns c = c.count_output.ensures c.args.tag

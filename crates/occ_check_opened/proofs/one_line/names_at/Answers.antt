@@ -1,5 +1,0 @@
-use Rattle.occ_check_opened.proofs.OneLine.{names_there}
-use Rattle.occ_check_opened.proofs.one_line.names_at.Goals as goal
-
-pub returns : goal.returns
-returns c = names_there c.scope.result c.args.blocks.now.blocks.items c.args.at c.scope.ensures.0 c.scope.ensures.1

@@ -1,4 +1,0 @@
-pub mod Passing
-pub mod Owning
-pub mod Rounds
-pub mod Names
