@@ -9,8 +9,9 @@ An explanation of a long line takes time in proportion to its length: there are 
 processor seconds that a loaded machine keeps too.
 
 Each program of examples/, and each of tests/runs, tests/choices and tests/explored, is played for some numbers of turns. In the report of a run that hasn't ended each process has to have a PROC of
-the text, and a line unless it can go on or met a fault; and what it stands at has to be in that line. So it is
-with the stops of its first turns, as --steps writes them.
+the text, and a line unless it can go on; and what it stands at has to be in that line, with the name that its channel has there. Below a
+fault has to stand its line of the text, and behind that values; each call has to be one in its line. So it is with the stops of its
+first turns, as --steps writes them.
 """
 import re
 import resource
@@ -21,6 +22,11 @@ from .running import TOP, Job, room, run
 TURNS = [1, 2, 3, 5, 8, 13, 21, 34, 55, 89, 144, 10000]
 FEW_TURNS = [2, 5, 13, 10000]
 STANDS = re.compile(r"  p\d+ (?P<name>[\w.]+)(?:, line (?P<line>\d+))?: (?P<text>.*)")
+# the name that a channel has in the line, and what it stands for
+NAMED = re.compile(r"(?:offers .* on|awaits) (?P<name>[\w.]+)(?:\[\d+\])?(?: \([^ ]*\))?, (?:which|whose)")
+# lines below that of a process
+CALLED = re.compile(r"    called in line (?P<line>\d+)")
+VALUE = re.compile(r"    [\w.]+(?:\[\d+\])* = (?:-?\d+|TRUE|FALSE)")
 # which process stands there, and whether it chooses
 WHO = re.compile(r"  (?P<one>p\d+) [^:]*: (?P<chooses>chooses)?")
 LIMIT = "  the limit is reached: --limit N allows more turns, --quantum N makes each longer"
@@ -123,8 +129,16 @@ def misplaced(program, folder, source, turns):
         if told[-1:] != [LIMIT]:
             yield f"another last line: {told[-1:]}"
         told = told[:-1]
-    others, choosing, joining, lonely = {}, set(), set(), set()
+    others, choosing, joining, lonely, lines, fault = {}, set(), set(), set(), source.split("\n"), None
     for line in told:
+        called = CALLED.fullmatch(line)
+        if called or line.startswith("    "):
+            if called and not re.match(r" *[\w.]+ *\(", lines[int(called["line"]) - 1]):
+                yield f"no call: {line}"
+            if not called and line[4:] != fault and not (fault is None and VALUE.fullmatch(line)):
+                yield f"another line: {line}"
+            fault = None
+            continue
         circle = CIRCLE.fullmatch(line)
         if circle:
             numbers = circle["numbers"].split()
@@ -151,9 +165,14 @@ def misplaced(program, folder, source, turns):
         elif stands["line"]:
             has = [word for text, word in HAS.items() if stands["text"].startswith(text) or stands["text"].endswith(text)]
             has = ["WHILE", "SEQ"] if stands["text"] == "can go on" else has[:1]
-            if not any(word in source.split("\n")[int(stands["line"]) - 1] for word in has):
+            there = lines[int(stands["line"]) - 1].strip()
+            fault = there if re.fullmatch(rf"fault \w+ line {stands['line']}", stands["text"]) else None
+            if not fault and not any(word in there for word in has):
                 yield f"another line: {line}"
-        elif stands["text"] != "can go on" and not stands["text"].startswith("fault "):
+            named = NAMED.match(stands["text"])
+            if named and not re.match(rf"{re.escape(named['name'])}\b", there):
+                yield f"another name: {line}"
+        elif stands["text"] != "can go on":
             yield f"no line: {line}"
 
 

@@ -29,7 +29,7 @@ RUNS = [
     (["z.occ", "w.occ"], "", (1, "", "refused 30 Unknown line 2 x\n")),
     (["w.occ", "m.occ", "--check"], "", (1, "", "refused 30 Unknown line 5 a\n")),
     (["a.occ", "f.occ"], "", (3, "a\nfault ARITH line 8\n", "")),
-    (["--explain", "a.occ", "f.occ"], "", (3, "a\nfault ARITH line 8\n", f"after 1 communication:\n  p0 main: fault ARITH line 8\n{BEGINNINGS}")),
+    (["--explain", "a.occ", "f.occ"], "", (3, "a\nfault ARITH line 8\n", f"after 1 communication:\n  p0 main, line 8: fault ARITH line 8\n    x := 1 / 0\n{BEGINNINGS}")),
     (["--explain", "f.occ"], "", (1, "", None)),
     (["a.occ", "z.occ", "n.occ", "m.occ", "--check"], "", (0, "", "")),
     (["a.occ", "none.occ"], "", (6, "", "read failed\n")),

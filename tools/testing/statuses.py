@@ -75,7 +75,7 @@ RACE = HEAD + """  [3]CHAN OF BYTE c:
         screen ! x
 :
 """
-DEFAULTS = {"--limit": "1000000", "--quantum": "1", "--errors": "halt", "--tries": "1", "--arrows": "200", "--explore": "answers", "--states": "1000000"}
+DEFAULTS = {"--limit": "1000000", "--quantum": "1", "--errors": "halt", "--tries": "1", "--arrows": "200", "--explore": "answers", "--states": "1000000", "--memory": "1024"}
 # examples with words for their charts
 PICTURES = [
     ("faults/dining", []), ("sharing/farm", []), ("sharing/pool", ["--last", "40"]), ("pipelines/primes", []), ("pipelines/squash", []), ("first_steps/relay", []), ("selection/stack", []),
@@ -149,7 +149,7 @@ CASES = [
     of(ENDLESS, ["--limit", "10"], 4, "limit\n"),
     of(LETTER, ["--explain"], 0, "A"),
     of(STOPS, ["--explain"], 2, "stopped\n", HALTED),
-    of(FAULTS, ["--explain"], 3, "fault ARITH line 3\n", "after 0 communications:\n  p0 main: fault ARITH line 3\n"),
+    of(FAULTS, ["--explain"], 3, "fault ARITH line 3\n", "after 0 communications:\n  p0 main, line 3: fault ARITH line 3\n    x := 1 / 0\n"),
     of(ENDLESS, ["--explain", "--limit", "10"], 4, "limit\n", "after 0 communications:\n  p0 main, line 2: can go on\n  the limit is reached: --limit N allows more turns, --quantum N makes each longer\n"),
     of(ECHO, ["--explain"], 2, "a\nstopped\n", f"{STUCK}  p0 main, line 5: awaits keyboard, whose bytes are used up\n", given="a"),
     of(WAITS, ["--explain"], 2, "stopped\n", STUCK_TOO + WAITING),

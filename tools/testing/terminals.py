@@ -43,7 +43,7 @@ CASES = [
     ("standard output alone", STOPS, ["x.occ"], "", (0, 1), {}, (2, "stopped\n", "")),
     ("standard input alone", STOPS, ["x.occ"], "", (0,), {}, (2, "", "stopped\n")),
     ("--explain without a terminal", STOPS, ["--explain", "x.occ"], "", (0,), {}, (2, "", "stopped\n" + STUCK)),
-    ("a fault", FAULTS, ["x.occ"], "", ALL, {"NO_COLOR": "1"}, (3, "fault ARITH line 3\nafter 0 communications:\n  p0 main: fault ARITH line 3\n", "")),
+    ("a fault", FAULTS, ["x.occ"], "", ALL, {"NO_COLOR": "1"}, (3, "fault ARITH line 3\nafter 0 communications:\n  p0 main, line 3: fault ARITH line 3\n    x := 1 / 0\n", "")),
     ("a limit", ENDLESS, ["--limit", "10", "x.occ"], "", ALL, {"NO_COLOR": "1"}, (4, "limit\nafter 0 communications:\n  p0 main, line 2: can go on\n  the limit is reached: --limit N allows more turns, --quantum N makes each longer\n", "")),
     ("an answer of a search", STOPS, ["--explore", "--plain", "x.occ"], "", ALL, {}, (2, '1 stopped "" by 1 choice: halted\neach run ends after 1 turn\none answer: the program has no ALT\n', "")),
     ("a missing file", LETTER, ["none.occ"], "", ALL, {"NO_COLOR": "1"}, (6, "read failed\n" + MISSING, "")),

@@ -116,14 +116,14 @@ pub record IsKnown (options : Options) (source : List ℕ) (program : Program) (
   pub fits : Fits program read known
   pub unfolds : Unfolds source unfolded
 
--- The report of the run of a source by these choices. What it tells of places is told by the table, and who is at the ends of channels by
--- what the program of the source uses.
+-- The report of the run of a source by these choices. What it tells of places is told by the table and the source, who is at the ends of
+-- channels by what the program of the source uses, and which variables were read by its cells.
 pub record ReportsOn (options : Options) (source keyboard : List ℕ) (list : List Choice) (bytes : List ℕ) : Type 0 where
   pub program : Program
   pub known : List Known
   pub unfolded : UnfoldedProgram
   pub are : IsKnown options source program known unfolded
-  pub report : IsReport (meaning unfolded) program keyboard list known bytes
+  pub report : IsReport (meaning unfolded) program keyboard list known source unfolded.cells bytes
 
 -- The chart of the run of a source by these choices, whose columns have the names of the table, but for what these words leave out, and at
 -- whose foot stand processes that wait in a circle, where there are some.

@@ -21,6 +21,8 @@ pub record IsStudied (options : Options) (source : List ℕ) (s : Studied) : Typ
   pub unfolded : UnfoldedProgram
   pub known : IsKnown options source s.code s.places unfolded
   pub uses : map noted_for s.uses.items ≡ all_using (meaning unfolded)
+  pub text : s.source.items ≡ source
+  pub unfolds : s.unfolded ≡ unfolded
 
 -- of whatever source it is
 abbrev pub ForSource : Studied → (Options → List ℕ → Type 0) → Type 0

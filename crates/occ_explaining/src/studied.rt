@@ -9,6 +9,7 @@ use occ_ends::{ProcessUses, process_uses};
 use occ_machine::Code;
 use occ_play::{Options, PlayFault, code_of, unfolded_of};
 use occ_report::{Places, places_of};
+use occ_term::Unfolded;
 use occ_text::{Source, read_lines};
 use occ_tree::parse;
 use occ_tree_grammar::tree::process::Program;
@@ -23,6 +24,10 @@ pub struct Studied {
     pub places: Places,
     /// What each process uses.
     pub uses: Vec<ProcessUses>,
+    /// The source.
+    pub source: Vec<u8>,
+    /// What it unfolds to.
+    pub unfolded: Unfolded,
 }
 
 /// What is known of a source, with its code for turns of these options.
@@ -42,7 +47,14 @@ pub fn study(options: &Options, alloc: Global, source: &[u8]) -> Result<Studied,
     let places = places_of(alloc, &tree, &code, read)?;
     let unfolded = unfolded_of(alloc, source)?;
     let uses = process_uses(alloc, unfolded.term())?;
-    Ok(Studied { code, places, uses })
+    let source = Vec::from_slice(alloc, source)?;
+    Ok(Studied {
+        code,
+        places,
+        uses,
+        source,
+        unfolded,
+    })
 }
 
 /// The logical lines of a source.

@@ -2,9 +2,8 @@
 ghost use Rattle.std.specs.Prelude.{◌≡◌, IfOk};
 ghost use Rattle.occ_program.specs.Explained.{IfTold, TellsPast, past_text};
 
-use crate::explaining::print_told;
-use crate::program::options_of;
-use occ_explaining::{past_of, study};
+use crate::explaining::{print_told, studied_of};
+use occ_explaining::past_of;
 use occ_files::printed_name;
 use occ_net_replay::Choice;
 use occ_play::{PlayFault, Played};
@@ -40,9 +39,7 @@ fn told_past(
     ensures { IfOk result
         (IfTold (TellsPast words.now inputs.now path.now played.now.choices.items)) }
 {
-    let Ok(studied) = study(&options_of(words), alloc, inputs.source.as_slice()) else {
-        return Err(AllocError);
-    };
+    let studied = studied_of(alloc, words, inputs)?;
     let (keyboard, choices) = (inputs.keyboard.as_slice(), played.choices.as_slice());
     let Some(turn) = past_of(&studied, alloc, keyboard, choices)? else {
         return Ok(None);

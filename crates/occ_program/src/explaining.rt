@@ -152,6 +152,21 @@ fn explanation(
     }
 }
 
+/// What is known of the source of the inputs. It has a program, since it was run or searched, so reading it again fails for want of memory
+/// alone.
+pub(crate) fn studied_of(
+    alloc: Global,
+    words: &Words<'_>,
+    inputs: &Inputs,
+) -> Result<Studied, AllocError>
+    ensures { IfOk result (IsStudied (options_in words.now) inputs.now.source.items) }
+{
+    match study(&options_of(words), alloc, inputs.source.as_slice()) {
+        Ok(studied) => Ok(studied),
+        Err(_) => Err(AllocError),
+    }
+}
+
 /// What each process stands at where a run has not ended.
 fn reported(
     alloc: Global,
@@ -164,9 +179,7 @@ fn reported(
     if let Ending::Ended = played.ending {
         return Ok(None);
     }
-    let Ok(studied) = study(&options_of(words), alloc, inputs.source.as_slice()) else {
-        return Err(AllocError);
-    };
+    let studied = studied_of(alloc, words, inputs)?;
     let text = cut_report(alloc, words, inputs, &studied, played)?;
     Ok(Some(text))
 }

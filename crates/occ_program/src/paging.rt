@@ -7,10 +7,10 @@ ghost use Rattle.occ_play_inputs.specs.declared.failure.Stream.TheVariants as st
 ghost use Rattle.occ_program.specs.Coming.{options_in};
 ghost use Rattle.occ_program.specs.Pages.{AnswersPage, AreRunsOf, IsLeft, ShowsAnswers, more_text};
 
+use crate::explaining::studied_of;
 use crate::exploring::first_answers;
 use crate::page::{Page, write_page};
-use crate::program::options_of;
-use occ_explaining::{Studied, page_of, run_texts, study};
+use occ_explaining::{Studied, page_of, run_texts};
 use occ_exploring::{Answer, Asked, MOST_ANSWERS, answer_line};
 use occ_files::Folder;
 use occ_play_inputs::{Failure, Inputs, Stream, Words};
@@ -53,7 +53,7 @@ fn shown_page<'a>(
     }
 }
 
-/// The page. The source has a program, since it was searched, so reading it again fails for want of memory alone.
+/// The page.
 fn shown(
     alloc: Global,
     words: &Words<'_>,
@@ -65,9 +65,7 @@ fn shown(
         ShowsAnswers words.now inputs.now asked answers.now text.items) }
 {
     let source = inputs.source.as_slice();
-    let Ok(studied) = study(&options_of(words), alloc, source) else {
-        return Err(AllocError);
-    };
+    let studied = studied_of(alloc, words, inputs)?;
     let more = more_text(alloc, answers)?;
     let first = first_answers(answers);
     let runs = runs_of(

@@ -5,9 +5,8 @@ ghost use Rattle.occ_explaining.specs.Studied.{IsStudied};
 ghost use Rattle.occ_program.specs.Coming.{options_in};
 ghost use Rattle.occ_program.specs.Explained.{EndsLike, IfTold, IsReported, NoneEnds, SomeEnds, TellsAnswers, TellsAt, TellsWait, answer_head, below_ending};
 
-use crate::explaining::{print_told, run_report};
-use crate::program::options_of;
-use occ_explaining::{Studied, study};
+use crate::explaining::{print_told, run_report, studied_of};
+use occ_explaining::Studied;
 use occ_exploring::{Answer, Waiting};
 use occ_play::Ending;
 use occ_play_inputs::{Inputs, Words};
@@ -54,9 +53,7 @@ fn waiting_told(
 ) -> Result<Option<Vec<u8>>, AllocError>
     ensures { IfOk result (IfTold (TellsWait words.now inputs.now waiting.now)) }
 {
-    let Ok(studied) = study(&options_of(words), alloc, inputs.source.as_slice()) else {
-        return Err(AllocError);
-    };
+    let studied = studied_of(alloc, words, inputs)?;
     let text = waiting_report(alloc, words, inputs, &studied, waiting)?;
     Ok(Some(text))
 }
@@ -94,9 +91,7 @@ fn answers_told(
 ) -> Result<Option<Vec<u8>>, AllocError>
     ensures { IfOk result (IfTold (TellsAnswers words.now inputs.now answers.now)) }
 {
-    let Ok(studied) = study(&options_of(words), alloc, inputs.source.as_slice()) else {
-        return Err(AllocError);
-    };
+    let studied = studied_of(alloc, words, inputs)?;
     let mut text = Vec::new(alloc);
     for place in 0..answers.len() {
         let part = told_at(alloc, words, inputs, &studied, answers, place)?;

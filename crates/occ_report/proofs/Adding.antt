@@ -8,6 +8,7 @@ use Rattle.occ_machine.specs.Machine.{Body}
 use Rattle.occ_machine.specs.declared.instr.Instr.{Instr}
 use Rattle.occ_text.specs.Words.{LogicalLine}
 use Rattle.occ_report.specs.Located.{known}
+use Rattle.occ_report.specs.Calls.{IsCallIn}
 use Rattle.occ_report.specs.Places.{AreStopsIn, IsNameOf, Known, is_stop, stop_places}
 use Rattle.occ_report.specs.declared.places.Located.{Located}
 
@@ -35,6 +36,13 @@ pub name_added : (lines : List LogicalLine) (before after : List Located) (l : L
     → All (λ k. IsNameOf lines k.name) (map known before) → IsNameOf lines l.name.items → All (λ k. IsNameOf lines k.name) (map known after)
 name_added lines before after l is all more =
     let P : Known → Type 0 = λ k. IsNameOf lines k.name in
+    let same : map known after ≡ map known before ++ known l ∷ [] = ap (map known) is ∙ map-append known before (l ∷ []) in
+    subst (All P) (sym same) (All-append P (map known before) (known l ∷ []) all (All-cons P (known l) [] more (All-nil P)))
+
+pub calls_added : (lines : List LogicalLine) (before after : List Located) (l : Located) → after ≡ before ++ l ∷ []
+    → All (λ k. All (IsCallIn lines) k.calls) (map known before) → All (IsCallIn lines) l.calls.items → All (λ k. All (IsCallIn lines) k.calls) (map known after)
+calls_added lines before after l is all more =
+    let P : Known → Type 0 = λ k. All (IsCallIn lines) k.calls in
     let same : map known after ≡ map known before ++ known l ∷ [] = ap (map known) is ∙ map-append known before (l ∷ []) in
     subst (All P) (sym same) (All-append P (map known before) (known l ∷ []) all (All-cons P (known l) [] more (All-nil P)))
 

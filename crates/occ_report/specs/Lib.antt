@@ -1,4 +1,7 @@
 pub mod Located
+pub mod Calls
+pub mod Written
+pub mod Faults
 pub mod Places
 pub mod Reports
 pub mod Steps

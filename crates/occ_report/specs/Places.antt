@@ -11,15 +11,19 @@ use Rattle.occ_machine.specs.declared.task.Wait.TheVariants.{Ready, Took, Offers
 use Rattle.occ_text.specs.Words.{LogicalLine, Word, key, logical_line, mark, name}
 use Rattle.occ_text.specs.declared.token.Key.TheVariants as words
 use Rattle.occ_text.specs.declared.token.Sym.TheVariants as signs
+use Rattle.occ_report.specs.Calls.{IsCallIn}
+use Rattle.occ_report.specs.declared.calls.Call.{Call}
 use Rattle.occ_report.specs.declared.stop.Kind.{Kind}
 use Rattle.occ_report.specs.declared.stop.Kind.TheVariants as kinds
 use Rattle.occ_report.specs.declared.stop.Stop.{Stop}
 
 -- What is known of a process: the PROC that its branch calls, or else the one in whose body the branch stands; and the places of
--- its code at which it stops, each with its line and with what stands there.
+-- its code at which it stops, each with its line and with what stands there; and the calls that its code goes through, behind those that
+-- led to where it begins.
 pub record Known : Type 0 where
   pub name : List ℕ
   pub stops : List Stop
+  pub calls : List Call
 
 -- ---- what is known is so in the code
 
@@ -125,6 +129,7 @@ pub record Fits (p : Program) (lines : List LogicalLine) (all : List Known) : Ty
   pub each : length all ≡ length p.bodies
   pub names : All (λ k. IsNameOf lines k.name) all
   pub stops : (n : ℕ) (k : Known) → slice_get all n ≡ Some k → AreStopsIn p.bodies lines n k.stops
+  pub calls : All (λ k. All (IsCallIn lines) k.calls) all
 
 -- ---- what is told of it
 
@@ -141,6 +146,13 @@ stops_in (Some k) = k.stops
 
 abbrev pub stops_of : List Known → ℕ → List Stop
 stops_of all n = stops_in (slice_get all n)
+
+abbrev pub calls_known : Option Known → List Call
+calls_known None = []
+calls_known (Some k) = k.calls
+
+abbrev pub calls_of : List Known → ℕ → List Call
+calls_of all n = calls_known (slice_get all n)
 
 abbrev pub is_output : Kind → Bool
 is_output kinds.Output = true

@@ -30,12 +30,20 @@ use Rattle.occ_ends.specs.declared.kinds.Left.{Left}
 use Rattle.occ_report.specs.declared.stop.Kind.{Kind as Place}
 use Rattle.occ_report.specs.declared.stop.Kind.TheVariants as kinds
 use Rattle.occ_report.specs.declared.stop.Stop.{Stop}
-use Rattle.occ_report.specs.Places.{Known, name_of, stop_of}
+use Rattle.occ_report.specs.Calls.{calls_text}
+use Rattle.occ_report.specs.Faults.{fault_told, variables_text}
+use Rattle.occ_term.specs.Frames.{Variables}
+use Rattle.occ_report.specs.Places.{Known, calls_of, name_of, stop_of, stops_of}
+use Rattle.occ_report.specs.Written.{channel_told, written_at}
+use Rattle.occ_term.specs.UnfoldedProgram.{UnfoldedProgram}
+use Rattle.occ_term.specs.declared.names.Cell.{Cell}
+use Rattle.occ_machine.specs.Machine.{Body}
 use Rattle.occ_term.specs.declared.names.Channel.{Channel}
 use Rattle.occ_net_tables.specs.declared.tables.Tables.{Tables}
 use Rattle.occ_net_tables.specs.Holding.{HeldBy}
 use Rattle.occ_ends.specs.declared.uses.ProcessUses.{ProcessUses}
 use Rattle.occ_report.specs.declared.standing.Ends.{Ends as Sides}
+use Rattle.occ_report.specs.declared.process_lines.Told.{Told}
 
 -- by channel: the process that may input from it, or that may output to it, of those that are left
 abbrev pub Noted : Type 0
@@ -56,13 +64,14 @@ writer_text (suc c) None = codes ", which nobody writes now"
 writer_text (suc c) (Some None) = codes ", which nobody writes now"
 writer_text (suc c) (Some (Some n)) = codes ", which " ++ process_text n ++ codes " writes"
 
-abbrev pub awaited_text : Names → Noted → ℕ → List ℕ
-awaited_text names writers c = codes "awaits " ++ names.channel_name c ++ writer_text c (slice_get writers c)
+-- by the name that is written there
+abbrev pub awaited_text : Names → Noted → (written : List ℕ) → ℕ → List ℕ
+awaited_text names writers written c = codes "awaits " ++ channel_told names written c ++ writer_text c (slice_get writers c)
 
 -- an arm with SKIP has no channel
 abbrev pub arm_channel_text : Names → Noted → Option ℕ → List ℕ
 arm_channel_text names writers None = codes "; SKIP"
-arm_channel_text names writers (Some c) = codes "; " ++ awaited_text names writers c
+arm_channel_text names writers (Some c) = codes "; " ++ awaited_text names writers [] c
 
 abbrev pub arms_text : Names → Noted → List Arm → List ℕ
 arms_text names writers [] = []
@@ -72,9 +81,9 @@ abbrev pub branches_text : List ℕ → List ℕ
 branches_text [] = []
 branches_text (n ∷ ns) = 32 ∷ process_text n ++ branches_text ns
 
-abbrev pub offer_text : Names → Noted → ℕ → Message → List ℕ
-offer_text names readers c m =
-    codes "offers " ++ items_text (tag_shown names c m.tag) m.items ++ codes " on " ++ names.channel_name c ++ reader_text (slice_get readers c)
+abbrev pub offer_text : Names → Noted → (written : List ℕ) → ℕ → Message → List ℕ
+offer_text names readers written c m =
+    codes "offers " ++ items_text (tag_shown names c m.tag) m.items ++ codes " on " ++ channel_told names written c ++ reader_text (slice_get readers c)
 
 -- for what a process halted, by what stands in the source there
 abbrev pub halting_text : Place → List ℕ
@@ -92,17 +101,17 @@ abbrev pub halted_text : Option Stop → List ℕ
 halted_text None = codes "halted"
 halted_text (Some s) = halting_text s.kind
 
--- what a process stands at, of whose stop this is known; at its end it is not left
-abbrev pub standing_text : Names → (readers writers : Noted) → Option Stop → Wait → Option (List ℕ)
-standing_text names readers writers stop Ready = Some (codes "can go on")
-standing_text names readers writers stop (Took arm indices m) = Some (codes "can go on")
-standing_text names readers writers stop (Offers c m) = Some (offer_text names readers c m)
-standing_text names readers writers stop (Awaits c) = Some (awaited_text names writers c)
-standing_text names readers writers stop (Chooses pri arms) = Some (codes "chooses" ++ arms_text names writers arms)
-standing_text names readers writers stop (Joins ns) = Some (codes "waits for" ++ branches_text ns)
-standing_text names readers writers stop Halted = Some (halted_text stop)
-standing_text names readers writers stop Done = None
-standing_text names readers writers stop (Faulted e) = Some (ending_text (endings.Fault e))
+-- what a process stands at, of whose stop this is known, and the name with which the line there begins; at its end it is not left
+abbrev pub standing_text : Names → (readers writers : Noted) → Option Stop → (written : List ℕ) → Wait → Option (List ℕ)
+standing_text names readers writers stop written Ready = Some (codes "can go on")
+standing_text names readers writers stop written (Took arm indices m) = Some (codes "can go on")
+standing_text names readers writers stop written (Offers c m) = Some (offer_text names readers written c m)
+standing_text names readers writers stop written (Awaits c) = Some (awaited_text names writers written c)
+standing_text names readers writers stop written (Chooses pri arms) = Some (codes "chooses" ++ arms_text names writers arms)
+standing_text names readers writers stop written (Joins ns) = Some (codes "waits for" ++ branches_text ns)
+standing_text names readers writers stop written Halted = Some (halted_text stop)
+standing_text names readers writers stop written Done = None
+standing_text names readers writers stop written (Faulted e) = Some (ending_text (endings.Fault e))
 
 -- the name of a PROC, where it is known
 abbrev pub name_text : List ℕ → List ℕ
@@ -110,27 +119,56 @@ name_text [] = []
 name_text (c ∷ cs) = 32 ∷ c ∷ cs
 
 -- the line of a stop, where it is known
-abbrev pub line_told : Option Stop → List ℕ
+abbrev pub line_at_stop : Option Stop → Option ℕ
+line_at_stop None = None
+line_at_stop (Some s) = Some s.line
+
+-- the line at which a process stands that waits so, where it is known
+abbrev pub standing_line : Option Stop → Wait → Option ℕ
+standing_line stop Ready = line_at_stop stop
+standing_line stop (Took arm indices m) = line_at_stop stop
+standing_line stop (Offers c m) = line_at_stop stop
+standing_line stop (Awaits c) = line_at_stop stop
+standing_line stop (Chooses pri arms) = line_at_stop stop
+standing_line stop (Joins ns) = line_at_stop stop
+standing_line stop Halted = line_at_stop stop
+standing_line stop Done = line_at_stop stop
+standing_line stop (Faulted e) = Some e.line
+
+abbrev pub line_told : Option ℕ → List ℕ
 line_told None = []
-line_told (Some s) = codes ", line " ++ decimal s.line
+line_told (Some line) = codes ", line " ++ decimal line
 
-abbrev pub on_line : ℕ → (name : List ℕ) → Option Stop → Option (List ℕ) → List ℕ
-on_line n name stop None = []
-on_line n name stop (Some text) = codes "  " ++ process_text n ++ name_text name ++ line_told stop ++ codes ": " ++ text ++ codes "\n"
+abbrev pub on_line : ℕ → (name : List ℕ) → (line : Option ℕ) → Option (List ℕ) → List ℕ
+on_line n name line None = []
+on_line n name line (Some text) = codes "  " ++ process_text n ++ name_text name ++ line_told line ++ codes ": " ++ text ++ codes "\n"
 
--- what is told of a process, with its PROC and the line that it stands at, as far as they are known
-abbrev pub process_line : Names → (readers writers : Noted) → (name : List ℕ) → Option Stop → ℕ → Wait → List ℕ
-process_line names readers writers name stop n w = on_line n name stop (standing_text names readers writers stop w)
+-- what is told of a process, with its PROC and its line, as far as they are known
+abbrev pub process_line : Names → (readers writers : Noted) → (source : List ℕ) → List Known → ℕ → Wait → Option Stop → List ℕ
+process_line names readers writers source known n w stop = on_line n (name_of known n) (standing_line stop w) (standing_text names readers writers stop (written_at source stop) w)
 
-abbrev pub task_line : Names → (readers writers : Noted) → List Known → ℕ → Option (Option Task) → List ℕ
-task_line names readers writers known n None = []
-task_line names readers writers known n (Some None) = []
-task_line names readers writers known n (Some (Some t)) = process_line names readers writers (name_of known n) (stop_of known n t.wait t.pc) n t.wait
+-- the calls within whose PROCs it stands, where they are known
+abbrev pub calls_told : List Known → ℕ → Task → Option Stop → List ℕ
+calls_told known n t stop = calls_text (calls_of known n) (stops_of known n) stop t.wait t.pc
+
+abbrev pub lines_told_at : Names → (readers writers : Noted) → (source : List ℕ) → List Cell → List Body → List Known → ℕ → Task → Option Stop → List ℕ
+lines_told_at names readers writers source cells bodies known n t stop =
+    process_line names readers writers source known n t.wait stop ++ fault_told source cells bodies n t ++ calls_told known n t stop
+
+-- the line of a process, and those below it
+abbrev pub lines_told : Names → (readers writers : Noted) → (source : List ℕ) → List Cell → List Body → List Known → ℕ → Task → List ℕ
+lines_told names readers writers source cells bodies known n t = lines_told_at names readers writers source cells bodies known n t (stop_of known n t.wait t.pc)
+
+abbrev pub task_line : Names → (readers writers : Noted) → (source : List ℕ) → List Cell → List Body → List Known → ℕ → Option (Option Task) → List ℕ
+task_line names readers writers source cells bodies known n None = []
+task_line names readers writers source cells bodies known n (Some None) = []
+task_line names readers writers source cells bodies known n (Some (Some t)) = lines_told names readers writers source cells bodies known n t
 
 -- the lines of the first so many processes
-abbrev pub task_lines : Names → (readers writers : Noted) → List Known → Tasks → ℕ → List ℕ
-task_lines names readers writers known tasks zero = []
-task_lines names readers writers known tasks (suc n) = task_lines names readers writers known tasks n ++ task_line names readers writers known n (slice_get tasks n)
+abbrev pub task_lines : Names → (readers writers : Noted) → (source : List ℕ) → List Cell → List Body → List Known → Tasks → ℕ → List ℕ
+task_lines names readers writers source cells bodies known tasks zero = []
+task_lines names readers writers source cells bodies known tasks (suc n) =
+    task_lines names readers writers source cells bodies known tasks n ++ task_line names readers writers source cells bodies known n (slice_get tasks n)
 
 -- how many of the first so many processes have ended
 abbrev pub task_ended : Option (Option Task) → Bool
@@ -243,16 +281,17 @@ circle_text tasks ns = ring_text (choosing_among tasks ns) ns
 abbrev pub told_of : Tasks → ℕ
 told_of tasks = min (length tasks) 4294967295
 
--- of a state of a program's network, with who is at the ends of channels, and what is known of where its processes stand in the source
-abbrev pub network_report : Names → (readers writers : Noted) → List Known → Left → (waiting : List ℕ) → Net → Ending → List ℕ
-network_report names readers writers known left waiting net e =
-    kind_told e left waiting ++ report_head (length net.trace) e ++ task_lines names readers writers known net.tasks (told_of net.tasks) ++ ended_line (ended_among net.tasks (told_of net.tasks)) ++ circle_text net.tasks left.circle.items
+-- of a state of a program's network, with who is at the ends of channels, the source and what is known of where its processes stand there,
+-- and the program's cells and bodies
+abbrev pub network_report : Names → (readers writers : Noted) → (source : List ℕ) → List Cell → List Body → List Known → Left → (waiting : List ℕ) → Net → Ending → List ℕ
+network_report names readers writers source cells bodies known left waiting net e =
+    kind_told e left waiting ++ report_head (length net.trace) e ++ task_lines names readers writers source cells bodies known net.tasks (told_of net.tasks) ++ ended_line (ended_among net.tasks (told_of net.tasks)) ++ circle_text net.tasks left.circle.items
 
 -- The replay of the used choices, which are a beginning of the list, as a run of the list has it, and the report of its state: of what
 -- kind a stop is, or, where the choices are used up, processes that take no turn whatever choices follow; each process that is left, who
--- is at the other ends of its channels by what the program's term uses; how many have ended; and a circle of those that wait, where
--- there is one.
-pub record IsReport (t : Term) (p : Program) (keyboard : List ℕ) (list : List Choice) (known : List Known) (bytes : List ℕ) : Type 0 where
+-- is at the other ends of its channels by what the program's term uses, and where it stands in the source; of a fault, what was read; how
+-- many have ended; and a circle of those that wait, where there is one.
+pub record IsReport (t : Term) (p : Program) (keyboard : List ℕ) (list : List Choice) (known : List Known) (source : List ℕ) (cells : List Cell) (bytes : List ℕ) : Type 0 where
   pub used : List Choice
   pub net : Net
   pub replays : Replays p keyboard used net
@@ -264,7 +303,7 @@ pub record IsReport (t : Term) (p : Program) (keyboard : List ℕ) (list : List 
   pub is_left : IsRest (all_using t) p net.tasks left
   pub waiting : List ℕ
   pub are_waiting : ending_of p.errors net ≡ None → AreWaiting (all_using t) net.tasks waiting
-  pub is : bytes ≡ network_report (names_of p.channels) ends.readers.items ends.writers.items known left waiting net (or_limit (ending_of p.errors net))
+  pub is : bytes ≡ network_report (names_of p.channels) ends.readers.items ends.writers.items source cells p.bodies known left waiting net (or_limit (ending_of p.errors net))
 
 -- Processes that wait in a circle in the state that the replay of the used choices comes to, where there are some.
 pub record IsCircleOf (t : Term) (p : Program) (keyboard : List ℕ) (list : List Choice) (circle : List ℕ) : Type 0 where
@@ -284,11 +323,11 @@ abbrev pub writer_at : Noted → ℕ → List ℕ
 writer_at writers c = writer_text c (slice_get writers c)
 
 -- by the declared names
-abbrev pub offer_told : List Channel → Noted → ℕ → Message → List ℕ
-offer_told cs readers c m = offer_text (names_of cs) readers c m
+abbrev pub offer_told : List Channel → Noted → (written : List ℕ) → ℕ → Message → List ℕ
+offer_told cs readers written c m = offer_text (names_of cs) readers written c m
 
-abbrev pub awaited_told : List Channel → Noted → ℕ → List ℕ
-awaited_told cs writers c = awaited_text (names_of cs) writers c
+abbrev pub awaited_told : List Channel → Noted → (written : List ℕ) → ℕ → List ℕ
+awaited_told cs writers written c = awaited_text (names_of cs) writers written c
 
 abbrev pub arm_told : List Channel → Noted → Option ℕ → List ℕ
 arm_told cs writers chan = arm_channel_text (names_of cs) writers chan
@@ -299,28 +338,45 @@ arms_told cs writers arms = arms_text (names_of cs) writers arms
 abbrev pub choosing_told : List Channel → Noted → List Arm → List ℕ
 choosing_told cs writers arms = codes "chooses" ++ arms_told cs writers arms
 
+abbrev pub AddsOffer : {A : Type 0} → List Channel → Noted → (written : List ℕ) → ℕ → Message → (old new : Vec ℕ A) → Type 0
+AddsOffer cs readers written c m old new = AddsText old new (offer_told cs readers written c m)
+
 abbrev pub joining_text : List ℕ → List ℕ
 joining_text ns = codes "waits for" ++ branches_text ns
 
 -- by the declared names and by who is noted
-abbrev pub standing_told : List Channel → Sides → Option Stop → Wait → Option (List ℕ)
-standing_told cs ends stop w = standing_text (names_of cs) ends.readers.now ends.writers.now stop w
+abbrev pub standing_told : List Channel → Sides → Option Stop → (written : List ℕ) → Wait → Option (List ℕ)
+standing_told cs ends stop written w = standing_text (names_of cs) ends.readers.now ends.writers.now stop written w
 
 -- the line of a process, of the text that there is for it, and of what it stands at
-abbrev pub AddsOnLine : {A B : Type 0} → ℕ → (name : List ℕ) → Option Stop → Option (Vec ℕ A) → (old new : Vec ℕ B) → Type 0
-AddsOnLine n name stop text old new = AddsText old new (on_line n name stop (option_map (λ v. v.items) text))
+abbrev pub AddsOnLine : {A B : Type 0} → ℕ → (name : List ℕ) → (line : Option ℕ) → Option (Vec ℕ A) → (old new : Vec ℕ B) → Type 0
+AddsOnLine n name line text old new = AddsText old new (on_line n name line (option_map (λ v. v.items) text))
 
-abbrev pub AddsLine : {A : Type 0} → List Channel → Sides → (name : List ℕ) → Option Stop → ℕ → Wait → (old new : Vec ℕ A) → Type 0
-AddsLine cs ends name stop n w old new = AddsText old new (process_line (names_of cs) ends.readers.now ends.writers.now name stop n w)
+abbrev pub AddsLine : {A : Type 0} → List Channel → Sides → Told → ℕ → Wait → Option Stop → (old new : Vec ℕ A) → Type 0
+AddsLine cs ends told n w stop old new =
+    AddsText old new (process_line (names_of cs) ends.readers.now ends.writers.now told.source.now told.places.now n w stop)
 
--- of whatever network the tables hold, the line of one process, and the lines of the first so many
-abbrev pub AddsTaskLine : {A : Type 0} → List Channel → Sides → List Known → Tables → ℕ → (old new : Vec ℕ A) → Type 0
-AddsTaskLine cs ends known tables n old new =
-    HeldBy tables (λ net. new.items ≡ old.items ++ task_line (names_of cs) ends.readers.now ends.writers.now known n (slice_get net.tasks n))
+abbrev pub AddsCalls : {A : Type 0} → List Known → ℕ → Task → Option Stop → (old new : Vec ℕ A) → Type 0
+AddsCalls known n t stop old new = AddsText old new (calls_told known n t stop)
 
-abbrev pub AddsTaskLines : {A : Type 0} → List Channel → Sides → List Known → Tables → ℕ → (old new : Vec ℕ A) → Type 0
-AddsTaskLines cs ends known tables n old new =
-    HeldBy tables (λ net. new.items ≡ old.items ++ task_lines (names_of cs) ends.readers.now ends.writers.now known net.tasks n)
+abbrev pub AddsLines : {A : Type 0} → List Channel → Sides → Told → ℕ → Task → (old new : Vec ℕ A) → Type 0
+AddsLines cs ends told n t old new =
+    AddsText old new (lines_told (names_of cs) ends.readers.now ends.writers.now told.source.now told.unfolded.now.cells told.code.now.bodies told.places.now n t)
+
+abbrev pub AddsFault : {A : Type 0} → Told → ℕ → Task → (old new : Vec ℕ A) → Type 0
+AddsFault told n t old new = AddsText old new (fault_told told.source.now told.unfolded.now.cells told.code.now.bodies n t)
+
+abbrev pub AddsVariables : {A : Type 0} → (held : List ℕ) → Variables → (read : List ℕ) → List Cell → (old new : Vec ℕ A) → Type 0
+AddsVariables held f read cells old new = AddsText old new (variables_text held f read 0 cells)
+
+-- of whatever network the tables hold, the lines of one process, and those of the first so many
+abbrev pub AddsTaskLine : {A : Type 0} → List Channel → Sides → Told → Tables → ℕ → (old new : Vec ℕ A) → Type 0
+AddsTaskLine cs ends told tables n old new =
+    HeldBy tables (λ net. new.items ≡ old.items ++ task_line (names_of cs) ends.readers.now ends.writers.now told.source.now told.unfolded.now.cells told.code.now.bodies told.places.now n (slice_get net.tasks n))
+
+abbrev pub AddsTaskLines : {A : Type 0} → List Channel → Sides → Told → Tables → ℕ → (old new : Vec ℕ A) → Type 0
+AddsTaskLines cs ends told tables n old new =
+    HeldBy tables (λ net. new.items ≡ old.items ++ task_lines (names_of cs) ends.readers.now ends.writers.now told.source.now told.unfolded.now.cells told.code.now.bodies told.places.now net.tasks n)
 
 -- the count of the ended ones among the first so many, of whatever network the tables hold
 abbrev pub AddsEnded : {A : Type 0} → Tables → ℕ → (old new : Vec ℕ A) → Type 0
@@ -343,9 +399,9 @@ abbrev pub WaitingAt : {A : Type 0} → Ending → List ProcessUses → Program 
 WaitingAt ending uses p tables waiting = ending ≡ endings.Limit → AreWaitingIn uses p tables waiting
 
 -- by any term whose uses these are
-abbrev pub IsReportBy : {A : Type 0} → List ProcessUses → Program → List ℕ → Plan → List Known → Vec ℕ A → Type 0
-IsReportBy uses p keyboard plan known bytes =
-    (t : Term) → map noted_for uses ≡ all_using t → IsReport t p keyboard (choices_of plan) known bytes.items
+abbrev pub IsReportBy : {A : Type 0} → List ProcessUses → Program → List ℕ → Plan → List Known → (source : List ℕ) → UnfoldedProgram → Vec ℕ A → Type 0
+IsReportBy uses p keyboard plan known source unfolded bytes =
+    (t : Term) → map noted_for uses ≡ all_using t → IsReport t p keyboard (choices_of plan) known source unfolded.cells bytes.items
 
 abbrev pub IsCircleBy : {A : Type 0} → List ProcessUses → Program → List ℕ → Plan → Vec ℕ A → Type 0
 IsCircleBy uses p keyboard plan circle =

@@ -3,9 +3,9 @@ ghost use Rattle.std.specs.Prelude.{◌≡◌, IfOk, IfSome, IsTrue, OnOk, Some,
 ghost use Rattle.occ_text.specs.Words.{logical_lines};
 ghost use Rattle.occ_report.specs.Places.{AddsStop, HasStops, IsLineOf, KeepsStops, next_place, place_of, stop_places};
 
+use crate::marks::Mark;
 use crate::stop::{Stop, is_stop, next_place};
 use crate::text_lines::has_line;
-use crate::walk::Mark;
 use occ_machine::{Instr, Slot};
 use occ_text::Line;
 use std::alloc::{AllocError, Global};
@@ -31,6 +31,7 @@ fn stop_for(
         next,
         line: mark.line,
         kind: mark.kind,
+        call: mark.around.call,
     })
 }
 

@@ -5,14 +5,19 @@
 #![tactic(auto)]
 
 mod agreement;
+pub mod calls;
 mod ended;
+mod faults;
 mod heads;
 mod kinds;
+mod marks;
 mod past;
 pub mod places;
 pub mod placing;
+mod process_lines;
 pub mod reporting;
 mod scope;
+mod source_lines;
 mod standing;
 mod stepping;
 pub mod stop;
@@ -21,6 +26,7 @@ mod taking;
 mod text_lines;
 mod walk;
 
+pub use calls::Call;
 pub use past::first_past;
 pub use places::Places;
 pub use placing::places_of;

@@ -1,7 +1,8 @@
 //! The table of the places.
 ghost use Rattle.std.specs.Prelude.{◌≡◌, map, option_map, slice_get};
-ghost use Rattle.occ_report.specs.Places.{name_of, stop_of, stops_of};
+ghost use Rattle.occ_report.specs.Places.{calls_of, name_of, stop_of, stops_of};
 
+use crate::calls::Call;
 use crate::stop::{Stop, first_of};
 use occ_machine::Wait;
 use std::marker::Model;
@@ -12,16 +13,22 @@ pub(crate) struct Located {
     pub name: Vec<u8>,
     /// The places of its code at which it stops.
     pub stops: Vec<Stop>,
+    /// The calls that its code goes through, behind those that led to where it begins.
+    pub calls: Vec<Call>,
 }
 
 impl Drop for Located {
     fn drop(self) {
-        let Located { name: _, stops: _ } = self;
+        let Located {
+            name: _,
+            stops: _,
+            calls: _,
+        } = self;
     }
 }
 
-/// Where the processes of a program stand in its text: by process number the PROC of the branch, and the lines of all
-/// places at which the process can stop.
+/// Where the processes of a program stand in its text: by process number the PROC of the branch, the lines of all
+/// places at which the process can stop, and the calls that its code goes through.
 pub struct Places {
     all: Vec<Located>,
 }
@@ -76,6 +83,16 @@ impl Places {
     {
         match self.located(number) {
             Some(located) => located.stops.as_slice(),
+            None => &[],
+        }
+    }
+
+    /// The calls that the code of a process goes through, behind those that led to where it begins; none where they aren't known.
+    pub fn calls(&self, number: u32) -> &[Call]
+        ensures { result.now ≡ calls_of self.now number }
+    {
+        match self.located(number) {
+            Some(located) => located.calls.as_slice(),
             None => &[],
         }
     }

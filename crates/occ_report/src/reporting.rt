@@ -6,12 +6,13 @@ ghost use Rattle.occ_shown.specs.Answers.{AddsText};
 use crate::Places;
 use crate::ended::write_ended;
 use crate::kinds::write_kind;
-use crate::standing::{Ends, write_circle, write_lines};
+use crate::process_lines::{Told, write_lines};
+use crate::standing::{Ends, write_circle};
 use occ_choices::Plan;
 use occ_ends::{Left, ProcessUses, ends_of, left_in, waiting_in};
 use occ_machine::Code;
 use occ_net_tables::{Keep, Ran, Tables, run_tables};
-use occ_term::Ending;
+use occ_term::{Ending, Unfolded};
 use std::alloc::{AllocError, Global};
 
 /// How many processes a report tells of at most.
@@ -76,9 +77,10 @@ fn waiting_at(
 
 /// What the run of a plan comes to: the kind of its stop, if it has stopped, with the processes for which it is of that kind, or, where
 /// the choices are used up, the processes that take no turn whatever choices follow; after how many communications; a line for each
-/// process that is left then, with its PROC and its line where they are known, with what it stands at, and who is at the other end of
-/// its channel; how many have ended; and last, where there are some, processes that wait for one another in a circle.
-/// `uses` has what each process of the program uses.
+/// process that is left then, with its PROC, its line and the calls that led there, where they are known, with what it stands at, and
+/// who is at the other end of its channel, which has the name that is written in the line; of a fault its line of the source, and the
+/// variables that were read there; how many have ended; and last, where there are some, processes that wait for one another in a circle.
+/// `uses` has what each process of the program uses, and the program is that of the source.
 ///
 /// # Errors
 ///
@@ -90,8 +92,11 @@ pub fn report(
     keyboard: &[u8],
     plan: &Plan,
     places: &Places,
+    source: &[u8],
+    unfolded: &Unfolded,
 ) -> Result<Vec<u8>, AllocError>
-    ensures { IfOk result (IsReportBy uses.now code.now keyboard.now plan.now places.now) }
+    ensures { IfOk result (IsReportBy
+        uses.now code.now keyboard.now plan.now places.now source.now unfolded.now) }
 {
     let Ran {
         ending,
@@ -112,10 +117,16 @@ pub fn report(
         readers: reading,
         writers: writing,
     };
+    let told = Told {
+        source,
+        unfolded,
+        code,
+        places,
+    };
     let mut out = Vec::new(alloc);
     write_kind(alloc, &mut out, ending, &left, waiting.as_slice())?;
     write_head(alloc, &mut out, communications, ending)?;
-    write_lines(alloc, &mut out, channels, ends, places, &tables, count)?;
+    write_lines(alloc, &mut out, channels, ends, told, &tables, count)?;
     write_ended(alloc, &mut out, &tables, count)?;
     let members = left.circle.as_slice();
     write_circle(alloc, &mut out, &tables, members)?;

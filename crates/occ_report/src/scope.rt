@@ -3,14 +3,16 @@
 use occ_tree_grammar::tree::process::Process;
 use std::alloc::{AllocError, Global};
 
-/// What stands round a process: the PROCs that it can call, as a place among all that are declared, and the name of the
-/// PROC in whose body it stands.
+/// What stands round a process: the PROCs that it can call, as a place among all that are declared, the name of the
+/// PROC in whose body it stands, and the call that led there.
 #[derive(Clone, Copy)]
 pub(crate) struct Around<'t> {
     /// How many of the PROCs were declared with the innermost one; 0 where there is none.
     pub scope: usize,
     /// The name.
     pub name: &'t [u8],
+    /// How many calls were gone through with that one; 0 where there is none.
+    pub call: u32,
 }
 
 /// A declared PROC.
@@ -22,6 +24,10 @@ pub(crate) struct Procedure<'t> {
     pub body: &'t Process,
     /// The scope in which it is declared.
     pub outer: usize,
+    /// Its first line.
+    pub first: u32,
+    /// The line of the colon that ends it.
+    pub last: u32,
 }
 
 /// The PROCs that were declared so far.
@@ -39,13 +45,8 @@ impl<'t> Procedures<'t> {
     }
 
     /// The scope with one PROC more.
-    pub fn declare(
-        &mut self,
-        name: &'t [u8],
-        body: &'t Process,
-        outer: usize,
-    ) -> Result<usize, AllocError> {
-        self.all.push(Procedure { name, body, outer })?;
+    pub fn declare(&mut self, procedure: Procedure<'t>) -> Result<usize, AllocError> {
+        self.all.push(procedure)?;
         Ok(self.all.len())
     }
 

@@ -2,15 +2,15 @@
 ghost use Rattle.std.specs.Prelude.{◌≡◌, IfOk, OnOk, Some, codes, slice_get};
 ghost use Rattle.occ_net_tables.specs.Holding.{HeldBy};
 ghost use Rattle.occ_term.specs.Endings.{ending_text};
-ghost use Rattle.occ_report.specs.Places.{name_of, stop_of};
 ghost use Rattle.occ_shown.specs.Answers.{AddsText, HasWords};
-ghost use Rattle.occ_report.specs.Reports.{arm_told, arms_told, awaited_told, branches_text, choosing_ones, halted_text, halting_text, line_told, name_text, task_chooses, offer_told, on_line, process_text, AddsChoosing, AddsCircle, AddsLine, ListsChoosing, AddsOnLine, AddsTaskLine, AddsTaskLines, choosing_told, joining_text, reader_at, standing_told, writer_at, ring_head, ring_text};
+ghost use Rattle.occ_report.specs.Reports.{arm_told, arms_told, awaited_told, branches_text, choosing_ones, halted_text, halting_text, task_chooses, process_text, AddsOffer, AddsChoosing, AddsCircle, ListsChoosing, choosing_told, joining_text, reader_at, standing_told, writer_at, ring_head, ring_text};
 
 use crate::kinds::by_number;
-use crate::{Kind, Places, Stop};
+use crate::source_lines::write_channel;
+use crate::{Kind, Stop};
 use occ_machine::{Arm, Wait};
 use occ_net_tables::Tables;
-use occ_shown::{write_message, write_name};
+use occ_shown::write_message;
 use occ_term::{Channel, Ending, Fault, KEYBOARD, Message};
 use std::alloc::{AllocError, Global};
 
@@ -21,7 +21,7 @@ pub(crate) struct Ends<'a> {
     pub(crate) writers: &'a [Option<u32>],
 }
 
-fn write_process(alloc: Global, out: &mut Vec<u8>, number: u32) -> Result<(), AllocError>
+pub(crate) fn write_process(alloc: Global, out: &mut Vec<u8>, number: u32) -> Result<(), AllocError>
     ensures { OnOk result (AddsText out.old out.new (process_text number)) }
 {
     let text = format!(in alloc; "p{number}")?;
@@ -67,19 +67,20 @@ fn write_writer(
     }
 }
 
-/// A channel from which a message is awaited.
+/// A channel from which a message is awaited, by the name that is written there.
 fn write_awaited(
     alloc: Global,
     out: &mut Vec<u8>,
     channels: &[Channel],
     writers: &[Option<u32>],
+    written: &[u8],
     chan: u32,
 ) -> Result<(), AllocError>
     ensures { OnOk result
-        (AddsText out.old out.new (awaited_told channels.now writers.now chan)) }
+        (AddsText out.old out.new (awaited_told channels.now writers.now written.now chan)) }
 {
     out.extend_from_slice(b"awaits ")?;
-    write_name(alloc, out, channels, chan)?;
+    write_channel(alloc, out, channels, written, chan)?;
     write_writer(alloc, out, writers, chan)
 }
 
@@ -96,7 +97,7 @@ fn write_arm(
     match chan {
         Some(chan) => {
             out.extend_from_slice(b"; ")?;
-            write_awaited(alloc, out, channels, writers, chan)
+            write_awaited(alloc, out, channels, writers, &[], chan)
         }
         None => out.extend_from_slice(b"; SKIP"),
     }
@@ -227,16 +228,17 @@ fn write_offer(
     out: &mut Vec<u8>,
     channels: &[Channel],
     readers: &[Option<u32>],
+    written: &[u8],
     chan: u32,
     message: &Message,
 ) -> Result<(), AllocError>
     ensures { OnOk result
-        (AddsText out.old out.new (offer_told channels.now readers.now chan message.now)) }
+        (AddsOffer channels.now readers.now written.now chan message.now out.old out.new) }
 {
     out.extend_from_slice(b"offers ")?;
     write_message(alloc, out, message, chan, channels)?;
     out.extend_from_slice(b" on ")?;
-    write_name(alloc, out, channels, chan)?;
+    write_channel(alloc, out, channels, written, chan)?;
     write_reader(alloc, out, readers, chan)
 }
 
@@ -279,15 +281,17 @@ fn halted_text(stop: Option<Stop>) -> &'static [u8]
     }
 }
 
-/// What a process stands at, of whose stop this is known; nothing where it is at its end.
-fn standing(
+/// What a process stands at, of whose stop this is known, and the name with which the line there begins; nothing where it is at its end.
+pub(crate) fn standing(
     alloc: Global,
     channels: &[Channel],
     ends: Ends<'_>,
     stop: Option<Stop>,
+    written: &[u8],
     wait: &Wait,
 ) -> Result<Option<Vec<u8>>, AllocError>
-    ensures { IfOk result (HasWords (standing_told channels.now ends.entry stop wait.now)) }
+    ensures { IfOk result
+        (HasWords (standing_told channels.now ends.entry stop written.now wait.now)) }
 {
     let mut out = Vec::new(alloc);
     match wait {
@@ -296,9 +300,19 @@ fn standing(
         Wait::Halted => return text_of(alloc, halted_text(stop)),
         Wait::Done => return Ok(None),
         Wait::Offers { chan, message } => {
-            write_offer(alloc, &mut out, channels, ends.readers, *chan, message)?
+            write_offer(
+                alloc,
+                &mut out,
+                channels,
+                ends.readers,
+                written,
+                *chan,
+                message,
+            )?
         }
-        Wait::Awaits { chan } => write_awaited(alloc, &mut out, channels, ends.writers, *chan)?,
+        Wait::Awaits { chan } => {
+            write_awaited(alloc, &mut out, channels, ends.writers, written, *chan)?
+        }
         Wait::Chooses { arms, .. } => {
             write_choosing(alloc, &mut out, channels, ends.writers, arms.as_slice())?
         }
@@ -327,127 +341,4 @@ fn write_joining(alloc: Global, out: &mut Vec<u8>, branches: &[u32]) -> Result<(
 {
     out.extend_from_slice(b"waits for")?;
     write_branches(alloc, out, branches)
-}
-
-/// The name of a PROC, where it is known.
-fn write_named(out: &mut Vec<u8>, name: &[u8]) -> Result<(), AllocError>
-    ensures { OnOk result (AddsText out.old out.new (name_text name.now)) }
-{
-    if name.is_empty() {
-        return Ok(());
-    }
-    out.push(b' ')?;
-    out.extend_from_slice(name)
-}
-
-/// The line of a stop, where it is known.
-fn write_line(alloc: Global, out: &mut Vec<u8>, stop: Option<Stop>) -> Result<(), AllocError>
-    ensures { OnOk result (AddsText out.old out.new (line_told stop)) }
-{
-    match stop {
-        Some(stop) => {
-            let line = stop.line;
-            let text = format!(in alloc; ", line {line}")?;
-            out.extend_from_slice(text.as_bytes())
-        }
-        None => Ok(()),
-    }
-}
-
-/// A line for a process, of this text.
-fn write_text(
-    alloc: Global,
-    out: &mut Vec<u8>,
-    number: u32,
-    name: &[u8],
-    stop: Option<Stop>,
-    text: &[u8],
-) -> Result<(), AllocError>
-    ensures { OnOk result
-        (AddsText out.old out.new (on_line number name.now stop (Some text.now))) }
-{
-    out.extend_from_slice(b"  ")?;
-    write_process(alloc, out, number)?;
-    write_named(out, name)?;
-    write_line(alloc, out, stop)?;
-    out.extend_from_slice(b": ")?;
-    out.extend_from_slice(text)?;
-    out.extend_from_slice(b"\n")
-}
-
-/// A line for a process, of the text that there is for it.
-fn write_on_line(
-    alloc: Global,
-    out: &mut Vec<u8>,
-    number: u32,
-    name: &[u8],
-    stop: Option<Stop>,
-    text: Option<Vec<u8>>,
-) -> Result<(), AllocError>
-    ensures { OnOk result (AddsOnLine number name.now stop text out.old out.new) }
-{
-    match text {
-        Some(text) => write_text(alloc, out, number, name, stop, text.as_slice()),
-        None => Ok(()),
-    }
-}
-
-/// The line of a process, where it is left.
-fn write_standing(
-    alloc: Global,
-    out: &mut Vec<u8>,
-    channels: &[Channel],
-    ends: Ends<'_>,
-    number: u32,
-    name: &[u8],
-    stop: Option<Stop>,
-    wait: &Wait,
-) -> Result<(), AllocError>
-    ensures { OnOk result
-        (AddsLine channels.now ends.entry name.now stop number wait.now out.old out.new) }
-{
-    let text = standing(alloc, channels, ends, stop, wait)?;
-    write_on_line(alloc, out, number, name, stop, text)
-}
-
-/// The line of the process with this number, where it is left.
-fn write_task(
-    alloc: Global,
-    out: &mut Vec<u8>,
-    channels: &[Channel],
-    ends: Ends<'_>,
-    places: &Places,
-    tables: &Tables,
-    number: u32,
-) -> Result<(), AllocError>
-    ensures { OnOk result (AddsTaskLine
-        channels.now ends.entry places.now tables.now number out.old out.new) }
-{
-    match tables.task(number) {
-        Some(task) => {
-            let name = places.name(number);
-            let stop = places.stop(number, &task.wait, task.pc);
-            write_standing(alloc, out, channels, ends, number, name, stop, &task.wait)
-        }
-        None => Ok(()),
-    }
-}
-
-/// The lines of the first so many processes that are left.
-pub(crate) fn write_lines(
-    alloc: Global,
-    out: &mut Vec<u8>,
-    channels: &[Channel],
-    ends: Ends<'_>,
-    places: &Places,
-    tables: &Tables,
-    count: u32,
-) -> Result<(), AllocError>
-    ensures { OnOk result (AddsTaskLines
-        channels.now ends.entry places.now tables.now count out.old out.new) }
-{
-    for number in 0..count {
-        write_task(alloc, out, channels, ends, places, tables, number)?;
-    }
-    Ok(())
 }

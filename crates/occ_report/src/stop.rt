@@ -38,6 +38,8 @@ pub struct Stop {
     pub line: u32,
     /// What stands in that line.
     pub kind: Kind,
+    /// The number of the call within whose PROC it stands, of those of the process; 0 where it is none.
+    pub call: u32,
 }
 
 fn is_output(kind: Kind) -> bool

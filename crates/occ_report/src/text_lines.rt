@@ -2,6 +2,7 @@
 ghost use Rattle.std.specs.Prelude.{◌≡◌, IsTrue, option_map, slice_get};
 ghost use Rattle.std.specs.List.{list_any};
 ghost use Rattle.occ_text.specs.Words.{logical_line_of, logical_lines, word, words};
+ghost use Rattle.occ_report.specs.Calls.{IsCallLine, begins_call};
 ghost use Rattle.occ_report.specs.Places.{IsLineOf, IsProcOf, begins_proc, is_word_of};
 
 use crate::stop::Kind;
@@ -90,6 +91,27 @@ fn begins_at(lines: &[Line], place: usize, name: &[u8]) -> bool
 {
     match line_at(lines, place) {
         Some(line) => begins_proc(name, line.words.as_slice()),
+        None => false,
+    }
+}
+
+/// Whether a line of these words calls a PROC.
+fn begins_call(tokens: &[Token]) -> bool
+    ensures { result ≡ begins_call (words tokens.now) }
+{
+    matches!(tokens, [Token::Name(_), Token::Sym(Sym::OpenParen), ..])
+}
+
+/// Whether one of the lines has this number and calls a PROC.
+#[tactic(auto, using(crate::proofs::PlaceLines::call_found))]
+pub(crate) fn has_call(lines: &[Line], number: u32) -> bool
+    ensures { IsTrue result → IsCallLine (logical_lines lines.now) number }
+{
+    let Some(place) = place_of(lines, number) else {
+        return false;
+    };
+    match line_at(lines, place) {
+        Some(line) => line.number == number && begins_call(line.words.as_slice()),
         None => false,
     }
 }

@@ -1,37 +1,16 @@
 //! The stops of a process, as the tree has them, in the order of its code.
 
-use crate::scope::{Around, Procedures};
+use crate::calls::Calls;
+use crate::marks::{Branches, Mark, has_tag, literal};
+use crate::scope::{Around, Procedure, Procedures};
 use crate::stop::Kind;
-use occ_tree_grammar::tree::expr::{Expr, Literal, Operand};
+use occ_tree_grammar::tree::expr::Expr;
 use occ_tree_grammar::tree::line::{Action, Guard, Input};
 use occ_tree_grammar::tree::process::{Arm, Choice, Decl, Item, Process, Selection, Stmt, Variant};
 use std::alloc::{AllocError, Global};
 
-/// The branches of a PAR.
-#[derive(Clone, Copy)]
-pub(crate) enum Branches<'t> {
-    /// What stands there is no PAR.
-    None,
-    /// A branch for each process.
-    Each(&'t [Process]),
-    /// Copies of a process.
-    Copies(&'t Process),
-    /// Copies of a process, but there may be none, and then there is nothing to stop at.
-    Maybe(&'t Process),
-}
-
-/// A stop.
-#[derive(Clone, Copy)]
-pub(crate) struct Mark<'t> {
-    /// The line.
-    pub line: u32,
-    /// What stands there.
-    pub kind: Kind,
-    /// The branches that begin there.
-    pub branches: Branches<'t>,
-    /// What stands round it.
-    pub around: Around<'t>,
-}
+/// How many stops of a process have a number.
+const MOST_MET: usize = 4_294_967_295;
 
 /// A part of a process that is still to be gone through.
 #[derive(Clone, Copy)]
@@ -52,6 +31,8 @@ enum Part<'t> {
     Variants(&'t [Variant]),
     /// A stop.
     Stop(u32, Kind),
+    /// The end of the body of a call.
+    Return(u32),
 }
 
 /// A part that is left, and what stands round it.
@@ -69,6 +50,8 @@ pub(crate) struct Walk<'t> {
     left: Vec<Left<'t>>,
     /// The stops of the process that were found.
     marks: Vec<Mark<'t>>,
+    /// The calls of the process.
+    pub calls: Calls,
     /// How many parts may still be gone through, of this process and of others.
     parts: u32,
     /// How many PROCs may still be declared and looked at.
@@ -84,6 +67,7 @@ impl<'t> Walk<'t> {
             procedures: Procedures::new(alloc),
             left: Vec::new(alloc),
             marks: Vec::new(alloc),
+            calls: Calls::new(alloc),
             parts,
             looks,
             lost: false,
@@ -93,6 +77,18 @@ impl<'t> Walk<'t> {
     /// The stops of the process that was gone through last.
     pub fn marks(&self) -> &[Mark<'t>] {
         self.marks.as_slice()
+    }
+
+    /// How many stops were found so far.
+    fn met(&self) -> u32 {
+        self.marks.len().min(MOST_MET) as u32
+    }
+
+    /// The body of this call is gone through.
+    fn leave(&mut self, call: u32) -> Result<(), AllocError> {
+        let behind = self.met();
+        self.calls.leave(call, behind);
+        Ok(())
     }
 
     /// Goes through a process, and answers whether all of it was.
@@ -130,6 +126,7 @@ impl<'t> Walk<'t> {
         if forks < pars {
             self.marks
                 .retain(|mark| !matches!(mark.branches, Branches::Maybe(_)));
+            self.calls.spread();
         }
     }
 
@@ -178,6 +175,7 @@ impl<'t> Walk<'t> {
             Part::Else(line, options) => self.otherwise(line, options, around),
             Part::Variants(variants) => self.variants(variants, around),
             Part::Stop(line, kind) => self.mark(line, kind, Branches::None, around),
+            Part::Return(call) => self.leave(call),
         }
     }
 
@@ -196,34 +194,32 @@ impl<'t> Walk<'t> {
         Ok(Around {
             scope,
             name: around.name,
+            call: around.call,
         })
     }
 
     /// The scope behind an item.
     pub fn declared(&mut self, item: &'t Item, scope: usize) -> Result<usize, AllocError> {
         match item {
-            Item::Proc(_, name, _, body, _) => self.declared_procedure(
-                name.as_slice(),
+            Item::Proc(first, name, _, body, last) => self.declared_procedure(Procedure {
+                name: name.as_slice(),
                 body,
-                scope,
-            ),
+                outer: scope,
+                first: *first,
+                last: *last,
+            }),
             Item::Value(_, _, _, _) => Ok(scope),
             Item::Protocol(_) => Ok(scope),
         }
     }
 
-    fn declared_procedure(
-        &mut self,
-        name: &'t [u8],
-        body: &'t Process,
-        scope: usize,
-    ) -> Result<usize, AllocError> {
+    fn declared_procedure(&mut self, procedure: Procedure<'t>) -> Result<usize, AllocError> {
         if self.looks == 0 {
             self.lost = true;
-            return Ok(scope);
+            return Ok(procedure.outer);
         }
         self.looks -= 1;
-        self.procedures.declare(name, body, scope)
+        self.procedures.declare(procedure)
     }
 
     fn process(&mut self, process: &'t Process, around: Around<'t>) -> Result<(), AllocError> {
@@ -329,7 +325,7 @@ impl<'t> Walk<'t> {
             Action::Assign(_, _) => Ok(()),
             Action::Input(input) => self.input(line, input, around),
             Action::Output(_, _) => self.mark(line, Kind::Output, Branches::None, around),
-            Action::Call(name, _) => self.call(name.as_slice(), around),
+            Action::Call(name, _) => self.call(line, name.as_slice(), around),
         }
     }
 
@@ -341,15 +337,18 @@ impl<'t> Walk<'t> {
         Ok(())
     }
 
-    /// The body of the PROC of this name.
-    fn call(&mut self, name: &'t [u8], around: Around<'t>) -> Result<(), AllocError> {
+    /// The body of the PROC of this name, which is called in this line.
+    fn call(&mut self, line: u32, name: &'t [u8], around: Around<'t>) -> Result<(), AllocError> {
         match self.procedures.find(name, around.scope, &mut self.looks) {
             Some(procedure) => {
+                let before = self.met();
+                let call = self.calls.enter(line, procedure, around.call, before)?;
                 let around = Around {
                     scope: procedure.outer,
                     name: procedure.name,
+                    call,
                 };
-                self.later(Part::One(procedure.body), around)
+                self.in_turn(Part::One(procedure.body), Part::Return(call), around)
             }
             None => {
                 self.lost = true;
@@ -485,28 +484,5 @@ impl<'t> Walk<'t> {
         let Variant::Tagged(declarations, _, _, _, body) = variant;
         let inside = self.inside(declarations, around)?;
         self.later(Part::One(body), inside)
-    }
-}
-
-/// The number that an expression is, where it is written as one.
-fn literal(e: &Expr) -> Option<i32> {
-    match e {
-        Expr::Operand(operand) => literal_operand(operand),
-        _ => None,
-    }
-}
-
-fn literal_operand(operand: &Operand) -> Option<i32> {
-    match operand {
-        Operand::Literal(Literal::Number(number), _) => Some(*number),
-        _ => None,
-    }
-}
-
-/// Whether an input takes one tag alone.
-fn has_tag(input: &Input) -> bool {
-    match input {
-        Input::Items(_, _) => false,
-        Input::Tagged(_, _, _) => true,
     }
 }

@@ -1,4 +1,4 @@
-use Rattle.std.proofs.Common.{◌≡◌, ◌∙◌, ap, map, subst}
+use Rattle.std.proofs.Common.{◌≡◌, ◌∙◌, ap, map, refl, subst}
 use Rattle.occ_ends.specs.Ends.{all_using, noted_for}
 use Rattle.occ_text.specs.Words.{logical_lines}
 use Rattle.occ_report.specs.Places.{Fits}
@@ -18,4 +18,6 @@ returns-clause-studied c =
         unfolds = c.in_ok-unfolded.ensures.found;
       };
       uses = c.in_ok-uses.ensures ∙ ap (λ x. all_using (term_of x)) c.term.ensures;
+      text = c.in_ok-source.ensures.items;
+      unfolds = refl;
     }

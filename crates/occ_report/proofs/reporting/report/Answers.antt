@@ -7,7 +7,7 @@ use Rattle.occ_report.proofs.reporting.report.Goals as goal
 
 pub returns : goal.returns
 returns c = λ t uses.
-    report_is (map noted_for c.args.uses.now) t c.args.code.now c.args.keyboard.now (choices_of c.args.plan.now) c.args.places.now c.in_ok-ending.field-0 c.in_ok-ending.ensures
+    report_is (map noted_for c.args.uses.now) t c.args.code.now c.args.keyboard.now (choices_of c.args.plan.now) c.args.places.now c.args.source.now c.args.unfolded.now.cells c.in_ok-ending.field-0 c.in_ok-ending.ensures
     c.trace-trace.result.now c.len-communications.result (λ k net h. c.trace-trace.ensures c.args.code.now k net h) c.len-communications.ensures.len
     c.new-out.result.items c.write_kind.new.out.items c.write_head.new.out.items c.write_circle.new.out.items _ _ c.in_ok-left.left c.in_ok-waiting.waiting.items c.new-out.ensures.items (rw c.as_slice.ensures.value at c.in_ok-write_kind.ensures) c.in_ok-write_head.ensures c.min-count.ensures
     uses c.in_ok-found.found (λ p k net h. rw c.channels-channels.ensures at c.in_ok-found.ensures p k net h)

@@ -1,0 +1,93 @@
+-- What is told of a fault: its line of the source, and the variables that were read there.
+-- Manual: nothing; this is (own).
+use Rattle.std.specs.Prelude.{Bool, List, None, Option, Some, [], codes, false, if◌then◌else◌, length, min, nat_eq, slice_get, take, true, ℕ, ℤ, ◌+◌, ◌++◌, ◌||◌, ◌∷◌}
+use Rattle.occ_term.specs.Frames.{Variables, at, place_among}
+use Rattle.occ_term.specs.declared.names.Cell.{Cell}
+use Rattle.occ_machine.specs.Machine.{Body}
+use Rattle.occ_machine.specs.declared.instr.Instr.{Instr}
+use Rattle.occ_machine.specs.declared.instr.Instr.TheVariants.{Push, Load, LoadAt, LoadLetter, Subscript, Operate, OperateOne, ConvertTo, AndThen, OrElse, PartOne, PartMany, PartText, PartCounted, PartCountedText, SpotOne, SpotCounted}
+use Rattle.occ_machine.specs.declared.task.Task.{Task}
+use Rattle.occ_machine.specs.declared.task.Wait.{Wait}
+use Rattle.occ_machine.specs.declared.task.Wait.TheVariants.{Ready, Took, Offers, Awaits, Chooses, Joins, Halted, Done, Faulted}
+use Rattle.occ_shown.specs.Answers.{value_text}
+use Rattle.occ_report.specs.Written.{numbered_line, plain_text, unspaced}
+
+-- ---- what was read for an evaluation
+
+-- whether an instruction is in the middle of an evaluation
+abbrev pub is_evaluating : Instr ℕ → Bool
+is_evaluating (Push v) = true
+is_evaluating (Load place) = true
+is_evaluating LoadAt = true
+is_evaluating (LoadLetter line text) = true
+is_evaluating (Subscript line size each) = true
+is_evaluating (Operate o type line) = true
+is_evaluating (OperateOne o type line) = true
+is_evaluating (ConvertTo type line) = true
+is_evaluating (AndThen skip) = true
+is_evaluating (OrElse skip) = true
+is_evaluating (PartOne type) = true
+is_evaluating (PartMany type count) = true
+is_evaluating (PartText type text) = true
+is_evaluating (PartCounted type line count) = true
+is_evaluating (PartCountedText type line text) = true
+is_evaluating (SpotOne count) = true
+is_evaluating (SpotCounted line size count) = true
+is_evaluating instruction = false
+
+-- the place in the frame that an instruction reads
+abbrev pub read_by : Instr ℕ → Option ℕ
+read_by (Load place) = Some place
+read_by instruction = None
+
+abbrev pub as_list : Option ℕ → List ℕ
+as_list None = []
+as_list (Some place) = place ∷ []
+
+-- Behind these instructions: what is read is kept up to the end of the evaluation.
+abbrev pub with_read : Instr ℕ → List ℕ → List ℕ
+with_read i read = (if is_evaluating i then read else []) ++ as_list (read_by i)
+
+abbrev pub reads_in : List (Instr ℕ) → List ℕ → List ℕ
+reads_in [] read = read
+reads_in (i ∷ others) read = reads_in others (with_read i read)
+
+-- ---- what is told of it
+
+abbrev pub is_among : ℕ → List ℕ → Bool
+is_among p [] = false
+is_among p (q ∷ qs) = nat_eq q p || is_among p qs
+
+abbrev pub value_line : Cell → ℤ → List ℕ
+value_line c v = codes "    " ++ c.name ++ codes " = " ++ value_text c.primitive v ++ codes "\n"
+
+-- the variables, the first of which has this number, that stand at these places of what a process holds
+abbrev pub variables_text : (held : List ℕ) → Variables → (read : List ℕ) → ℕ → List Cell → List ℕ
+variables_text held f read n [] = []
+variables_text held f read n (c ∷ others) = (if is_among (place_among held n) read then value_line c (at f n) else []) ++ variables_text held f read (n + 1) others
+
+-- those that were read up to the place where a process of this body stands
+abbrev pub read_text : Body → List Cell → Task → List ℕ
+read_text b cells t = variables_text b.cells t.frame (reads_in (take (min t.pc (length b.code)) b.code) []) 0 cells
+
+abbrev pub fault_line : (source : List ℕ) → ℕ → List ℕ
+fault_line source line = codes "    " ++ plain_text (unspaced (numbered_line source line)) ++ codes "\n"
+
+abbrev pub body_text : Option Body → List Cell → Task → List ℕ
+body_text None cells t = []
+body_text (Some b) cells t = read_text b cells t
+
+-- the lines below that of the process of this number, where it met a fault
+abbrev pub faulted_text : Wait → (source : List ℕ) → List Cell → Option Body → Task → List ℕ
+faulted_text Ready source cells body t = []
+faulted_text (Took arm indices m) source cells body t = []
+faulted_text (Offers c m) source cells body t = []
+faulted_text (Awaits c) source cells body t = []
+faulted_text (Chooses pri arms) source cells body t = []
+faulted_text (Joins ns) source cells body t = []
+faulted_text Halted source cells body t = []
+faulted_text Done source cells body t = []
+faulted_text (Faulted e) source cells body t = fault_line source e.line ++ body_text body cells t
+
+abbrev pub fault_told : (source : List ℕ) → List Cell → List Body → ℕ → Task → List ℕ
+fault_told source cells bodies n t = faulted_text t.wait source cells (slice_get bodies n) t

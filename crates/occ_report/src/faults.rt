@@ -1,0 +1,183 @@
+//! What is told of a fault: the line that it stands in, and the values of the variables that were read there.
+ghost use Rattle.std.specs.Prelude.{◌≡◌, [], IfOk, OnOk};
+ghost use Rattle.occ_shown.specs.Answers.{AddsText};
+ghost use Rattle.occ_report.specs.Faults.{fault_line, is_among, is_evaluating, read_by, reads_in, read_text, value_line, with_read};
+ghost use Rattle.occ_report.specs.Reports.{AddsFault, AddsVariables};
+
+use crate::process_lines::Told;
+use crate::source_lines::{numbered_line, plain_text, unspaced};
+use occ_machine::{Body, Instr, Slot, Task, Wait};
+use occ_shown::write_value;
+use occ_term::{Cell, Frame, FrameCells, Unfolded};
+use std::alloc::{AllocError, Global};
+
+/// Whether an instruction is in the middle of an evaluation.
+fn is_evaluating(instruction: &Instr<Slot>) -> bool
+    ensures { result ≡ is_evaluating instruction.now }
+{
+    matches!(
+        instruction,
+        Instr::Push(_)
+            | Instr::Load(_)
+            | Instr::LoadAt
+            | Instr::LoadLetter(_, _)
+            | Instr::Subscript(_, _, _)
+            | Instr::Operate(_, _, _)
+            | Instr::OperateOne(_, _, _)
+            | Instr::ConvertTo(_, _)
+            | Instr::AndThen(_)
+            | Instr::OrElse(_)
+            | Instr::PartOne(_)
+            | Instr::PartMany(_, _)
+            | Instr::PartText(_, _)
+            | Instr::PartCounted(_, _, _)
+            | Instr::PartCountedText(_, _, _)
+            | Instr::SpotOne(_)
+            | Instr::SpotCounted(_, _, _)
+    )
+}
+
+/// The place in the frame that an instruction reads.
+fn read_by(instruction: &Instr<Slot>) -> Option<usize>
+    ensures { result ≡ read_by instruction.now }
+{
+    match instruction {
+        Instr::Load(slot) => Some(slot.0 as usize),
+        _ => None,
+    }
+}
+
+/// What was read, behind one instruction more.
+fn add_read(read: &mut Vec<usize>, instruction: &Instr<Slot>) -> Result<(), AllocError>
+    ensures { OnOk result (read.new.items ≡ with_read instruction.now read.old.items) }
+{
+    if !is_evaluating(instruction) {
+        read.clear();
+    }
+    if let Some(place) = read_by(instruction) {
+        read.push(place)?;
+    }
+    Ok(())
+}
+
+/// The places in the frame that were read for what is evaluated at the end of this code.
+fn reads_in(alloc: Global, code: &[Instr<Slot>]) -> Result<Vec<usize>, AllocError>
+    ensures { IfOk result (λ read. read.items ≡ reads_in code.now []) }
+{
+    let mut read = Vec::new(alloc);
+    let mut rest = code;
+    while let Some((instruction, others)) = rest.split_first() {
+        add_read(&mut read, instruction)?;
+        rest = others;
+    }
+    Ok(read)
+}
+
+/// A variable and its value.
+fn write_variable(
+    alloc: Global,
+    out: &mut Vec<u8>,
+    cell: &Cell,
+    value: i64,
+) -> Result<(), AllocError>
+    ensures { OnOk result (AddsText out.old out.new (value_line cell.now value)) }
+{
+    out.extend_from_slice(b"    ")?;
+    cell.name.write(alloc, out)?;
+    out.extend_from_slice(b" = ")?;
+    write_value(alloc, out, cell.primitive, value)?;
+    out.extend_from_slice(b"\n")
+}
+
+/// Whether a place is one of these.
+fn is_among(places: &[usize], place: usize) -> bool
+    ensures { result ≡ is_among place places.now }
+{
+    let mut rest = places;
+    while let Some((first, others)) = rest.split_first() {
+        if *first == place {
+            return true;
+        }
+        rest = others;
+    }
+    false
+}
+
+/// The variables of a program that are at these places of what a process holds.
+fn write_variables(
+    alloc: Global,
+    out: &mut Vec<u8>,
+    held: &FrameCells,
+    frame: &Frame,
+    read: &[usize],
+    unfolded: &Unfolded,
+) -> Result<(), AllocError>
+    ensures { OnOk result
+        (AddsVariables held.now frame.now read.now unfolded.now.cells out.old out.new) }
+{
+    unfolded.well_formed();
+    let mut number: u32 = 0;
+    let mut rest = unfolded.cells();
+    while let Some((cell, others)) = rest.split_first() {
+        if is_among(read, held.place_among(number)) {
+            write_variable(alloc, out, cell, frame.value(number))?;
+        }
+        number += 1;
+        rest = others;
+    }
+    Ok(())
+}
+
+/// The variables that were read for what a process of this body evaluated.
+fn write_read(
+    alloc: Global,
+    out: &mut Vec<u8>,
+    body: &Body,
+    unfolded: &Unfolded,
+    task: &Task,
+) -> Result<(), AllocError>
+    ensures { OnOk result (AddsText out.old out.new
+        (read_text body.now unfolded.now.cells task.now)) }
+{
+    let code = body.code();
+    let place = (task.pc as usize).min(code.len());
+    let read = reads_in(alloc, &code[..place])?;
+    write_variables(
+        alloc,
+        out,
+        body.cells(),
+        &task.frame,
+        read.as_slice(),
+        unfolded,
+    )
+}
+
+/// The line of the source that a fault stands in.
+fn write_line(alloc: Global, out: &mut Vec<u8>, source: &[u8], line: u32) -> Result<(), AllocError>
+    ensures { OnOk result (AddsText out.old out.new (fault_line source.now line)) }
+{
+    let text = plain_text(alloc, unspaced(numbered_line(source, line)))?;
+    out.extend_from_slice(b"    ")?;
+    out.extend_from_slice(text.as_slice())?;
+    out.extend_from_slice(b"\n")
+}
+
+/// The lines below that of the process of this number, where it met a fault: the line of the source, and the variables that were read.
+pub(crate) fn write_faulted(
+    alloc: Global,
+    out: &mut Vec<u8>,
+    told: Told<'_>,
+    number: u32,
+    task: &Task,
+) -> Result<(), AllocError>
+    ensures { OnOk result (AddsFault told.entry number task.now out.old out.new) }
+{
+    let Wait::Faulted(fault) = &task.wait else {
+        return Ok(());
+    };
+    write_line(alloc, out, told.source, fault.line)?;
+    match told.code.body(number as usize) {
+        Some(body) => write_read(alloc, out, body, told.unfolded, task),
+        None => Ok(()),
+    }
+}
