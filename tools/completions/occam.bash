@@ -16,12 +16,12 @@ _occam() {
       COMPREPLY=($(compgen -W "answers endings full" -- "$now"))
       return
       ;;
-    --limit | --limit= | --quantum | --quantum= | --workers | --workers= | --seed | --seed= | --tries | --tries= | --arrows | --arrows= | --last | --last= | --states | --states=)
+    --limit | --limit= | --quantum | --quantum= | --workers | --workers= | --seed | --seed= | --tries | --tries= | --arrows | --arrows= | --last | --last= | --states | --states= | --memory | --memory=)
       return
       ;;
   esac
   if [[ "$now" == -* ]]; then
-    COMPREPLY=($(compgen -W "--limit --quantum --errors --workers --seed --tries --choices --record --typed --chart --arrows --last --only --without --trace --trace-to --json --steps --page --watch --live --explain --plain --explore --first --graph --within --states --check --help --version" -- "$now"))
+    COMPREPLY=($(compgen -W "--limit --quantum --errors --workers --seed --tries --choices --record --typed --chart --arrows --last --only --without --trace --trace-to --json --steps --page --watch --live --explain --plain --explore --first --graph --within --states --memory --check --help --version" -- "$now"))
   else
     COMPREPLY=($(compgen -f -- "$now"))
   fi

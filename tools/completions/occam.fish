@@ -27,6 +27,7 @@ complete -c occam -l first -d 'Ends the search at the first fault, or stop that 
 complete -c occam -l graph -r -d 'Writes the states that --explore=full has found, and the turns between them, into FILE: in Aldebaran format if it ends in .aut, and for Graphviz if it ends in .dot or .gv'
 complete -c occam -l within -x -d 'Tells whether each outcome of the program is one of the program in SPEC; with --explore=endings it compares endings alone'
 complete -c occam -l states -x -d 'Lets the search visit at most N states, 1 to 10000000 [default: 1000000]'
+complete -c occam -l memory -x -d 'Lets the search hold at most about N MB, 1 to 1000000 [default: 1024]'
 complete -c occam -l check -d 'Says whether the source is refused, and plays nothing'
 complete -c occam -l help -d 'Prints this help'
 complete -c occam -l version -d 'Prints the version'

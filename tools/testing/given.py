@@ -30,7 +30,7 @@ WRONG = [
     # a number outside of its range, or none
     "--limit=10000001", "--limit=4294967296", "--limit=-1", "--limit=x", "--limit=", "--limit", "--quantum=0", "--quantum=65537",
     "--workers=0", "--workers=65", "--arrows=4294967296", "--seed=1000000001", "--seed=1 --tries=0", "--explore --states=0",
-    "--explore --states=10000001",
+    "--explore --states=10000001", "--explore --memory=0", "--explore --memory=1000001",
     # a word that is not one of those allowed, none at all, and one too many
     "--errors=both", "--errors=STOP", "--explore=all", "--chart", "--trace=yes", "--nope", "-t", "-",
     # a word twice
@@ -38,12 +38,12 @@ WRONG = [
     # words of one run beside a search, or beside a check
     "--explore --limit=1", "--workers=2 --explore", "--explore --choices=c", "--explore --trace", "--explore --watch",
     "--explore --chart=s", "--explore --arrows=5", "--explore --steps=u", "--within=b.occ --page=p", "--explore --seed=1", "--explore --seed=1 --tries=2",
-    "--explore --trace-to=t", "--explore --json", "--explore --last=1", "--explore --only=0", "--explore --live", "--explore --typed=t", "--check --explore", "--check --states=5", "--check --record=r",
+    "--explore --trace-to=t", "--explore --json", "--explore --last=1", "--explore --only=0", "--explore --live", "--explore --typed=t", "--check --explore", "--check --states=5", "--check --memory=5", "--check --record=r",
     "--check --trace", "--check --trace-to=t", "--check --trace-to=t --json", "--check --chart=s", "--check --arrows=5", "--check --last=5", "--check --without=0",
     "--check --steps=u", "--check --page=p", "--check --seed=1", "--check --tries=2", "--check --choices=c", "--check --workers=2", "--check --watch",
     "--check --limit=1", "--check --live", "--check --typed=t",
     # words that exclude one another, and words that need another one
-    "--chart=s --last=5 --arrows=5", "--seed=1 --workers=2", "--states=5", "--arrows=5", "--last=5", "--tries=2", "--json",
+    "--chart=s --last=5 --arrows=5", "--seed=1 --workers=2", "--states=5", "--memory=5", "--arrows=5", "--last=5", "--tries=2", "--json",
     "--live --workers=2", "--live --watch", "--live --seed=1 --tries=2",
     "--only=0", "--without=0", "--chart=s --only=0 --without=main", "--chart=s --only=0 --only=main",
     # a name or a number that no process has
@@ -60,7 +60,7 @@ WRONG = [
 ALLOWED = [
     "--limit 10000000 --trace", "--trace --limit=2", "--errors halt", "--quantum=65536 --errors=stop --workers=64 --watch --explain",
     "--chart=s.svg --arrows=0", "--explore", "--explore --page=p", "--explore=full", "--explore --first", "--first --explore=full --page=p --explain",
-    "--explore=endings --first --states=5 --record=r --plain", "--explore=endings --states=10000000 --quantum=7 --errors=stop --record=r",
+    "--explore=endings --first --states=5 --memory=5 --record=r --plain", "--explore=endings --states=10000000 --quantum=7 --errors=stop --record=r",
     "--check", "--check --json", "--seed=1000000000 --tries=2 --trace-to=t --json --steps=u --chart=s --last=3", "--record=g --chart=h --steps=s --page=p",
     "--live", "--live --seed=3 --errors=stop --trace --explain --record=r --typed=k --trace-to=t --json --steps=u --chart=s --page=p",
     "--typed=k --workers=2", "--chart=s --only=main,0,p0", "--chart=s --without=0 --last=3", "--live --chart=s --without=main",

@@ -171,6 +171,11 @@ class Tried:
             return not lines
         return lines in (b"", whole) or "--workers" in self.words and lines.count(b"\n") == whole.count(b"\n")
 
+    def is_cut(self, done, whole):
+        """Whether a search told what it had found where memory ran out."""
+        *answers, last = done.stdout.splitlines() or [b""]
+        return done.returncode == 4 and last == b"these at least: memory ran out" and set(answers) <= set(whole.stdout.splitlines())
+
     def is_right(self, done, whole):
         """Whether a run gave what it gives with ample memory, or was refused with nothing lost."""
         files = sorted(it.name for it in self.folder.iterdir())
@@ -185,6 +190,8 @@ class Tried:
             return True  # the line on the number is left out
         if "--explain" in self.words and (done.returncode, done.stdout) == (whole.returncode, whole.stdout) and done.stderr.endswith(b"memory\n"):
             return whole.stderr.startswith(done.stderr.removesuffix(b"memory\n"))  # in place of the report
+        if self.is_cut(done, whole):
+            return done.stderr in (b"", b"memory\n") or whole.stderr.startswith(done.stderr.removesuffix(b"memory\n"))
         by_workers = "--workers" in self.words or "--watch" in self.words
         if by_workers and done.returncode == whole.returncode and done.stdout and self.is_seen(done.stderr, whole.stderr):
             return True

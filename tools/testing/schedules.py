@@ -93,11 +93,16 @@ def deep(program):
 :
 """
     letters = "PROC main (CHAN OF BYTE keyboard, screen)\n  WHILE TRUE\n    screen ! 'a'\n:\n"
-    with room({"sums.occ": sums, "letters.occ": letters}) as folder:
+    either = "PROC main (CHAN OF BYTE keyboard, screen)\n  ALT\n    TRUE & SKIP\n      WHILE TRUE\n        screen ! 'a'\n    TRUE & SKIP\n      SKIP\n:\n"
+    with room({"sums.occ": sums, "letters.occ": letters, "either.occ": either}) as folder:
         for words, status in ((["--explore=full", "sums.occ"], 0), (["--explore", "--states", "4000", "letters.occ"], 4)):
             done = run(program, folder, words, memory=100_000 * KILOBYTE)
             if done[0] != status:
                 yield f"{' '.join(words)}: {done}"
+        wanted = 4, b'1 ended "" by 2 choices\nthese at least: the bound of 1 MB was passed\n', b""
+        done = run(program, folder, ["--explore", "--memory", "1", "either.occ"])
+        if done != wanted:
+            yield f"a bound of memory: {done}"
 
 
 def jobs():

@@ -75,12 +75,12 @@ RACE = HEAD + """  [3]CHAN OF BYTE c:
         screen ! x
 :
 """
-DEFAULTS = {"--limit": "1000000", "--quantum": "1", "--errors": "halt", "--tries": "1", "--arrows": "200", "--explore": "answers", "--states": "1000000"}
+DEFAULTS = {"--limit": "1000000", "--quantum": "1", "--errors": "halt", "--tries": "1", "--arrows": "200", "--explore": "answers", "--states": "1000000", "--memory": "1024"}
 # examples with words for their charts
-PICTURES = {
-    "faults/dining": [], "sharing/farm": [], "sharing/pool": ["--last", "40"], "pipelines/primes": [], "pipelines/squash": [], "first_steps/relay": [], "selection/stack": [],
-    "pipelines/matrix": ["--without", "component"],
-}
+PICTURES = [
+    ("faults/dining", []), ("sharing/farm", []), ("sharing/pool", ["--last", "40"]), ("pipelines/primes", []), ("pipelines/squash", []), ("first_steps/relay", []), ("selection/stack", []),
+    ("pipelines/matrix", ["--without", "component"]), ("pipelines/matrix", []), ("pipelines/matrix", ["--last", "50"]), ("pipelines/matrix", ["--limit", "150"]),
+]
 MOST = "a picture has 990 arrows at most"
 SVG = "{http://www.w3.org/2000/svg}"
 NO_CHOICE = "a line has two numbers with one space between, as `0 3`\n"
@@ -519,7 +519,7 @@ def starving(program, room, source):
     made = [line for line in lines if line]
     shapes = list(tree.parse(room / "a.svg").getroot())
     over = [after.text for line, after in zip(shapes, shapes[2:]) if line.get("stroke") == "black"]
-    under = [after.text for line, after in zip(shapes, shapes[1:]) if line.get("stroke") == "red"]
+    under = [text.text for text in shapes if text.get("fill") == "red" and not text.get("text-anchor")]
     if status != 2 or over != [f"{line[1]}: {line[2]} {line[4]}" for line in made]:
         yield f"arrows: {over}"
     heads = [text.text for text in tree.parse(room / "a.svg").getroot().iter(f"{SVG}text")]
@@ -543,27 +543,32 @@ def words_at(text):
 
 
 def fitting(program):
-    """What is wrong with the room of words in pictures, or nothing: those of an arrow stand between its ends, no two of one height overlap,
-    and a browser may scale the picture, which fits a slide."""
+    """What is wrong with the room of words in pictures, or nothing: no two of one height overlap or leave the picture, those of an arrow stand
+    over its middle, and between its ends where columns have room; and a browser may scale the picture, which fits a slide."""
     with room_of() as room:
         wrong = []
-        for name, words in PICTURES.items():
+        for name, words in PICTURES:
             run(program, room, ["--chart", "a.svg", *words, TOP / f"examples/{name}.occ"], "a line\n")
             picture = tree.parse(room / "a.svg").getroot()
-            if picture.get("viewBox") != f"0 0 {picture.get('width')} {picture.get('height')}" or int(picture.get("width")) > 2000:
-                wrong.append(f"{name}: {picture.attrib}")
-            shapes, rows = list(picture), {}
+            width, rows = int(picture.get("width")), {}
+            if picture.get("viewBox") != f"0 0 {width} {picture.get('height')}" or width > 2000:
+                wrong.append(f"{name} {words}: {picture.attrib}")
+            shapes = list(picture)
+            is_close = len({text.get("y") for text in shapes if text.get("y") in ("32", "62")}) == 2
+            if is_close != ("pipelines/matrix" == name and "--without" not in words):
+                wrong.append(f"{name} {words}: close columns, or not")
             for line, text in zip(shapes, shapes[2:]):
                 if line.get("stroke") == "black":
                     ends = sorted(map(int, re.match(r"M (\d+) \d+ H (\d+)", line.get("d")).groups()))
                     shown, left, right = words_at(text)
-                    if left < ends[0] or right > ends[1]:
-                        wrong.append(f"{name}: {shown}, {left} to {right}, and its arrow {ends}")
+                    if abs(left + right - sum(ends)) > 1 or not is_close and (left < ends[0] or right > ends[1]):
+                        wrong.append(f"{name} {words}: {shown}, {left} to {right}, and its arrow {ends}")
             for text in picture.iter(f"{SVG}text"):
                 rows.setdefault(text.get("y"), []).append(words_at(text))
             for row in rows.values():
                 row.sort(key=lambda found: found[1])
-                wrong += [f"{name}: {one} and {other} overlap" for one, other in zip(row, row[1:]) if one[2] > other[1]]
+                wrong += [f"{name} {words}: {one} and {other} overlap" for one, other in zip(row, row[1:]) if one[2] > other[1]]
+                wrong += [f"{name} {words}: {one} leaves the picture" for one in row if one[1] < 0 or one[2] > width]
         return "; ".join(wrong[:5]) or None
 
 

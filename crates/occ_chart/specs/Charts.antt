@@ -12,11 +12,13 @@ use Rattle.occ_shown.specs.Answers.{AddsText, numbers_text, entries_in}
 use Rattle.occ_chart.specs.declared.notes.Notes.{Notes}
 use Rattle.occ_chart.specs.declared.part.Part.{Part}
 use Rattle.occ_chart.specs.declared.part.Part.TheVariants.{First, Last}
+use Rattle.occ_chart.specs.declared.xml.Style.{Style}
 use Rattle.occ_chart.specs.declared.xml.Style.TheVariants.{Plain, Red, Note, RedNote}
 use Rattle.occ_chart.specs.Columns.{AreColumns, Footing, column_of}
-use Rattle.occ_chart.specs.Heads.{ColumnHead, column, halfway, heads_over, last_place, places_of, room_between, reaches_of}
+use Rattle.occ_chart.specs.Heads.{ColumnHead, heads_over}
 use Rattle.occ_chart.specs.Labels.{numbered_words, texts_of}
 use Rattle.occ_chart.specs.LeftOut.{seen_entries, seen_feet}
+use Rattle.occ_chart.specs.Places.{IsLayout, Layout, column, foot_depth, halfway, head_depth, head_rows, if_close, last_place, reaches_of, words_room}
 use Rattle.occ_chart.specs.Shapes.{along, area, down, ground, label, path, stub, text_at}
 use Rattle.occ_chart.specs.Xml.{AddsElements, Element, attribute, attribute_text, elements_text}
 use Rattle.occ_term.specs.declared.names.Channel.{Channel}
@@ -66,77 +68,80 @@ abbrev pub row : ℕ → ℕ
 row i = 30 * i + 80
 
 -- the row of the next arrow, where so many rows are left before heads stand again; and how many are left behind it
-abbrev pub row_behind : (left i : ℕ) → ℕ
-row_behind left i = if nat_eq left 0 then i + 1 else i
+abbrev pub row_behind : (close : Bool) → (left i : ℕ) → ℕ
+row_behind close left i = if nat_eq left 0 then i + head_rows close else i
 
 abbrev pub rows_left : (left : ℕ) → ℕ
 rows_left left = if nat_eq left 0 then 29 else left - 1
 
 -- the row behind so many communications
-abbrev pub rows_of : (left i count : ℕ) → ℕ
-rows_of left i zero = i
-rows_of left i (suc n) = rows_of (rows_left left) (row_behind left i + 1) n
+abbrev pub rows_of : (close : Bool) → (left i count : ℕ) → ℕ
+rows_of close left i zero = i
+rows_of close left i (suc n) = rows_of close (rows_left left) (row_behind close left i + 1) n
 
 -- the row below all of them
-abbrev pub row_below : (count : ℕ) → ℕ
-row_below count = row (rows_of 30 0 count)
+abbrev pub row_below : (close : Bool) → (count : ℕ) → ℕ
+row_below close count = row (rows_of close 30 (if_close close 1) count)
 
 -- ---- its shapes
+
+-- words in so much room round a place, on a ground of 7 points for each letter, over the lines that stand there
+abbrev pub grounded : Style → (x y room : ℕ) → List ℕ → List Element
+grounded style x y room words = area (ground (x - (7 * min room (length words) / 2)) (y - 11) (7 * min room (length words))) ∷ label style x y room words ∷ []
 
 -- the name of the PROC that a process runs, where it has one
 abbrev pub name_label : (x y : ℕ) → List ℕ → List Element
 name_label x y [] = []
-name_label x y (b ∷ bs) = label Plain x y 24 (b ∷ bs) ∷ []
+name_label x y (b ∷ bs) = grounded Plain x y 24 (b ∷ bs)
 
 abbrev pub drawn_head : (x y : ℕ) → ColumnHead → List Element
-drawn_head x y h = name_label x y h.name ++ text_at Plain x (y + 14) [] h.below ∷ []
+drawn_head x y h = name_label x y h.name ++ grounded Plain x (y + 14) 24 h.below
 
--- the heads of the columns, in this height
-abbrev pub drawn_heads : (places : List ℕ) → (y k : ℕ) → List ColumnHead → List Element
-drawn_heads places y k [] = []
-drawn_heads places y k (h ∷ hs) = drawn_head (column places k) y h ++ drawn_heads places y (k + 1) hs
+-- the heads of the columns, from this height on
+abbrev pub drawn_heads : Layout → (y k : ℕ) → List ColumnHead → List Element
+drawn_heads l y k [] = []
+drawn_heads l y k (h ∷ hs) = drawn_head (column l k) (y + head_depth l k) h ++ drawn_heads l y (k + 1) hs
 
-abbrev pub lifelines : (places : List ℕ) → (bottom k : ℕ) → List End → List Element
-lifelines places bottom k [] = []
-lifelines places bottom k (x ∷ xs) = path (down (column places k) bottom) (codes "silver") ∷ lifelines places bottom (k + 1) xs
-
--- words in so much room round a place, on a ground of 7 points for each letter, over the lines that stand there
-abbrev pub grounded : (x y room : ℕ) → List ℕ → List Element
-grounded x y room words = area (ground (x - (7 * min room (length words) / 2)) (y - 11) (7 * min room (length words))) ∷ label Plain x y room words ∷ []
+abbrev pub lifelines : Layout → (bottom k : ℕ) → List End → List Element
+lifelines l bottom k [] = []
+lifelines l bottom k (x ∷ xs) = path (down (column l k) bottom) (codes "silver") ∷ lifelines l bottom (k + 1) xs
 
 -- an arrow from the sender's column to the receiver's, under its number, the channel's name and the message
-abbrev pub arrow_from : (places : List ℕ) → (j k i : ℕ) → Entry → List Element
-arrow_from places j k i e =
-    path (along (column places j) (column places k) (row i)) (codes "black") ∷ grounded (halfway places j k) (30 * i + 74) (room_between places j k) (numbered_words e)
+abbrev pub arrow_from : Layout → (j k i : ℕ) → Entry → List Element
+arrow_from l j k i e =
+    path (along (column l j) (column l k) (row i)) (codes "black") ∷ grounded Plain (halfway l j k) (30 * i + 74) (words_room l j k) (numbered_words e)
 
-abbrev pub arrow : (places : List ℕ) → List End → ℕ → Entry → List Element
-arrow places columns i e = arrow_from places (column_of e.sender columns) (column_of e.receiver columns) i e
+abbrev pub arrow : Layout → List End → ℕ → Entry → List Element
+arrow l columns i e = arrow_from l (column_of e.sender columns) (column_of e.receiver columns) i e
 
--- a white ground for two lines, over the lines of all columns
-abbrev pub band : (places : List ℕ) → (y : ℕ) → List Element
-band places y = area (ground 0 y (7 * last_place places + 84)) ∷ area (ground 0 (y + 14) (7 * last_place places + 84)) ∷ []
-
--- the heads again, in a row of their own, where no row is left before them
-abbrev pub break : List ColumnHead → (places : List ℕ) → (left i : ℕ) → List Element
-break hs places left i = if nat_eq left 0 then band places (30 * i + 58) ++ drawn_heads places (30 * i + 70) 0 hs else []
+-- the heads again, in rows of their own, where no row is left before them
+abbrev pub break : List ColumnHead → Layout → (left i : ℕ) → List Element
+break hs l left i = if nat_eq left 0 then drawn_heads l (30 * i + 70) 0 hs else []
 
 -- each communication in a row of its own; heads stand again before one after so many others, and then after each 30
-abbrev pub arrows : List ColumnHead → (places : List ℕ) → List End → (left i : ℕ) → List Entry → List Element
-arrows hs places columns left i [] = []
-arrows hs places columns left i (e ∷ es) =
-    break hs places left i ++ (arrow places columns (row_behind left i) e ++ arrows hs places columns (rows_left left) (row_behind left i + 1) es)
+abbrev pub arrows : List ColumnHead → Layout → List End → (left i : ℕ) → List Entry → List Element
+arrows hs l columns left i [] = []
+arrows hs l columns left i (e ∷ es) =
+    break hs l left i ++ (arrow l columns (row_behind l.close left i) e ++ arrows hs l columns (rows_left left) (row_behind l.close left i + 1) es)
 
--- who stands at the foot of its column, and why
-abbrev pub foot_at : (x bottom : ℕ) → List ℕ → List Element
-foot_at x bottom words = path (stub x bottom) (codes "red") ∷ label Red x (bottom + 28) 24 words ∷ []
+-- a line down to who stands at the foot of its column, and below it why
+abbrev pub stub_at : Layout → (bottom k : ℕ) → Element
+stub_at l bottom k = path (stub (column l k) bottom (foot_depth l k)) (codes "red")
 
-abbrev pub drawn_feet : (places : List ℕ) → List End → (bottom : ℕ) → List Footing → List Element
-drawn_feet places columns bottom [] = []
-drawn_feet places columns bottom (s ∷ ss) = foot_at (column places (column_of (OfProcess s.process) columns)) bottom s.words ++ drawn_feet places columns bottom ss
+abbrev pub reason_at : Layout → (bottom k : ℕ) → List ℕ → List Element
+reason_at l bottom k words = grounded Red (column l k) (bottom + foot_depth l k + 28) 24 words
+
+abbrev pub drawn_stubs : Layout → List End → (bottom : ℕ) → List Footing → List Element
+drawn_stubs l columns bottom [] = []
+drawn_stubs l columns bottom (s ∷ ss) = stub_at l bottom (column_of (OfProcess s.process) columns) ∷ drawn_stubs l columns bottom ss
+
+abbrev pub drawn_reasons : Layout → List End → (bottom : ℕ) → List Footing → List Element
+drawn_reasons l columns bottom [] = []
+drawn_reasons l columns bottom (s ∷ ss) = reason_at l bottom (column_of (OfProcess s.process) columns) s.words ++ drawn_reasons l columns bottom ss
 
 -- the heads again, under a long chart
-abbrev pub heads_again : List ColumnHead → (places : List ℕ) → (bottom count : ℕ) → List Element
-heads_again hs places bottom count = if nat_lt 15 count then drawn_heads places (bottom + 46) 0 hs else []
+abbrev pub heads_again : List ColumnHead → Layout → (bottom count : ℕ) → List Element
+heads_again hs l bottom count = if nat_lt 15 count then drawn_heads l (bottom + if_close l.close 42 + 46) 0 hs else []
 
 -- ---- its notes
 
@@ -164,20 +169,20 @@ note y [] = []
 note y (b ∷ bs) = text_at Note 10 y [] (b ∷ bs) ∷ []
 
 -- over the lines of the columns
-abbrev pub note_before : List ℕ → List Element
-note_before [] = []
-note_before (b ∷ bs) = area (ground 8 38 (7 * min 100 (length (b ∷ bs)))) ∷ text_at Note 10 50 [] (b ∷ bs) ∷ []
+abbrev pub note_before : (y : ℕ) → List ℕ → List Element
+note_before y [] = []
+note_before y (b ∷ bs) = area (ground 8 (y - 12) (7 * min 100 (length (b ∷ bs)))) ∷ text_at Note 10 y [] (b ∷ bs) ∷ []
 
 abbrev pub circle_words : List ℕ → List ℕ
 circle_words ns = codes "a circle waits:" ++ numbers_text ns
 
-abbrev pub circle_label : (letters bottom : ℕ) → List ℕ → Element
-circle_label letters bottom ns = label RedNote 10 (bottom + 116) letters (circle_words ns)
+abbrev pub circle_label : (letters y : ℕ) → List ℕ → Element
+circle_label letters y ns = label RedNote 10 y letters (circle_words ns)
 
 -- processes that wait for one another in a circle, where such are given
-abbrev pub note_circle : (letters bottom : ℕ) → List ℕ → List Element
-note_circle letters bottom [] = []
-note_circle letters bottom (n ∷ ns) = circle_label letters bottom (n ∷ ns) ∷ []
+abbrev pub note_circle : (letters y : ℕ) → List ℕ → List Element
+note_circle letters y [] = []
+note_circle letters y (n ∷ ns) = circle_label letters y (n ∷ ns) ∷ []
 
 -- ---- the whole
 
@@ -196,23 +201,28 @@ svg_opening width height =
     ++ attribute_text (attribute (codes "viewBox") (corners width height))
     ++ codes " font-family=\"DejaVu Sans Mono, Consolas, Menlo, monospace\" font-size=\"11\" text-anchor=\"middle\">\n<rect width=\"100%\" height=\"100%\" fill=\"white\"></rect>\n"
 
--- over the foot
-abbrev pub above : (places : List ℕ) → List ColumnHead → List End → List Entry → (letters : ℕ) → (before : List ℕ) → List ℕ
-above places hs columns es letters before =
-    svg_opening (7 * letters) (row_below (length es) + 132) ++ elements_text (drawn_heads places 18 0 hs) ++ elements_text (lifelines places (row_below (length es)) 0 columns)
-    ++ elements_text (note_before before) ++ elements_text (arrows hs places columns 30 0 es)
+-- over the foot; close columns need 30 points more for heads, there and at the foot, and 42 for words at the foot
+abbrev pub above : Layout → List ColumnHead → List End → List Entry → (letters : ℕ) → (before : List ℕ) → List ℕ
+above l hs columns es letters before =
+    svg_opening (7 * letters) (row_below l.close (length es) + if_close l.close 72 + 132) ++ elements_text (lifelines l (row_below l.close (length es)) 0 columns)
+    ++ elements_text (drawn_heads l 18 0 hs) ++ elements_text (note_before (if_close l.close 30 + 50) before)
+    ++ elements_text (arrows hs l columns 30 (if_close l.close 1) es)
 
-abbrev pub foot : (places : List ℕ) → List ColumnHead → List End → (bottom count : ℕ) → List Footing → (letters : ℕ) → (after ending circle : List ℕ) → List ℕ
-foot places hs columns bottom count ss letters after ending circle =
-    elements_text (drawn_feet places columns bottom ss) ++ elements_text (heads_again hs places bottom count) ++ elements_text (note (bottom + 80) ending)
-    ++ elements_text (note (bottom + 98) after) ++ elements_text (note_circle letters bottom circle) ++ codes "</svg>\n"
+-- notes stand so far below the last row
+abbrev pub notes_depth : Layout → (bottom : ℕ) → ℕ
+notes_depth l bottom = bottom + if_close l.close 72 + 80
 
--- these communications, these feet and these notes, in columns that have these heads
-abbrev pub picture : List ColumnHead → List End → List Entry → List Footing → (before after ending circle : List ℕ) → List ℕ
-picture hs columns es ss before after ending circle =
-    above (places_of (reaches_of columns es) hs) hs columns es (picture_letters (places_of (reaches_of columns es) hs) before after ending) before
-    ++ foot (places_of (reaches_of columns es) hs) hs columns (row_below (length es)) (length es) ss (picture_letters (places_of (reaches_of columns es) hs) before after ending) after
-    ending circle
+abbrev pub foot : Layout → List ColumnHead → List End → (bottom count : ℕ) → List Footing → (letters : ℕ) → (after ending circle : List ℕ) → List ℕ
+foot l hs columns bottom count ss letters after ending circle =
+    elements_text (drawn_stubs l columns bottom ss) ++ elements_text (drawn_reasons l columns bottom ss) ++ elements_text (heads_again hs l bottom count)
+    ++ elements_text (note (notes_depth l bottom) ending) ++ elements_text (note (notes_depth l bottom + 18) after)
+    ++ elements_text (note_circle letters (notes_depth l bottom + 36) circle) ++ codes "</svg>\n"
+
+-- these communications, these feet and these notes, in columns that have these heads and places
+abbrev pub picture : Layout → List ColumnHead → List End → List Entry → List Footing → (before after ending circle : List ℕ) → List ℕ
+picture l hs columns es ss before after ending circle =
+    above l hs columns es (picture_letters l.places before after ending) before
+    ++ foot l hs columns (row_below l.close (length es)) (length es) ss (picture_letters l.places before after ending) after ending circle
 
 -- how many are not drawn, since both ends are left out
 abbrev pub among_others : List Bool → List Entry → ℕ
@@ -227,9 +237,11 @@ pub record IsChart (all : List Entry) (left : List Bool) (part : Part) (ending :
   pub stand : ss ≡ seen_feet left standing
   pub columns : List End
   pub are : AreColumns (shown_of part es) ss columns
+  pub l : Layout
+  pub laid : IsLayout (reaches_of columns (shown_of part es)) (heads_over names left ss columns) l
   pub is :
       bytes
-      ≡ picture (heads_over names left ss columns) columns (shown_of part es) ss (before_words (before_of part (length es)) (is_cut part (length es)))
+      ≡ picture l (heads_over names left ss columns) columns (shown_of part es) ss (before_words (before_of part (length es)) (is_cut part (length es)))
       (after_words (after_of part (length es)) (is_cut part (length es))) (ending_words ending (among_others left all)) circle
 
 -- a chart of what code has
@@ -239,21 +251,23 @@ ChartOf cs trace left part ending names ss circle bytes = IsChart (entries_in cs
 -- ---- what the code does; private contracts alone cite it
 
 -- the heads were put behind a text again in a row, where none is left before them
-abbrev pub PutsBreak : {X E A : Type 0} → Result X E → Vec ℕ A → Vec ℕ A → List ColumnHead → (places : List ℕ) → (left i : ℕ) → Type 0
-PutsBreak done old new hs places left i = OnOk done (AddsElements old new (break hs places left i))
+abbrev pub PutsBreak : {X E A : Type 0} → Result X E → Vec ℕ A → Vec ℕ A → List ColumnHead → Layout → (left i : ℕ) → Type 0
+PutsBreak done old new hs l left i = OnOk done (AddsElements old new (break hs l left i))
 
 -- the arrows were put behind a text
-abbrev pub PutsArrows : {X E A : Type 0} → Result X E → Vec ℕ A → Vec ℕ A → List ColumnHead → (places : List ℕ) → List End → List Entry → Type 0
-PutsArrows done old new hs places columns es = OnOk done (AddsElements old new (arrows hs places columns 30 0 es))
+abbrev pub PutsArrows : {X E A : Type 0} → Result X E → Vec ℕ A → Vec ℕ A → List ColumnHead → Layout → List End → List Entry → Type 0
+PutsArrows done old new hs l columns es = OnOk done (AddsElements old new (arrows hs l columns 30 (if_close l.close 1) es))
 
 -- the foot was put behind a text
-abbrev pub PutsFoot : {X E A : Type 0} → Result X E → Vec ℕ A → Vec ℕ A → (places : List ℕ) → List ColumnHead → List End → (count : ℕ) → List Footing → (letters : ℕ) → Notes → (circle : List ℕ) → Type 0
-PutsFoot done old new places hs columns count ss letters notes circle =
-    OnOk done (AddsText old new (foot places hs columns (row_below count) count ss letters notes.after.items notes.ending.items circle))
+abbrev pub PutsFoot : {X E A : Type 0} → Result X E → Vec ℕ A → Vec ℕ A → Layout → List ColumnHead → List End → (count : ℕ) → List Footing → (letters : ℕ) → Notes → (circle : List ℕ) → Type 0
+PutsFoot done old new l hs columns count ss letters notes circle =
+    OnOk done (AddsText old new (foot l hs columns (row_below l.close count) count ss letters notes.after.items notes.ending.items circle))
 
-abbrev pub letters_with : (places : List ℕ) → Notes → ℕ
-letters_with places notes = picture_letters places notes.before.items notes.after.items notes.ending.items
+abbrev pub letters_with : Layout → Notes → ℕ
+letters_with l notes = picture_letters l.places notes.before.items notes.after.items notes.ending.items
 
 -- a text is a picture with these notes
-abbrev pub IsPicture : {A : Type 0} → List ColumnHead → List End → List Entry → List Footing → Notes → (circle : List ℕ) → Vec ℕ A → Type 0
-IsPicture hs columns es ss notes circle bytes = bytes.items ≡ picture hs columns es ss notes.before.items notes.after.items notes.ending.items circle
+pub record IsPicture {A : Type 0} (hs : List ColumnHead) (columns : List End) (es : List Entry) (ss : List Footing) (notes : Notes) (circle : List ℕ) (bytes : Vec ℕ A) : Type 0 where
+  pub l : Layout
+  pub laid : IsLayout (reaches_of columns es) hs l
+  pub is : bytes.items ≡ picture l hs columns es ss notes.before.items notes.after.items notes.ending.items circle

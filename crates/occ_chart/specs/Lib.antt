@@ -4,4 +4,5 @@ pub mod LeftOut
 pub mod Shapes
 pub mod Labels
 pub mod Heads
+pub mod Places
 pub mod Charts

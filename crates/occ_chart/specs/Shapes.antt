@@ -43,9 +43,9 @@ ground x y width = codes "M " ++ (decimal x ++ (codes " " ++ (decimal y ++ (code
 unfoldable pub down : (x bottom : ℕ) → List ℕ
 down x bottom = codes "M " ++ decimal x ++ codes " 38 V " ++ decimal bottom
 
--- the stub at the foot of a column
-unfoldable pub stub : (x bottom : ℕ) → List ℕ
-stub x bottom = codes "M " ++ (decimal x ++ (codes " " ++ (decimal bottom ++ codes " v 14 m -7 0 h 14")))
+-- the stub at the foot of a column, and a line down so far to the words below it
+unfoldable pub stub : (x bottom depth : ℕ) → List ℕ
+stub x bottom depth = codes "M " ++ (decimal x ++ (codes " " ++ (decimal bottom ++ (codes " v 14 m -7 0 h 14 m -7 0 v " ++ decimal depth))))
 
 -- along a row, with a head where it ends
 unfoldable pub rightward : (from to y : ℕ) → List ℕ

@@ -1,7 +1,7 @@
 //! The arrows of communications.
 ghost use Rattle.std.specs.Prelude.{◌≡◌, ◌++◌, ◌≤◌, ◌^◌, IfOk, OnOk, length};
-ghost use Rattle.occ_chart.specs.Charts.{PutsArrows, arrow, arrow_from, band, PutsBreak, rows_left, row, row_behind, rows_of};
-ghost use Rattle.occ_chart.specs.Heads.{AreNear, halfway, room_between};
+ghost use Rattle.occ_chart.specs.Charts.{PutsArrows, arrow, arrow_from, PutsBreak, rows_left, row, row_behind, rows_of};
+ghost use Rattle.occ_chart.specs.Places.{AreNear, if_close};
 ghost use Rattle.occ_chart.specs.Labels.{arrow_words, numbered_words};
 ghost use Rattle.occ_chart.specs.Shapes.{along, leftward, rightward};
 ghost use Rattle.occ_chart.specs.Xml.{AddsElements};
@@ -9,10 +9,10 @@ ghost use Rattle.occ_chart.specs.Xml.{AddsElements};
 use crate::columns::place_of;
 use crate::headings::Head;
 use crate::heads::write_heads;
-use crate::labels::{write_ground, write_grounded};
+use crate::labels::write_grounded;
 use crate::messages::write_items;
-use crate::places::{column, last_place, place_at};
-use crate::xml::write_path;
+use crate::places::Layout;
+use crate::xml::{Style, write_path};
 use occ_board::Shown;
 use occ_term::End;
 use std::alloc::{AllocError, Global};
@@ -83,34 +83,16 @@ pub(crate) fn numbered_words(alloc: Global, shown: &Shown) -> Result<Vec<u8>, Al
     Ok(text)
 }
 
-/// How many letters have room between two columns, with one free on either side.
-fn room_between(places: &[u64], from: usize, to: usize) -> usize
-    requires { AreNear places.now }
-    ensures is { result ≡ room_between places.now from to }
-    ensures few { result ≤ 2 ^ 47 }
-{
-    let (from, to) = (place_at(places, from), place_at(places, to));
-    ((from.max(to) - from.min(to)) as usize).saturating_sub(2)
-}
-
-/// The place halfway between two columns.
-fn halfway(places: &[u64], from: usize, to: usize) -> u64
-    requires { AreNear places.now }
-    ensures { result ≡ halfway places.now from to }
-{
-    7 * (place_at(places, from) + place_at(places, to)) / 2
-}
-
 /// How many rows so many communications take.
 #[tactic(auto, using(crate::proofs::Drawing::row_most, crate::proofs::Drawing::rows_step))]
-pub(crate) fn rows_of(count: usize) -> usize
+pub(crate) fn rows_of(layout: &Layout, count: usize) -> usize
     requires { count ≤ 990 }
-    ensures is { result ≡ rows_of 30 0 count }
-    ensures few { result ≤ 2000 }
+    ensures is { result ≡ rows_of layout.now.close 30 (if_close layout.now.close 1) count }
+    ensures few { result ≤ 3000 }
 {
-    let (mut rows, mut left) = (0, 30);
+    let (mut rows, mut left) = (layout.if_close(1) as usize, 30);
     for _ in 0..count {
-        rows = row_behind(left, rows) + 1;
+        rows = row_behind(layout, left, rows) + 1;
         left = rows_left(left);
     }
     rows
@@ -120,84 +102,76 @@ pub(crate) fn rows_of(count: usize) -> usize
 fn write_arrow_from(
     alloc: Global,
     out: &mut Vec<u8>,
-    places: &[u64],
+    layout: &Layout,
     from: usize,
     to: usize,
     number: usize,
     shown: &Shown,
 ) -> Result<(), AllocError>
-    requires places { AreNear places.now }
+    requires places { AreNear layout.now.places }
     requires near { number ≤ 2 ^ 40 }
     ensures { OnOk result
-        (AddsElements out.old out.new (arrow_from places.now from to number shown.now)) }
+        (AddsElements out.old out.new (arrow_from layout.now from to number shown.now)) }
 {
-    let course = along(alloc, column(places, from), column(places, to), row(number))?;
+    let course = along(alloc, layout.column(from), layout.column(to), row(number))?;
     write_path(out, course.as_bytes(), b"black")?;
     let words = numbered_words(alloc, shown)?;
-    let middle = halfway(places, from, to);
+    let middle = layout.halfway(from, to);
     let height = 30 * number as u64 + 74;
-    let room = room_between(places, from, to);
-    write_grounded(alloc, out, middle, height, room, words.as_slice())
+    let room = layout.words_room(from, to);
+    let text = words.as_slice();
+    write_grounded(alloc, out, Style::Plain, middle, height, room, text)
 }
 
 /// The arrow of a communication, in this row.
 fn write_arrow(
     alloc: Global,
     out: &mut Vec<u8>,
-    places: &[u64],
+    layout: &Layout,
     columns: &[End],
     number: usize,
     shown: &Shown,
 ) -> Result<(), AllocError>
-    requires places { AreNear places.now }
+    requires places { AreNear layout.now.places }
     requires near { number ≤ 2 ^ 40 }
     ensures { OnOk result
-        (AddsElements out.old out.new (arrow places.now columns.now number shown.now)) }
+        (AddsElements out.old out.new (arrow layout.now columns.now number shown.now)) }
 {
     let from = place_of(columns, shown.sender());
     let to = place_of(columns, shown.receiver());
-    write_arrow_from(alloc, out, places, from, to, number, shown)
+    write_arrow_from(alloc, out, layout, from, to, number, shown)
 }
 
-/// A white ground for two lines, over the lines of all columns.
-fn write_band(alloc: Global, out: &mut Vec<u8>, places: &[u64], y: u64) -> Result<(), AllocError>
-    requires places { AreNear places.now }
-    requires near { y ≤ 2 ^ 60 }
-    ensures { OnOk result (AddsElements out.old out.new (band places.now y)) }
-{
-    let width = 7 * last_place(places) + 84;
-    write_ground(alloc, out, 0, y, width)?;
-    write_ground(alloc, out, 0, y + 14, width)?;
-    Ok(())
-}
-
-/// The heads again, in a row of their own, where no other row is left before them.
+/// The heads again, in rows of their own, where no other row is left before them.
 fn write_break(
     alloc: Global,
     out: &mut Vec<u8>,
     heads: &[Head],
-    places: &[u64],
+    layout: &Layout,
     left: usize,
     number: usize,
 ) -> Result<(), AllocError>
-    requires places { AreNear places.now }
+    requires places { AreNear layout.now.places }
     requires near { number ≤ 2 ^ 40 }
-    ensures { PutsBreak result out.old out.new heads.now places.now left number }
+    ensures { PutsBreak result out.old out.new heads.now layout.now left number }
 {
     if left == 0 {
-        let above = 30 * number as u64;
-        write_band(alloc, out, places, above + 58)?;
-        return write_heads(alloc, out, heads, places, above + 70);
+        let height = 30 * number as u64 + 70;
+        return write_heads(alloc, out, heads, layout, height);
     }
     Ok(())
 }
 
 /// The row of the next arrow, where so many rows are left before heads stand again.
-fn row_behind(left: usize, number: usize) -> usize
+fn row_behind(layout: &Layout, left: usize, number: usize) -> usize
     requires { number ≤ 2 ^ 40 }
-    ensures { result ≡ row_behind left number }
+    ensures { result ≡ row_behind layout.now.close left number }
 {
-    if left == 0 { number + 1 } else { number }
+    if left == 0 {
+        number + layout.head_rows()
+    } else {
+        number
+    }
 }
 
 /// How many rows are left behind it.
@@ -212,20 +186,20 @@ pub(crate) fn write_arrows(
     alloc: Global,
     out: &mut Vec<u8>,
     heads: &[Head],
-    places: &[u64],
+    layout: &Layout,
     columns: &[End],
     shown: &[Shown],
 ) -> Result<(), AllocError>
-    requires places { AreNear places.now }
+    requires places { AreNear layout.now.places }
     requires near { length shown.now ≤ 990 }
-    ensures { PutsArrows result out.old out.new heads.now places.now columns.now shown.now }
+    ensures { PutsArrows result out.old out.new heads.now layout.now columns.now shown.now }
 {
-    let (mut number, mut left) = (0, 30);
+    let (mut number, mut left) = (layout.if_close(1) as usize, 30);
     let mut rest = shown;
     while let Some((first, others)) = rest.split_first() {
-        write_break(alloc, out, heads, places, left, number)?;
-        let row = row_behind(left, number);
-        write_arrow(alloc, out, places, columns, row, first)?;
+        write_break(alloc, out, heads, layout, left, number)?;
+        let row = row_behind(layout, left, number);
+        write_arrow(alloc, out, layout, columns, row, first)?;
         number = row + 1;
         left = rows_left(left);
         rest = others;

@@ -1,13 +1,13 @@
 //! The sequence chart of a run, in SVG.
 ghost use Rattle.std.specs.Prelude.{◌≡◌, ◌≤◌, ◌^◌, IfOk, OnOk, codes, length};
-ghost use Rattle.occ_chart.specs.Charts.{ChartOf, IsPicture, PutsFoot, above, after_of, after_words, before_of, before_words, corners, ending_words, is_cut, row_below, svg_opening};
-ghost use Rattle.occ_chart.specs.Heads.{AreNear};
+ghost use Rattle.occ_chart.specs.Charts.{ChartOf, IsPicture, PutsFoot, above, after_of, after_words, before_of, before_words, corners, ending_words, is_cut, notes_depth, row_below, svg_opening};
+ghost use Rattle.occ_chart.specs.Places.{AreNear};
 ghost use Rattle.occ_chart.specs.Xml.{AddsAttribute};
 ghost use Rattle.occ_shown.specs.Answers.{AddsText, HasBytes};
 
 use crate::arrows::{row, rows_of, write_arrows};
 use crate::columns::columns;
-use crate::feet::write_feet;
+use crate::feet::{write_reasons, write_stubs};
 use crate::headings::{Head, heads_over};
 use crate::heads::{write_heads, write_heads_again, write_lifelines};
 use crate::left_out::seen_feet;
@@ -16,7 +16,7 @@ use crate::notes::{
     write_note,
 };
 use crate::part::{Part, count_seen, listed};
-use crate::places::places_of;
+use crate::places::{Layout, laid_out};
 use crate::reaches::reaches_of;
 use crate::stub::Stub;
 use crate::xml::{write_attribute, write_number};
@@ -69,46 +69,56 @@ fn write_opening(
 }
 
 /// The height of the row below so many communications.
-fn row_below(count: usize) -> u64
+fn row_below(layout: &Layout, count: usize) -> u64
     requires { count ≤ 990 }
-    ensures is { result ≡ row_below count }
-    ensures high { result ≤ 2 ^ 40 }
+    ensures is { result ≡ row_below layout.now.close count }
+    ensures high { result ≤ 2 ^ 39 }
 {
-    row(rows_of(count))
+    row(rows_of(layout, count))
 }
 
 /// What stands over the foot.
 fn above(
     alloc: Global,
-    places: &[u64],
+    layout: &Layout,
     heads: &[Head],
     columns: &[End],
     shown: &[Shown],
     letters: usize,
     before: &[u8],
 ) -> Result<Vec<u8>, AllocError>
-    requires places { AreNear places.now }
+    requires places { AreNear layout.now.places }
     requires near { length shown.now ≤ 990 }
     requires wide { letters ≤ 2 ^ 47 }
     ensures { IfOk result
-        (HasBytes (above places.now heads.now columns.now shown.now letters before.now)) }
+        (HasBytes (above layout.now heads.now columns.now shown.now letters before.now)) }
 {
-    let bottom = row_below(shown.len());
+    let bottom = row_below(layout, shown.len());
     let width = 7 * letters as u64;
+    let height = bottom + layout.if_close(72) + 132;
     let mut out = Vec::new(alloc);
-    write_opening(alloc, &mut out, width, bottom + 132)?;
-    write_heads(alloc, &mut out, heads, places, 18)?;
-    write_lifelines(alloc, &mut out, places, bottom, columns)?;
-    write_before(alloc, &mut out, before)?;
-    write_arrows(alloc, &mut out, heads, places, columns, shown)?;
+    write_opening(alloc, &mut out, width, height)?;
+    write_lifelines(alloc, &mut out, layout, bottom, columns)?;
+    write_heads(alloc, &mut out, heads, layout, 18)?;
+    write_before(alloc, &mut out, layout.if_close(30) + 50, before)?;
+    write_arrows(alloc, &mut out, heads, layout, columns, shown)?;
     Ok(out)
+}
+
+/// In which height notes stand below the last row.
+fn notes_depth(layout: &Layout, bottom: u64) -> u64
+    requires { bottom ≤ 2 ^ 39 }
+    ensures is { result ≡ notes_depth layout.now bottom }
+    ensures high { result ≤ 2 ^ 40 }
+{
+    bottom + layout.if_close(72) + 80
 }
 
 /// The foot.
 fn write_below(
     alloc: Global,
     out: &mut Vec<u8>,
-    places: &[u64],
+    layout: &Layout,
     heads: &[Head],
     columns: &[End],
     count: usize,
@@ -117,17 +127,19 @@ fn write_below(
     notes: &Notes,
     circle: &[u32],
 ) -> Result<(), AllocError>
-    requires places { AreNear places.now }
+    requires places { AreNear layout.now.places }
     requires near { count ≤ 990 }
-    ensures { PutsFoot result out.old out.new places.now heads.now columns.now count stubs.now
+    ensures { PutsFoot result out.old out.new layout.now heads.now columns.now count stubs.now
         letters notes.now circle.now }
 {
-    let bottom = row_below(count);
-    write_feet(alloc, out, places, columns, bottom, stubs)?;
-    write_heads_again(alloc, out, heads, places, bottom, count)?;
-    write_note(alloc, out, bottom + 80, notes.ending.as_slice())?;
-    write_note(alloc, out, bottom + 98, notes.after.as_slice())?;
-    write_circle(alloc, out, letters, bottom, circle)?;
+    let bottom = row_below(layout, count);
+    let depth = notes_depth(layout, bottom);
+    write_stubs(alloc, out, layout, columns, bottom, stubs)?;
+    write_reasons(alloc, out, layout, columns, bottom, stubs)?;
+    write_heads_again(alloc, out, heads, layout, bottom, count)?;
+    write_note(alloc, out, depth, notes.ending.as_slice())?;
+    write_note(alloc, out, depth + 18, notes.after.as_slice())?;
+    write_circle(alloc, out, letters, depth + 36, circle)?;
     out.extend_from_slice(b"</svg>\n")
 }
 
@@ -146,14 +158,13 @@ fn picture(
         (IsPicture heads.now columns.now shown.now stubs.now notes.now circle.now) }
 {
     let between = reaches_of(alloc, columns, shown)?;
-    let standing = places_of(alloc, between.as_slice(), heads)?;
-    let places = standing.as_slice();
-    let letters = picture_letters(places, notes);
+    let standing = laid_out(alloc, between.as_slice(), heads)?;
+    let letters = picture_letters(&standing, notes);
     let before = notes.before.as_slice();
-    let mut out = above(alloc, places, heads, columns, shown, letters, before)?;
+    let mut out = above(alloc, &standing, heads, columns, shown, letters, before)?;
     let count = shown.len();
     write_below(
-        alloc, &mut out, places, heads, columns, count, stubs, letters, notes, circle,
+        alloc, &mut out, &standing, heads, columns, count, stubs, letters, notes, circle,
     )?;
     Ok(out)
 }

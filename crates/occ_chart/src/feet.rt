@@ -1,17 +1,17 @@
 //! Who stands at the foot of its column.
 ghost use Rattle.std.specs.Prelude.{◌≡◌, ◌++◌, ◌≤◌, ◌^◌, IfOk, OnOk, length};
-ghost use Rattle.occ_chart.specs.Charts.{drawn_feet, foot_at};
-ghost use Rattle.occ_chart.specs.Heads.{AreNear};
+ghost use Rattle.occ_chart.specs.Charts.{drawn_reasons, drawn_stubs, reason_at, stub_at};
+ghost use Rattle.occ_chart.specs.Places.{AreNear};
 ghost use Rattle.occ_chart.specs.Labels.{foot_words, await_words, offer_words};
 ghost use Rattle.occ_chart.specs.Shapes.{stub};
-ghost use Rattle.occ_chart.specs.Xml.{AddsElements};
+ghost use Rattle.occ_chart.specs.Xml.{AddsElement, AddsElements};
 ghost use Rattle.occ_term.specs.Endings.{ending_text};
 ghost use Rattle.occ_shown.specs.Answers.{names_of, HasWords};
 
 use crate::columns::place_of;
-use crate::labels::write_label;
+use crate::labels::write_grounded;
 use crate::messages::write_message;
-use crate::places::column;
+use crate::places::Layout;
 use crate::stub::Stub;
 use crate::xml::{Style, write_path};
 use occ_machine::Wait;
@@ -88,48 +88,88 @@ pub fn foot_of(
     }
 }
 
-/// The course of a stub at the foot of a column.
+/// The course of a stub at the foot of a column, and of a line down so far to the words below it.
 #[tactic(auto, unfolding(crate::specs::Shapes::stub))]
-fn stub(alloc: Global, x: u64, bottom: u64) -> Result<String, AllocError>
-    ensures { IfOk result (λ text. text.bytes.items ≡ stub x bottom) }
+fn stub(alloc: Global, x: u64, bottom: u64, depth: u64) -> Result<String, AllocError>
+    ensures { IfOk result (λ text. text.bytes.items ≡ stub x bottom depth) }
 {
-    let text = format!(in alloc; "M {x} {bottom} v 14 m -7 0 h 14")?;
+    let text = format!(in alloc; "M {x} {bottom} v 14 m -7 0 h 14 m -7 0 v {depth}")?;
     Ok(text)
 }
 
-fn write_foot(
+fn write_stub(
     alloc: Global,
     out: &mut Vec<u8>,
-    x: u64,
+    layout: &Layout,
     bottom: u64,
-    words: &[u8],
+    column: usize,
 ) -> Result<(), AllocError>
-    requires { bottom ≤ 2 ^ 40 }
-    ensures { OnOk result (AddsElements out.old out.new (foot_at x bottom words.now)) }
+    requires { AreNear layout.now.places }
+    ensures { OnOk result (AddsElement out.old out.new (stub_at layout.now bottom column)) }
 {
-    let course = stub(alloc, x, bottom)?;
-    write_path(out, course.as_bytes(), b"red")?;
-    write_label(alloc, out, Style::Red, x, bottom + 28, 24, words)
+    let depth = layout.foot_depth(column);
+    let course = stub(alloc, layout.column(column), bottom, depth)?;
+    write_path(out, course.as_bytes(), b"red")
 }
 
-/// Each that stands at the foot, in its column.
-pub(crate) fn write_feet(
+/// A line down to each that stands at the foot.
+pub(crate) fn write_stubs(
     alloc: Global,
     out: &mut Vec<u8>,
-    places: &[u64],
+    layout: &Layout,
     columns: &[End],
     bottom: u64,
     stubs: &[Stub],
 ) -> Result<(), AllocError>
-    requires places { AreNear places.now }
-    requires bottom { bottom ≤ 2 ^ 40 }
+    requires { AreNear layout.now.places }
     ensures { OnOk result
-        (AddsElements out.old out.new (drawn_feet places.now columns.now bottom stubs.now)) }
+        (AddsElements out.old out.new (drawn_stubs layout.now columns.now bottom stubs.now)) }
 {
     let mut rest = stubs;
     while let Some((first, others)) = rest.split_first() {
-        let place = place_of(columns, End::Process(first.process()));
-        write_foot(alloc, out, column(places, place), bottom, first.words())?;
+        let column = place_of(columns, End::Process(first.process()));
+        write_stub(alloc, out, layout, bottom, column)?;
+        rest = others;
+    }
+    Ok(())
+}
+
+fn write_reason(
+    alloc: Global,
+    out: &mut Vec<u8>,
+    layout: &Layout,
+    bottom: u64,
+    column: usize,
+    words: &[u8],
+) -> Result<(), AllocError>
+    requires places { AreNear layout.now.places }
+    requires bottom { bottom ≤ 2 ^ 40 }
+    ensures { OnOk result
+        (AddsElements out.old out.new (reason_at layout.now bottom column words.now)) }
+{
+    let height = bottom + layout.foot_depth(column) + 28;
+    let middle = layout.column(column);
+    write_grounded(alloc, out, Style::Red, middle, height, 24, words)
+}
+
+/// Why each stands there.
+pub(crate) fn write_reasons(
+    alloc: Global,
+    out: &mut Vec<u8>,
+    layout: &Layout,
+    columns: &[End],
+    bottom: u64,
+    stubs: &[Stub],
+) -> Result<(), AllocError>
+    requires places { AreNear layout.now.places }
+    requires bottom { bottom ≤ 2 ^ 40 }
+    ensures { OnOk result
+        (AddsElements out.old out.new (drawn_reasons layout.now columns.now bottom stubs.now)) }
+{
+    let mut rest = stubs;
+    while let Some((first, others)) = rest.split_first() {
+        let column = place_of(columns, End::Process(first.process()));
+        write_reason(alloc, out, layout, bottom, column, first.words())?;
         rest = others;
     }
     Ok(())

@@ -1,16 +1,16 @@
 //! The heads of columns, and the lines down from them.
 ghost use Rattle.std.specs.Prelude.{◌≡◌, ◌≤◌, ◌^◌, IfOk, OnOk, codes};
 ghost use Rattle.occ_chart.specs.Charts.{drawn_head, drawn_heads, heads_again, lifelines, name_label};
-ghost use Rattle.occ_chart.specs.Heads.{AreNear};
+ghost use Rattle.occ_chart.specs.Places.{AreNear};
 ghost use Rattle.occ_chart.specs.Labels.{end_name, texts_of};
 ghost use Rattle.occ_chart.specs.Shapes.{down, path};
 ghost use Rattle.occ_chart.specs.Xml.{AddsElement, AddsElements};
 ghost use Rattle.occ_shown.specs.Answers.{end_text, AddsText};
 
 use crate::headings::Head;
-use crate::labels::write_label;
-use crate::places::column;
-use crate::xml::{Style, write_path, write_text};
+use crate::labels::write_grounded;
+use crate::places::Layout;
+use crate::xml::{Style, write_path};
 use occ_term::End;
 use std::alloc::{AllocError, Global};
 
@@ -70,7 +70,7 @@ fn write_name(
     if name.is_empty() {
         return Ok(());
     }
-    write_label(alloc, out, Style::Plain, x, y, 24, name)
+    write_grounded(alloc, out, Style::Plain, x, y, 24, name)
 }
 
 /// What stands over a column, at this place.
@@ -82,12 +82,11 @@ fn write_head(
     y: u64,
     head: &Head,
 ) -> Result<(), AllocError>
-    requires { y ≤ 2 ^ 46 }
+    requires { y ≤ 2 ^ 47 }
     ensures { OnOk result (AddsElements out.old out.new (drawn_head x y head.now)) }
 {
     write_name(alloc, out, x, y, head.name())?;
-    write_text(alloc, out, Style::Plain, x, y + 14, b"", head.below())?;
-    Ok(())
+    write_grounded(alloc, out, Style::Plain, x, y + 14, 24, head.below())
 }
 
 /// The heads of the columns, in this height.
@@ -96,16 +95,17 @@ pub(crate) fn write_heads(
     alloc: Global,
     out: &mut Vec<u8>,
     heads: &[Head],
-    places: &[u64],
+    layout: &Layout,
     y: u64,
 ) -> Result<(), AllocError>
-    requires near { AreNear places.now }
+    requires near { AreNear layout.now.places }
     requires high { y ≤ 2 ^ 46 }
     ensures { OnOk result
-        (AddsElements out.old out.new (drawn_heads places.now y 0 heads.now)) }
+        (AddsElements out.old out.new (drawn_heads layout.now y 0 heads.now)) }
 {
     for i in 0..heads.len() {
-        write_head(alloc, out, column(places, i), y, &heads[i])?;
+        let height = y + layout.head_depth(i);
+        write_head(alloc, out, layout.column(i), height, &heads[i])?;
     }
     Ok(())
 }
@@ -115,17 +115,18 @@ pub(crate) fn write_heads_again(
     alloc: Global,
     out: &mut Vec<u8>,
     heads: &[Head],
-    places: &[u64],
+    layout: &Layout,
     y: u64,
     count: usize,
 ) -> Result<(), AllocError>
-    requires near { AreNear places.now }
+    requires near { AreNear layout.now.places }
     requires bottom { y ≤ 2 ^ 40 }
     ensures { OnOk result
-        (AddsElements out.old out.new (heads_again heads.now places.now y count)) }
+        (AddsElements out.old out.new (heads_again heads.now layout.now y count)) }
 {
     if count > 15 {
-        return write_heads(alloc, out, heads, places, y + 46);
+        let height = y + layout.if_close(42) + 46;
+        return write_heads(alloc, out, heads, layout, height);
     }
     Ok(())
 }
@@ -150,18 +151,18 @@ fn write_lifeline(alloc: Global, out: &mut Vec<u8>, x: u64, bottom: u64) -> Resu
 pub(crate) fn write_lifelines(
     alloc: Global,
     out: &mut Vec<u8>,
-    places: &[u64],
+    layout: &Layout,
     bottom: u64,
     columns: &[End],
 ) -> Result<(), AllocError>
-    requires { AreNear places.now }
+    requires { AreNear layout.now.places }
     ensures { OnOk result
-        (AddsElements out.old out.new (lifelines places.now bottom 0 columns.now)) }
+        (AddsElements out.old out.new (lifelines layout.now bottom 0 columns.now)) }
 {
     let mut place = 0;
     let mut rest = columns;
     while let Some((_, others)) = rest.split_first() {
-        write_lifeline(alloc, out, column(places, place), bottom)?;
+        write_lifeline(alloc, out, layout.column(place), bottom)?;
         place += 1;
         rest = others;
     }

@@ -65,16 +65,17 @@ pub(crate) fn write_ground(
 pub(crate) fn write_grounded(
     alloc: Global,
     out: &mut Vec<u8>,
+    style: Style,
     x: u64,
     y: u64,
     room: usize,
     words: &[u8],
 ) -> Result<(), AllocError>
     requires { room ≤ 2 ^ 47 }
-    ensures { OnOk result (AddsElements out.old out.new (grounded x y room words.now)) }
+    ensures { OnOk result (AddsElements out.old out.new (grounded style x y room words.now)) }
 {
     let width = 7 * room.min(words.len()) as u64;
     let left = x.saturating_sub(width / 2);
     write_ground(alloc, out, left, y.saturating_sub(11), width)?;
-    write_label(alloc, out, Style::Plain, x, y, room, words)
+    write_label(alloc, out, style, x, y, room, words)
 }

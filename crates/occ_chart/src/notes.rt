@@ -1,11 +1,11 @@
 //! What is noted beside the arrows of a chart.
 ghost use Rattle.std.specs.Prelude.{◌≡◌, ◌++◌, ◌+◌, ◌-◌, ◌≤◌, ◌^◌, ◌∷◌, [], IfOk, OnOk, codes, length, max, min};
 ghost use Rattle.occ_chart.specs.Charts.{after_words, among_words, before_words, circle_label, circle_words, cut_words, ending_words, letters_with, note, note_before, note_circle};
-ghost use Rattle.occ_chart.specs.Heads.{AreNear};
+ghost use Rattle.occ_chart.specs.Places.{AreNear};
 ghost use Rattle.occ_chart.specs.Xml.{AddsElement, AddsElements};
 
 use crate::labels::{write_ground, write_label};
-use crate::places::last_place;
+use crate::places::{Layout, last_place};
 use crate::xml::{Style, write_text};
 use occ_shown::write_numbers;
 use occ_term::Ending;
@@ -86,9 +86,9 @@ pub(crate) fn ending_words(
 }
 
 /// How wide a picture with these notes is, in letters.
-pub(crate) fn picture_letters(places: &[u64], notes: &Notes) -> usize
-    requires { AreNear places.now }
-    ensures is { result ≡ letters_with places.now notes.now }
+pub(crate) fn picture_letters(layout: &Layout, notes: &Notes) -> usize
+    requires { AreNear layout.now.places }
+    ensures is { result ≡ letters_with layout.now notes.now }
     ensures near { result ≤ 2 ^ 47 }
 {
     let longest = notes
@@ -96,7 +96,7 @@ pub(crate) fn picture_letters(places: &[u64], notes: &Notes) -> usize
         .len()
         .max(notes.after.len())
         .max(notes.ending.len());
-    (last_place(places) as usize + 12).max(longest.min(100) + 3)
+    (last_place(layout.places()) as usize + 12).max(longest.min(100) + 3)
 }
 
 /// A note in this height, where there are words.
@@ -115,15 +115,20 @@ pub(crate) fn write_note(
 }
 
 /// A note over the lines of the columns, where there are words.
-pub(crate) fn write_before(alloc: Global, out: &mut Vec<u8>, words: &[u8]) -> Result<(), AllocError>
-    ensures { OnOk result (AddsElements out.old out.new (note_before words.now)) }
+pub(crate) fn write_before(
+    alloc: Global,
+    out: &mut Vec<u8>,
+    y: u64,
+    words: &[u8],
+) -> Result<(), AllocError>
+    ensures { OnOk result (AddsElements out.old out.new (note_before y words.now)) }
 {
     if words.is_empty() {
         return Ok(());
     }
     let width = 7 * words.len().min(100) as u64;
-    write_ground(alloc, out, 8, 38, width)?;
-    write_text(alloc, out, Style::Note, 10, 50, b"", words)
+    write_ground(alloc, out, 8, y.saturating_sub(12), width)?;
+    write_text(alloc, out, Style::Note, 10, y, b"", words)
 }
 
 /// What is said of processes that wait for one another in a circle.
@@ -139,17 +144,15 @@ fn write_circle_words(
     alloc: Global,
     out: &mut Vec<u8>,
     letters: usize,
-    bottom: u64,
+    y: u64,
     circle: &[u32],
 ) -> Result<(), AllocError>
-    requires { bottom ≤ 2 ^ 40 }
     ensures { OnOk result
-        (AddsElement out.old out.new (circle_label letters bottom circle.now)) }
+        (AddsElement out.old out.new (circle_label letters y circle.now)) }
 {
     let words = circle_words(alloc, circle)?;
-    let height = bottom + 116;
     let text = words.as_slice();
-    write_label(alloc, out, Style::RedNote, 10, height, letters, text)
+    write_label(alloc, out, Style::RedNote, 10, y, letters, text)
 }
 
 /// A circle of processes that wait for one another, where one is given.
@@ -157,15 +160,14 @@ pub(crate) fn write_circle(
     alloc: Global,
     out: &mut Vec<u8>,
     letters: usize,
-    bottom: u64,
+    y: u64,
     circle: &[u32],
 ) -> Result<(), AllocError>
-    requires { bottom ≤ 2 ^ 40 }
     ensures { OnOk result
-        (AddsElements out.old out.new (note_circle letters bottom circle.now)) }
+        (AddsElements out.old out.new (note_circle letters y circle.now)) }
 {
     match circle.split_first() {
-        Some(_) => write_circle_words(alloc, out, letters, bottom, circle),
+        Some(_) => write_circle_words(alloc, out, letters, y, circle),
         None => Ok(()),
     }
 }

@@ -1,6 +1,6 @@
 //! Between which columns the words of arrows stand.
 ghost use Rattle.std.specs.Prelude.{◌≡◌, IfOk};
-ghost use Rattle.occ_chart.specs.Heads.{reach_of, reaches_of};
+ghost use Rattle.occ_chart.specs.Places.{reach_of, reaches_of};
 
 use crate::arrows::numbered_words;
 use crate::columns::place_of;

@@ -5,7 +5,7 @@
 //! ```
 //! let hello = b"PROC main (CHAN OF BYTE keyboard, screen)\n  screen ! 'A'\n:\n";
 //! let (options, asked) = (Options::plain(), Asked::Answers);
-//! let found = explore_in(&options, alloc, hello, b"", asked, false, false, false, 1_000, &mut Untold)?;
+//! let found = explore_in(&options, alloc, hello, b"", asked, false, false, false, 1_000, 64, &mut Untold)?;
 //! assert_eq!(rt; found.answers.len(), 1); // each schedule shows the same
 //! ```
 #![tactic(auto)]

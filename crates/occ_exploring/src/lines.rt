@@ -1,6 +1,6 @@
 //! Says what a search has found.
 ghost use Rattle.std.specs.Prelude.{◌≡◌, ◌≤◌, IfOk, OnOk, length};
-ghost use Rattle.occ_exploring.specs.Texts.{all_text, answer_line, answer_lines, answers_text, bound_text, so_many, error_text, exploration_text, first_text, found_line, held_text, known_text, rest_text, stop_kind_text, lasting_text, left_text, process_named, processes_named, said_of, waiting_head, waiting_line, waiting_text, waits_word};
+ghost use Rattle.occ_exploring.specs.Texts.{all_text, answer_line, answer_lines, answers_text, bound_text, heavy_text, so_many, error_text, exploration_text, first_text, found_line, held_text, known_text, rest_text, stop_kind_text, lasting_text, left_text, process_named, processes_named, said_of, waiting_head, waiting_line, waiting_text, waits_word};
 ghost use Rattle.occ_shown.specs.Answers.{AddsText};
 
 use crate::strings::write_string;
@@ -217,6 +217,14 @@ fn write_bound(alloc: Global, out: &mut Vec<u8>, most: u32) -> Result<(), AllocE
     Ok(())
 }
 
+/// That the search held more than so many megabytes.
+fn write_heavy(alloc: Global, out: &mut Vec<u8>, memory: u32) -> Result<(), AllocError>
+    ensures { OnOk result (AddsText out.old out.new (heavy_text memory)) }
+{
+    let line = format!(in alloc; "these at least: the bound of {memory} MB was passed\n")?;
+    out.extend_from_slice(line.as_bytes())
+}
+
 /// That the search ended at the answer above, after so many states.
 fn write_ended(alloc: Global, out: &mut Vec<u8>, states: usize) -> Result<(), AllocError>
     ensures { OnOk result (AddsText out.old out.new (first_text states)) }
@@ -309,9 +317,10 @@ fn write_verdict(
     out: &mut Vec<u8>,
     exploration: &Exploration,
     most: u32,
+    memory: u32,
 ) -> Result<(), AllocError>
     ensures { OnOk result (AddsText out.old out.new
-        (said_of exploration.now most)) }
+        (said_of exploration.now most memory)) }
 {
     match &exploration.verdict {
         Verdict::All(lasting) => {
@@ -322,6 +331,14 @@ fn write_verdict(
             write_waiting(alloc, out, &exploration.waiting)?;
             write_bound(alloc, out, most)
         }
+        Verdict::Heavy => {
+            write_waiting(alloc, out, &exploration.waiting)?;
+            write_heavy(alloc, out, memory)
+        }
+        Verdict::OutOfMemory => {
+            write_waiting(alloc, out, &exploration.waiting)?;
+            out.extend_from_slice(b"these at least: memory ran out\n")
+        }
         Verdict::First => {
             write_waiting(alloc, out, &exploration.waiting)?;
             write_ended(alloc, out, exploration.states)
@@ -329,7 +346,7 @@ fn write_verdict(
     }
 }
 
-/// What is printed of a search that might come to `most` states: a line for each of the first 100 answers, how many more
+/// What is printed of a search that might come to `most` states, and hold `memory` megabytes: a line for each of the first 100 answers, how many more
 /// there are, how long runs go on, who was found to wait for good, and whether these are all.
 ///
 /// # Errors
@@ -340,11 +357,13 @@ pub fn exploration_text(
     exploration: &Exploration,
     asked: Asked,
     most: u32,
+    memory: u32,
 ) -> Result<Vec<u8>, AllocError>
-    ensures { IfOk result (λ bytes. bytes.items ≡ exploration_text asked most exploration.now) }
+    ensures { IfOk result (λ bytes.
+        bytes.items ≡ exploration_text asked most memory exploration.now) }
 {
     let mut out = Vec::new(alloc);
     write_first(alloc, &mut out, asked, exploration.answers.as_slice())?;
-    write_verdict(alloc, &mut out, exploration, most)?;
+    write_verdict(alloc, &mut out, exploration, most, memory)?;
     Ok(out)
 }

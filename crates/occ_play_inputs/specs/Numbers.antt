@@ -10,6 +10,7 @@ pub record AreNumbers (given : Given) (numbers : Numbers) : Type 0 where
   pub quantum : numbers.quantum ≡ unwrap_or given.quantum 1
   pub workers : numbers.workers ≡ given.workers
   pub states : numbers.states ≡ unwrap_or given.states 1000000
+  pub memory : numbers.memory ≡ unwrap_or given.memory 1024
   pub seed : numbers.seed ≡ given.seed
   pub tries : numbers.tries ≡ unwrap_or given.tries 1
   pub arrows : numbers.arrows ≡ unwrap_or given.arrows 200

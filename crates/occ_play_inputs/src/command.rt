@@ -1,6 +1,6 @@
 //! The words that the program takes, a row for each, in the order in which help tells of them.
 
-use crate::words::{MOST_SEED, MOST_STATES, MOST_TRIES, MOST_TURNS, VERSION};
+use crate::words::{MOST_MEMORY, MOST_SEED, MOST_STATES, MOST_TRIES, MOST_TURNS, VERSION};
 use clap::builder::ValueParser;
 use clap::{Arg, ArgAction, Command, Error};
 use occ_choices::MOST_WORKERS;
@@ -39,7 +39,7 @@ struct Word {
 
 /// The words, in the order in which help tells of them.
 #[rattlefmt::skip]
-static WORDS: [Word; 30] = [
+static WORDS: [Word; 31] = [
     Word { name: "limit", form: Form::Value, value: "N", takes: ValueParser::Signed(0, MOST_TURNS as i64),
         needs: &[], apart: &[],
         help: "Ends the run after N turns, 0 to 10000000 [default: 1000000]" },
@@ -126,9 +126,12 @@ static WORDS: [Word; 30] = [
     Word { name: "states", form: Form::Value, value: "N", takes: ValueParser::Signed(1, MOST_STATES as i64),
         needs: &[], apart: &[],
         help: "Lets the search visit at most N states, 1 to 10000000 [default: 1000000]" },
+    Word { name: "memory", form: Form::Value, value: "N", takes: ValueParser::Signed(1, MOST_MEMORY as i64),
+        needs: &[], apart: &[],
+        help: "Lets the search hold at most about N MB, 1 to 1000000 [default: 1024]" },
     Word { name: "check", form: Form::Flag, value: "", takes: ValueParser::String,
         needs: &[], apart: &["limit", "workers", "choices", "chart", "arrows", "last", "only", "without", "trace", "trace-to", "steps", "page", "seed", "tries", "watch",
-            "live", "typed", "record", "explore", "first", "graph", "within", "states"],
+            "live", "typed", "record", "explore", "first", "graph", "within", "states", "memory"],
         help: "Says whether the source is refused, and plays nothing" },
     Word { name: "FILE", form: Form::Files, value: "", takes: ValueParser::String, needs: &[], apart: &[],
         help: "The source, in one file or more; standard input is then the keyboard. Without it, or with - in its place, standard input is the source" },
@@ -147,7 +150,7 @@ Exit status:
      or an answer of a search has stopped, or some wait for good while others go on, and
      none is a fault; or one is none of the specification's
   3  a fault ended the run, or an answer of a search is one
-  4  the limit of turns came first, or the bound of states
+  4  the limit of turns came first, or a bound of a search
   5  memory ran out, or threads gave no answer
   6  a file or a stream could not be read or written
   7  wrong words, or a refused file of choices

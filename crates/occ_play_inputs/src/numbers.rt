@@ -5,8 +5,8 @@ ghost use Rattle.occ_choices.specs.Crews.{IsCrew};
 ghost use Rattle.occ_play_inputs.specs.Numbers.{AreNumbers, IsNumber};
 
 use crate::words::{
-    DEFAULT_ARROWS, DEFAULT_LIMIT, DEFAULT_STATES, DEFAULT_TRIES, MOST_SEED, MOST_STATES,
-    MOST_TRIES, MOST_TURNS, Numbers,
+    DEFAULT_ARROWS, DEFAULT_LIMIT, DEFAULT_MEMORY, DEFAULT_STATES, DEFAULT_TRIES, MOST_MEMORY,
+    MOST_SEED, MOST_STATES, MOST_TRIES, MOST_TURNS, Numbers,
 };
 use clap::ArgMatches;
 use occ_choices::is_crew;
@@ -19,6 +19,7 @@ struct Given {
     quantum: Option<u32>,
     workers: Option<u32>,
     states: Option<u32>,
+    memory: Option<u32>,
     seed: Option<u32>,
     tries: Option<u32>,
     arrows: Option<u32>,
@@ -31,6 +32,7 @@ pub(crate) fn numbers_of(matches: &ArgMatches<'_>) -> Result<Numbers, &'static s
         quantum: matches.get_one::<u32>("quantum"),
         workers: matches.get_one::<u32>("workers"),
         states: matches.get_one::<u32>("states"),
+        memory: matches.get_one::<u32>("memory"),
         seed: matches.get_one::<u32>("seed"),
         tries: matches.get_one::<u32>("tries"),
         arrows: matches.get_one::<u32>("arrows"),
@@ -46,6 +48,7 @@ fn numbers_in(given: Given) -> Result<Numbers, &'static str>
         quantum,
         workers,
         states,
+        memory,
         seed,
         tries,
         arrows,
@@ -64,6 +67,13 @@ fn numbers_in(given: Given) -> Result<Numbers, &'static str>
         1,
         MOST_STATES,
         "the states are 1 to 10000000",
+    )?;
+    let memory = number_in(
+        memory,
+        DEFAULT_MEMORY,
+        1,
+        MOST_MEMORY,
+        "the memory is 1 to 1000000 MB",
     )?;
     let tries = number_in(
         tries,
@@ -84,6 +94,7 @@ fn numbers_in(given: Given) -> Result<Numbers, &'static str>
         quantum,
         workers,
         states,
+        memory,
         seed,
         tries,
         arrows,

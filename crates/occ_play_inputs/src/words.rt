@@ -46,6 +46,12 @@ pub const DEFAULT_STATES: u32 = 1_000_000;
 /// The most states that a word may ask for.
 pub const MOST_STATES: u32 = 10_000_000;
 
+/// How many megabytes a search may hold where no word says so.
+pub const DEFAULT_MEMORY: u32 = 1_024;
+
+/// The most megabytes that a word may ask for.
+pub const MOST_MEMORY: u32 = 1_000_000;
+
 /// What the words of the command line say.
 #[derive(Debug, Drop)]
 pub struct Words<'a> {
@@ -115,6 +121,8 @@ pub struct Words<'a> {
     pub within: Option<&'a str>,
     /// How many states a search may come to, 1 to 10,000,000.
     pub states: u32,
+    /// How many megabytes a search may hold, 1 to 1,000,000.
+    pub memory: u32,
     /// Whether it is only said whether the source is refused: then nothing is typed and nothing is played.
     pub check: bool,
     /// The path of the source, or of its first file; none where standard input is the source.
@@ -147,6 +155,7 @@ pub(crate) struct Numbers {
     pub(crate) quantum: u32,
     pub(crate) workers: Option<u32>,
     pub(crate) states: u32,
+    pub(crate) memory: u32,
     pub(crate) seed: Option<u32>,
     pub(crate) tries: u32,
     pub(crate) arrows: u32,
@@ -249,6 +258,9 @@ fn needed(matches: &ArgMatches<'_>) -> Option<&'static str> {
     if !searches && matches.get_one::<u32>("states").is_some() {
         return Some("--states stands beside --explore or --within");
     }
+    if !searches && matches.get_one::<u32>("memory").is_some() {
+        return Some("--memory stands beside --explore or --within");
+    }
     let tells = matches.get_str("trace-to").is_some() || matches.get_flag("check");
     if !tells && matches.get_flag("json") {
         return Some("--json stands beside --trace-to or --check");
@@ -323,6 +335,7 @@ fn joined<'a>(
         first: matches.get_flag("first"),
         within: matches.get_str("within"),
         states: numbers.states,
+        memory: numbers.memory,
         check: matches.get_flag("check"),
         file: paths.file,
         more: paths.more,

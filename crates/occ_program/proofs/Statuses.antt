@@ -32,7 +32,7 @@ use Rattle.occ_explore.specs.declared.exploration.Answer.{Answer}
 use Rattle.occ_exploring.specs.Alone.{IsOnlyFor, IsUntoldFor, only_status}
 use Rattle.occ_exploring.specs.Explored.{IsDrawnFor, IsExplored}
 use Rattle.occ_explore.specs.declared.exploration.Verdict.{Verdict}
-use Rattle.occ_explore.specs.declared.exploration.Verdict.TheVariants.{All, First, More}
+use Rattle.occ_explore.specs.declared.exploration.Verdict.TheVariants.{All, First, Heavy, More, OutOfMemory}
 use Rattle.occ_explore.specs.Exploring.{EndsAtFirst}
 use Rattle.occ_exploring.specs.Statuses.{is_fault, has_stopped, search_status, some_ends, verdict_status, waiting_status}
 use Rattle.occ_explore.specs.declared.exploration.Waiting.{Waiting}
@@ -202,6 +202,8 @@ search_small e = or_waiting_small (verdict_status e.answers.items e.verdict) e.w
     by (All lasting) = of (some_ends is_fault e.answers.items) (some_ends has_stopped e.answers.items)
     by First = of (some_ends is_fault e.answers.items) (some_ends has_stopped e.answers.items)
     by More = omega arith
+    by Heavy = omega arith
+    by OutOfMemory = omega arith
 
 pub found_small : (found : Result Exploration PlayFault) → found_status found ≤ 7
 found_small (Ok e) = search_small e

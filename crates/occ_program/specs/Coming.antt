@@ -27,6 +27,7 @@ use Rattle.occ_exploring.specs.declared.within.KeepFault.{KeepFault}
 use Rattle.occ_exploring.specs.declared.within.KeepFault.TheVariants.{Source, Specification}
 use Rattle.occ_exploring.specs.declared.within.Kept.{Kept}
 use Rattle.occ_exploring.specs.Statuses.{search_status}
+use Rattle.occ_exploring.specs.Texts.{exploration_text}
 use Rattle.occ_shown.specs.Counting.{AppendsTo}
 use Rattle.occ_shown.specs.declared.counted.Counted.{Counted}
 use Rattle.occ_program.specs.Watched.{CameByCrew, CameTo}
@@ -95,6 +96,10 @@ SearchedTo words source keyboard asked (Ok e) =
     IsExplored (options_in words) source keyboard asked words.full words.states e × EndsAtFirst words.first e.answers.items e.verdict
     × (IsTrue words.full → IsDrawnFor (options_in words) source keyboard asked (is_some words.graph) e)
 SearchedTo words source keyboard asked (Err fault) = Refuses (options_in words) source fault
+
+-- what is printed of it
+abbrev pub search_text : Words → Asked → Exploration → List ℕ
+search_text words asked e = exploration_text asked words.states words.memory e
 
 abbrev pub found_status : Result Exploration PlayFault → ℕ
 found_status (Ok e) = search_status e

@@ -1,13 +1,12 @@
 //! Tells what all lists of choices of a source come to.
 ghost use Rattle.std.specs.Prelude.{[], ◌≡◌, ◌∷◌, ◌≤◌, ◌<◌, ◌-◌, ◌^◌, IfErr, IfOk, IsTrue, OnErr, OnOk, length, take};
 ghost use Rattle.occ_exploring.specs.Alone.{only_status, only_text};
-ghost use Rattle.occ_exploring.specs.Texts.{exploration_text};
 ghost use Rattle.occ_files.specs.Leaving.{AddsFiles, AddsSome, MayAdd};
 ghost use Rattle.occ_files.specs.declared.reason.Reason.{Reason};
 ghost use Rattle.occ_play_inputs.specs.Failures.{FailsToWrite, trouble};
 ghost use Rattle.occ_play_inputs.specs.declared.failure.Failure.{Failure};
 ghost use Rattle.occ_play_inputs.specs.declared.failure.Stream.TheVariants as stream;
-ghost use Rattle.occ_program.specs.Coming.{IsSearchStatus, OnlyTo, Prints, SearchedTo, found_status};
+ghost use Rattle.occ_program.specs.Coming.{IsSearchStatus, OnlyTo, Prints, SearchedTo, found_status, search_text};
 ghost use Rattle.occ_program.specs.Pages.{AreRecorded, answer_file, answer_files, waiting_files, waiting_file};
 ghost use Rattle.occ_play.specs.Status.{fault_status};
 ghost use Rattle.occ_shown.specs.Counting.{failures_of};
@@ -361,6 +360,7 @@ fn search<P: Progress>(
         words.first,
         words.graph.is_some(),
         words.states,
+        words.memory,
         progress,
     )
 }
@@ -385,9 +385,9 @@ fn print_answers<W: Write>(
 ) -> Result<bool, AllocError>
     requires room { failures_of out.old < 2 ^ 64 - 1 }
     ensures { IfOk result
-        (Prints W.contents (exploration_text asked words.now.states found.now) out.old out.new) }
+        (Prints W.contents (search_text words.now asked found.now) out.old out.new) }
 {
-    let text = exploration_text(alloc, found, asked, words.states)?;
+    let text = exploration_text(alloc, found, asked, words.states, words.memory)?;
     Ok(write_answer(text.as_slice(), out).is_ok())
 }
 

@@ -97,6 +97,7 @@ fn keep<P: Progress>(
         asked_in(words),
         words.full,
         words.states,
+        words.memory,
         progress,
     )
 }

@@ -70,6 +70,7 @@ fn schedules_are_searched(rt: HostRuntime) -> Result<(), Fail> {
         false,
         false,
         1_000,
+        64,
         &mut Untold,
     )?;
     assert_eq!(rt; found.answers.len(), 1); // each schedule shows the same

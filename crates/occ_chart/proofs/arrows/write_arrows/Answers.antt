@@ -7,8 +7,8 @@ loop-first-preserved c =
     let l = c.loop-first in
     let split : l.rest.now ≡ c.in-Some.first.now ∷ c.in-Some.others.now = search rules in
     record {
-      near = row_near l.left l.number c.row_behind-row.result c.in-Some.first.now c.in-Some.others.now l.rest.now split c.row_behind-row.ensures l.invariant.near;
+      near = row_near c.args.layout.now.close l.left l.number c.row_behind-row.result c.in-Some.first.now c.in-Some.others.now l.rest.now split c.row_behind-row.ensures l.invariant.near;
       written =
-          arrows_step l.out.items c.write_break.new.out.items c.write_arrow.new.out.items _ c.args.heads.now c.args.places.now c.args.columns.now l.left l.number c.row_behind-row.result c.rows_left-left.result
+          arrows_step l.out.items c.write_break.new.out.items c.write_arrow.new.out.items _ c.args.heads.now c.args.layout.now c.args.columns.now l.left l.number c.row_behind-row.result c.rows_left-left.result
           c.in-Some.first.now c.in-Some.others.now l.rest.now split c.row_behind-row.ensures c.rows_left-left.ensures c.in_ok-write_break.ensures c.in_ok-write_arrow.ensures l.invariant.written;
     }
