@@ -1,5 +1,5 @@
 use Rattle.std.proofs.Common.{◌≡◌, ◌++◌, length}
-use Rattle.occ_chart.specs.Heads.{reaches_of}
+use Rattle.occ_chart.specs.Places.{reaches_of}
 use Rattle.occ_chart.proofs.reaches.reaches_of.Given as goal
 
 abbrev pub invariant-loop-first : goal.invariant-loop-first
