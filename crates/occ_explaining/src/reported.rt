@@ -26,8 +26,16 @@ pub fn report_of(
     let plan = plan_of(alloc, choices)?;
     let uses = studied.uses.as_slice();
     let source = studied.source.as_slice();
-    let (code, places) = (&studied.code, &studied.places);
-    let bytes = report(alloc, code, uses, keyboard, &plan, places, source, &studied.unfolded)?;
+    let bytes = report(
+        alloc,
+        &studied.code,
+        uses,
+        keyboard,
+        &plan,
+        &studied.places,
+        source,
+        &studied.unfolded,
+    )?;
     Ok(bytes)
 }
 

@@ -1,6 +1,6 @@
 -- The lines of a source, and the names that stand in them.
 -- Manual: the characters of a name.
-use Rattle.std.specs.Prelude.{Bool, List, None, Option, Some, [], bytes_eq, codes, if◌then◌else◌, length, map, nat_eq, nat_lt, slice_get, suc, take, zero, ℕ, ◌++◌, ◌-◌, ◌||◌, ◌∷◌, ◌≡◌}
+use Rattle.std.specs.Prelude.{Bool, List, None, Option, Some, [], bytes_eq, codes, if◌then◌else◌, length, map, nat_eq, nat_lt, suc, take, zero, ℕ, ◌++◌, ◌-◌, ◌||◌, ◌∷◌}
 use Rattle.std.specs.Str.Lines.{lines}
 use Rattle.occ_term.specs.Runs.{Names}
 use Rattle.occ_text.specs.Spelling.{is_name_part}

@@ -15,6 +15,6 @@ returns c = λ options source h.
       unfolded = h.unfolded;
       are = h.known;
       report = subst (λ u. IsReport t studied.code c.args.keyboard.now c.args.choices.now studied.places source u.cells c.in_ok-bytes.bytes.items) h.unfolds
-        (subst (λ s. IsReport t studied.code c.args.keyboard.now c.args.choices.now studied.places s studied.unfolded.cells c.in_ok-bytes.bytes.items) (c.as_slice-source.ensures.value ∙ h.text)
-        (subst (λ l. IsReport t studied.code c.args.keyboard.now l studied.places c.as_slice-source.result.now studied.unfolded.cells c.in_ok-bytes.bytes.items) c.in_ok-plan.ensures (c.in_ok-bytes.ensures t uses)));
+          (subst (λ s. IsReport t studied.code c.args.keyboard.now c.args.choices.now studied.places s studied.unfolded.cells c.in_ok-bytes.bytes.items) (c.as_slice-source.ensures.value ∙ h.text)
+          (subst (λ l. IsReport t studied.code c.args.keyboard.now l studied.places c.as_slice-source.result.now studied.unfolded.cells c.in_ok-bytes.bytes.items) c.in_ok-plan.ensures (c.in_ok-bytes.ensures t uses)));
     }
