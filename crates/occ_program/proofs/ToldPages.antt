@@ -1,7 +1,10 @@
 -- What is told of runs by what is known of their source.
 use Rattle.std.proofs.Common.{◌≡◌, ◌∙◌, List, [], ◌∷◌, arith, length, refl, subst, sym, take, ℕ}
 use Rattle.std.specs.Prelude.{MatchOption, None, Option, Some, Vec}
-use Rattle.occ_explaining.specs.Studied.{IsStudied, PagesBy}
+use Rattle.std.specs.Borrow.{Bor}
+use Rattle.occ_chart.specs.declared.part.Part.{Part}
+use Rattle.occ_explaining.specs.Explaining.{IsNamedChart}
+use Rattle.occ_explaining.specs.Studied.{ChartsBy, IsStudied, PagesBy}
 use Rattle.occ_explaining.specs.Shown.{PageOf}
 use Rattle.occ_explaining.specs.declared.studied.Studied.{Studied}
 use Rattle.occ_explore.specs.declared.exploration.Answer.{Answer}
@@ -13,6 +16,13 @@ use Rattle.occ_play_inputs.specs.declared.inputs.Inputs.{Inputs}
 use Rattle.occ_play_inputs.specs.declared.words.Words.{Words}
 use Rattle.occ_program.specs.Coming.{options_in}
 use Rattle.occ_program.specs.Pages.{AreRunsOf, ShowsAnswers, ShowsBy, ShowsRun, more_text}
+
+-- the chart of one run, where its parts are known by what they are
+pub charts_of : {A : Type 0} (s : Studied) (o : Options) (source keyboard keyboard' : List ℕ) (list list' : List Choice) (part : Part) (only without : List (Bor (List ℕ))) (text : Vec ℕ A)
+    → keyboard' ≡ keyboard → list' ≡ list → IsStudied o source s → ChartsBy s keyboard' list' part only without text → IsNamedChart o source keyboard list part only without text.items
+charts_of s o source keyboard keyboard' list list' part only without text a b h f =
+    subst (λ (l : List Choice). IsNamedChart o source keyboard l part only without text.items) b
+    (subst (λ k. IsNamedChart o source k list' part only without text.items) a (f o source h))
 
 -- the page of one run, where its parts are known by what they are
 pub shows_of : {A : Type 0} (s : Studied) (o : Options) (source source' keyboard keyboard' : List ℕ) (list list' : List Choice) (text : Vec ℕ A)

@@ -1,7 +1,7 @@
 //! Writes what the words ask to be told of a run, each into a file of its own.
 ghost use Rattle.std.specs.Prelude.{◌≡◌, IfErr, IfOk};
 ghost use Rattle.std.specs.Option.{option_copied};
-ghost use Rattle.occ_explaining.specs.Studied.{IsStudied};
+ghost use Rattle.occ_explaining.specs.Studied.{ChartsBy, IsStudied};
 ghost use Rattle.occ_play_inputs.specs.Failures.{FailsToWrite};
 ghost use Rattle.occ_program.specs.Coming.{RefusesSource, options_in};
 ghost use Rattle.occ_program.specs.Pages.{IsLeft, ShowsBy, TellsRun, ToldPage, form_in, part_in, path_told, stream_told};
@@ -147,22 +147,27 @@ fn text_of(
     let keyboard = inputs.keyboard.as_slice();
     let choices = played.choices.as_slice();
     match told {
-        Told::Chart => {
-            let (only, without) = (words.only.as_slice(), words.without.as_slice());
-            chart_of(
-                studied,
-                alloc,
-                keyboard,
-                choices,
-                part_of(words),
-                only,
-                without,
-            )
-        }
+        Told::Chart => charted(studied, alloc, words, keyboard, choices),
         Told::Trace => trace_of(studied, alloc, keyboard, choices, form_of(words)),
         Told::Turns => steps_of(studied, alloc, keyboard, choices),
         Told::Page => shown(studied, alloc, inputs.source.as_slice(), keyboard, choices),
     }
+}
+
+/// A chart of the run of this source by these choices, as the words want it.
+fn charted(
+    studied: &Studied,
+    alloc: Global,
+    words: &Words<'_>,
+    keyboard: &[u8],
+    choices: &[Choice],
+) -> Result<Vec<u8>, AllocError>
+    ensures { IfOk result
+        (ChartsBy studied.now keyboard.now choices.now (part_in words.now.arrows words.now.last) words.now.only.items words.now.without.items) }
+{
+    let (only, without) = (words.only.as_slice(), words.without.as_slice());
+    let part = part_of(words);
+    chart_of(studied, alloc, keyboard, choices, part, only, without)
 }
 
 /// A page that shows the run of this source by these choices.
