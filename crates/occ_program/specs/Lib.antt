@@ -1,3 +1,4 @@
+pub mod Charted
 pub mod Coming
 pub mod Live
 pub mod Pages

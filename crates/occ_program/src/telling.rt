@@ -1,8 +1,9 @@
 //! Writes what the words ask to be told of a run, each into a file of its own.
 ghost use Rattle.std.specs.Prelude.{◌≡◌, IfErr, IfOk};
 ghost use Rattle.std.specs.Option.{option_copied};
-ghost use Rattle.occ_explaining.specs.Studied.{ChartsBy, IsStudied};
+ghost use Rattle.occ_explaining.specs.Studied.{IsStudied};
 ghost use Rattle.occ_play_inputs.specs.Failures.{FailsToWrite};
+ghost use Rattle.occ_program.specs.Charted.{ChartsAsked};
 ghost use Rattle.occ_program.specs.Coming.{RefusesSource, options_in};
 ghost use Rattle.occ_program.specs.Pages.{IsLeft, ShowsBy, TellsRun, ToldPage, form_in, part_in, path_told, stream_told};
 
@@ -162,8 +163,7 @@ fn charted(
     keyboard: &[u8],
     choices: &[Choice],
 ) -> Result<Vec<u8>, AllocError>
-    ensures { IfOk result
-        (ChartsBy studied.now keyboard.now choices.now (part_in words.now.arrows words.now.last) words.now.only.items words.now.without.items) }
+    ensures { IfOk result (ChartsAsked words.now studied.now keyboard.now choices.now) }
 {
     let (only, without) = (words.only.as_slice(), words.without.as_slice());
     let part = part_of(words);
