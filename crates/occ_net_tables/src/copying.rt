@@ -1,5 +1,5 @@
 //! Frames at a fork and at a join.
-ghost use Rattle.std.specs.Prelude.{◌≡◌, IfOk};
+ghost use Rattle.std.specs.Prelude.{◌≡◌, ◌↔◌, IfOk, IsTrue, OnOk};
 ghost use Rattle.occ_term.specs.CellRows.{cells_of};
 ghost use Rattle.occ_net_replay.specs.Replay.{branch_frame, merged, taken_over};
 ghost use Rattle.occ_net_tables.specs.Room.{first_frame, first_frames, with_branch};
@@ -62,6 +62,55 @@ pub(crate) fn copy_tasks(
         copies.push(copy_task(alloc, task)?)?;
     }
     Ok(copies)
+}
+
+/// Whether both are the same.
+fn is_same(task: &Option<Task>, other: &Option<Task>) -> bool
+    ensures { IsTrue result ↔ (task.now ≡ other.now) }
+{
+    match (task, other) {
+        (Some(task), Some(other)) => task.is_same(other),
+        (None, None) => true,
+        _ => false,
+    }
+}
+
+/// Puts a copy of this task in the place of the other one, if they differ.
+fn match_task(alloc: Global, from: &Option<Task>, to: &mut Option<Task>) -> Result<(), AllocError>
+    ensures { OnOk result (to.new ≡ from.now) }
+{
+    if is_same(from, to) {
+        return Ok(());
+    }
+    *to = copy_task(alloc, from)?;
+    Ok(())
+}
+
+/// Makes the second tasks the same as the first ones. Those that are stay where they are.
+pub(crate) fn match_tasks(
+    alloc: Global,
+    from: &[Option<Task>],
+    to: &mut Vec<Option<Task>>,
+) -> Result<(), AllocError>
+    ensures { OnOk result (to.new.items ≡ from.now) }
+{
+    if to.len() != from.len() {
+        *to = copy_tasks(alloc, from)?;
+        return Ok(());
+    }
+    for place in 0..from.len() {
+        match_task(alloc, &from[place], &mut to[place])?;
+    }
+    Ok(())
+}
+
+/// Makes the second list a copy of the first one.
+pub(crate) fn refill<T: Copy>(from: &[T], to: &mut Vec<T>) -> Result<(), AllocError>
+    ensures { OnOk result (to.new.items ≡ from.now) }
+{
+    to.clear();
+    to.extend_from_slice(from)?;
+    Ok(())
 }
 
 /// Takes over the values of these cells.
