@@ -284,30 +284,32 @@ function showCircle() {
 
 const RANKS = { keyboard: -1, screen: 1e9, error: 1e9 + 1 };
 const rankOf = (end) => RANKS[end] ?? +end.slice(1);
-const columns = [...communications.keys()].sort((one, other) => rankOf(one) - rankOf(other));
 const wordsOf = (entry) => entry.words || entry.name;
 const namedBy = (end) => (/^p\d/.test(end) && names[end.slice(1)]) || "";
-const widths = columns.map((end) => Math.max(72, Math.min(18, Math.max(end.length, namedBy(end).length)) * LETTER + 14));
-/** For each column the room that words need which stand between it and others on its left. */
-const rooms = new Map(columns.map((end) => [end, new Map()]));
-for (const entry of made) {
-  const [left, right] = [entry.sender, entry.receiver].sort((one, other) => rankOf(one) - rankOf(other));
-  const room = Math.min(MOST_LETTERS, wordsOf(entry).length) * LETTER + 24;
-  rooms.get(right).set(left, Math.max(room, rooms.get(right).get(left) ?? 0));
-}
+let columns, width;
 const middles = new Map();
-let width = GUTTER;
-columns.forEach((end, place) => {
-  let middle = width + widths[place] / 2;
-  for (const [left, room] of rooms.get(end)) middle = Math.max(middle, middles.get(left) + room);
-  middles.set(end, middle);
-  width = middle + widths[place] / 2;
-});
-width += 8;
+/** Places a column for each end of these communications, with room for their words between columns. */
+function placeColumns(entries) {
+  const rooms = new Map(entries.flatMap((entry) => [[entry.sender, new Map()], [entry.receiver, new Map()]]));
+  columns = [...rooms.keys()].sort((one, other) => rankOf(one) - rankOf(other));
+  for (const entry of entries) {
+    const [left, right] = [entry.sender, entry.receiver].sort((one, other) => rankOf(one) - rankOf(other));
+    const room = Math.min(MOST_LETTERS, wordsOf(entry).length) * LETTER + 24;
+    rooms.get(right).set(left, Math.max(room, rooms.get(right).get(left) ?? 0));
+  }
+  width = GUTTER;
+  for (const end of columns) {
+    const own = Math.max(72, Math.min(18, Math.max(end.length, namedBy(end).length)) * LETTER + 14);
+    const middle = Math.max(width + own / 2, ...[...rooms.get(end)].map(([left, room]) => middles.get(left) + room));
+    middles.set(end, middle);
+    width = middle + own / 2;
+  }
+  width += 8;
+}
 const cut = (text, most) => (text.length > most ? `${text.slice(0, Math.max(1, most - 1))}\u2026` : text);
 
-function showHeads() {
-  const svg = draw($("heads"), "svg", { width, height: 40, viewBox: `0 0 ${width} 40` });
+function showHeads(part) {
+  const svg = draw(part, "svg", { width, height: 40, viewBox: `0 0 ${width} 40` });
   for (const end of columns) {
     const head = draw(svg, "text", { x: middles.get(end), y: 15, "text-anchor": "middle", "font-weight": "bold" }, end);
     draw(svg, "text", { x: middles.get(end), y: 33, "text-anchor": "middle" }, cut(namedBy(end), 18));
@@ -428,13 +430,15 @@ if (runs.length > 1) {
   $("answers").hidden = false;
   $("answers").addEventListener("change", () => (location.hash = `${+$("answers").value + 1}.0`));
 }
-/** A part of the printed chart, under the heads. */
+/** A part of the printed chart, with the columns that it needs, under their heads. */
 function printed(from, to) {
+  placeColumns(made.slice(from, to));
   const part = add(document.createDocumentFragment(), "div", "printed");
+  showHeads(part);
   const svg = arrows(from, to), height = (to - from) * ROW + 14;
   svg.setAttribute("viewBox", `0 ${from * ROW} ${width} ${height}`);
   svg.setAttribute("height", height);
-  part.append($("heads").firstChild.cloneNode(true), svg);
+  part.append(svg);
   return part;
 }
 
@@ -446,6 +450,7 @@ addEventListener("beforeprint", () => {
   $("body").style.height = "auto";
 });
 addEventListener("afterprint", () => {
+  placeColumns(made);
   $("body").style.height = `${heightTo(made.length)}px`;
   showChart();
 });
@@ -454,5 +459,6 @@ $("body").style.height = `${heightTo(made.length)}px`;
 // what table and chart need, so that neither moves from turn to turn
 $("side").style.setProperty("--table", `${(mostStanding() + 1) * 26 + 34}px`);
 $("side").style.setProperty("--drawn", `${heightTo(made.length) + 92}px`);
-showHeads();
+placeColumns(made);
+showHeads($("heads"));
 go(turnAsked());

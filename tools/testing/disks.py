@@ -14,18 +14,21 @@ LONG = "PROC main (CHAN OF BYTE keyboard, screen)\n  SEQ i = 0 FOR 1000\n    scr
 SCREEN = b"A" * 1000
 TYPED = b"t" * 5000
 OLD = "what stood here before\n"
-# how many bytes a file may have where the disk is full
-FULL = 4096
+# its trace and its turns come in several pieces
+LETTERS = 10_000
+LONGER = LONG.replace("1000", str(LETTERS))
+# how many bytes a file may have where the disk is full, and where it is full behind the first piece
+FULL, LATER = 4096, 100_000
 WRITTEN = ["--record", "--typed", "--chart", "--trace-to", "--steps", "--page"]
 FAILED = b"write failed\n"
 OWN_FILE = b"--record, --typed, --chart, --trace-to, --steps, --page and --graph each write into a file of their own\n"
 NOBODY = 65534
 
 
-def full():
+def full(size=FULL):
     """The disk of this process is full at so many bytes a file."""
     signal.signal(signal.SIGXFSZ, signal.SIG_IGN)
-    resource.setrlimit(resource.RLIMIT_FSIZE, (FULL, FULL))
+    resource.setrlimit(resource.RLIMIT_FSIZE, (size, size))
 
 
 def nobody():
@@ -50,6 +53,23 @@ def no_room(program):
                 left = {path.name: path.read_text() for path in folder.iterdir()}
                 if came != (6, SCREEN, FAILED) or left != {"x.occ": LONG, **files}:
                     yield f"{word}: {came[0]} {came[2]!r} {sorted(left)}"
+
+
+def pieces(program):
+    """A text of several pieces is written whole, or not at all."""
+    for words in (["--trace-to", "kept"], ["--json", "--trace-to", "kept"], ["--steps", "kept"]):
+        with room({"x.occ": LONGER}) as folder:
+            came = run(program, folder, [*words, "x.occ"])
+            kept = (folder / "kept").read_text()
+            if came[0] or len(kept) < 2 * LATER or [line for line in kept.splitlines() if not line]:
+                yield f"{words}: {came[0]} {came[2]!r} {len(kept)}"
+            if words[0] == "--trace-to" and not run(program, folder, ["--trace", "x.occ"])[1].endswith(b"\n" + kept.encode()):
+                yield "another trace than that of --trace"
+            if words[0] == "--steps" and [int(line.split()[0]) for line in kept.splitlines()] != list(range(1, kept.count("\n") + 1)):
+                yield "turns without their numbers"
+            came = run(program, folder, [*words, "x.occ"], lambda: full(LATER))
+            if came[0] != 6 or (folder / "kept").read_text() != kept or len(list(folder.iterdir())) > 2:
+                yield f"{words} on a disk that is full behind the first piece: {came[0]} {came[2]!r}"
 
 
 def permissions(program):
@@ -151,7 +171,7 @@ def numbers(program):
                 yield f"{pair}: {came[0]} {came[2]!r}"
 
 
-CHECKS = [no_room, permissions, links, folders, numbers]
+CHECKS = [no_room, pieces, permissions, links, folders, numbers]
 
 
 def jobs():

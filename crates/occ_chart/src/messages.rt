@@ -32,8 +32,8 @@ fn write_one(
 {
     match primitive {
         Primitive::Byte => write_byte(alloc, out, value),
-        Primitive::Bool => write_value(alloc, out, Primitive::Bool, value),
-        Primitive::Int => write_value(alloc, out, Primitive::Int, value),
+        Primitive::Bool => write_value(out, Primitive::Bool, value),
+        Primitive::Int => write_value(out, Primitive::Int, value),
     }
 }
 
@@ -42,12 +42,12 @@ fn write_item(alloc: Global, out: &mut Vec<u8>, part: &Part) -> Result<(), Alloc
 {
     match part {
         Part::One(primitive, value) => write_one(alloc, out, *primitive, *value),
-        Part::Many(primitive, values) => write_array(alloc, out, *primitive, values.as_slice()),
+        Part::Many(primitive, values) => write_array(out, *primitive, values.as_slice()),
         Part::Counted(primitive, values) => {
             let count = values.as_slice().len() as u64;
             let head = format!(in alloc; "{count}::")?;
             out.extend_from_slice(head.as_bytes())?;
-            write_array(alloc, out, *primitive, values.as_slice())
+            write_array(out, *primitive, values.as_slice())
         }
     }
 }

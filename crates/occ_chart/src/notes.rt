@@ -136,7 +136,7 @@ fn circle_words(alloc: Global, circle: &[u32]) -> Result<Vec<u8>, AllocError>
     ensures { IfOk result (λ words. words.items ≡ circle_words circle.now) }
 {
     let mut words = Vec::from_slice(alloc, b"a circle waits:")?;
-    write_numbers(alloc, &mut words, circle)?;
+    write_numbers(&mut words, circle)?;
     Ok(words)
 }
 

@@ -53,7 +53,6 @@ pub fn bytes_twice(
 
 /// A message is written in one way.
 pub fn message_twice(
-    alloc: Global,
     one: &mut Vec<u8>,
     other: &mut Vec<u8>,
     message: &Message,
@@ -64,8 +63,8 @@ pub fn message_twice(
     ensures { BothGive (λ _ _. one.new.items ≡ other.new.items) result.0 result.1 }
 {
     (
-        write_message(alloc, one, message, chan, channels),
-        write_message(alloc, other, message, chan, channels),
+        write_message(one, message, chan, channels),
+        write_message(other, message, chan, channels),
     )
 }
 
@@ -88,7 +87,6 @@ pub fn name_twice(
 
 /// A value is written in one way.
 pub fn value_twice(
-    alloc: Global,
     one: &mut Vec<u8>,
     other: &mut Vec<u8>,
     primitive: Primitive,
@@ -98,8 +96,8 @@ pub fn value_twice(
     ensures { BothGive (λ _ _. one.new.items ≡ other.new.items) result.0 result.1 }
 {
     (
-        write_value(alloc, one, primitive, value),
-        write_value(alloc, other, primitive, value),
+        write_value(one, primitive, value),
+        write_value(other, primitive, value),
     )
 }
 

@@ -7,3 +7,4 @@ mod Members
 mod Named
 mod NotedInputs
 pub mod Refusing
+mod Traces

@@ -8,6 +8,7 @@ pub mod Typing
 pub mod Objects
 pub mod Unreached
 pub mod Traced
+pub mod TraceLeft
 pub mod ColumnNames
 pub mod Charting
 pub mod Studied

@@ -1,9 +1,10 @@
 -- What is told of a run by what is known of its source.
 -- Manual: nothing; this is (own).
 use Rattle.std.specs.Borrow.{Bor}
-use Rattle.std.specs.Prelude.{List, Option, Vec, length, map, min, ℕ, ◌≡◌}
+use Rattle.std.specs.Prelude.{List, OnOk, Option, Result, Vec, length, map, min, ℕ, ◌≡◌}
 use Rattle.occ_chart.specs.declared.part.Part.{Part}
 use Rattle.occ_ends.specs.Ends.{all_using, noted_for}
+use Rattle.occ_files.specs.Leaving.{LeavesText, Written}
 use Rattle.occ_shown.specs.declared.pages.RunTexts.{RunTexts}
 use Rattle.occ_net_replay.specs.declared.choice.Choice.{Choice}
 use Rattle.occ_play.specs.declared.playing.Options.{Options}
@@ -32,11 +33,24 @@ ForSource s Tells = (options : Options) (source : List ℕ) → IsStudied option
 abbrev pub ReportsBy : {A : Type 0} → Studied → (keyboard : List ℕ) → List Choice → Vec ℕ A → Type 0
 ReportsBy s keyboard list bytes = ForSource s (λ options source. ReportsOn options source keyboard list bytes.items)
 
+abbrev pub AreStepsBy : Studied → (keyboard : List ℕ) → List Choice → List ℕ → Type 0
+AreStepsBy s keyboard list text = ForSource s (λ options source. StepsOf options source keyboard list text)
+
 abbrev pub StepsBy : {A : Type 0} → Studied → (keyboard : List ℕ) → List Choice → Vec ℕ A → Type 0
-StepsBy s keyboard list bytes = ForSource s (λ options source. StepsOf options source keyboard list bytes.items)
+StepsBy s keyboard list bytes = AreStepsBy s keyboard list bytes.items
+
+abbrev pub IsTraceBy : Studied → (keyboard : List ℕ) → List Choice → Form → List ℕ → Type 0
+IsTraceBy s keyboard list form text = ForSource s (λ options source. IsTraced options source keyboard list form text)
 
 abbrev pub TracesBy : {A : Type 0} → Studied → (keyboard : List ℕ) → List Choice → Form → Vec ℕ A → Type 0
-TracesBy s keyboard list form bytes = ForSource s (λ options source. IsTraced options source keyboard list form bytes.items)
+TracesBy s keyboard list form bytes = IsTraceBy s keyboard list form bytes.items
+
+-- where that is done, such a text was written at this path, and nothing else
+abbrev pub SavesTrace : {X E F : Type 0} → Result X E → (F → Option (List Written)) → (old new : F) → (path : List ℕ) → Studied → (keyboard : List ℕ) → List Choice → Form → Type 0
+SavesTrace done left old new path s keyboard list form = OnOk done (LeavesText (IsTraceBy s keyboard list form) (left old) (left new) path)
+
+abbrev pub SavesSteps : {X E F : Type 0} → Result X E → (F → Option (List Written)) → (old new : F) → (path : List ℕ) → Studied → (keyboard : List ℕ) → List Choice → Type 0
+SavesSteps done left old new path s keyboard list = OnOk done (LeavesText (AreStepsBy s keyboard list) (left old) (left new) path)
 
 abbrev pub ChartsBy : {A : Type 0} → Studied → (keyboard : List ℕ) → List Choice → Part → (only without : List (Bor (List ℕ))) → Vec ℕ A → Type 0
 ChartsBy s keyboard list part only without bytes = ForSource s (λ options source. IsNamedChart options source keyboard list part only without bytes.items)

@@ -1,7 +1,7 @@
 //! What is told behind the first line of a refused text, and of a run: [`explained_fault`] has the explanation of a refusal,
 //! [`refusal_object`] the same as an object of JSON, [`unreached_told`] the PROCs that no call reaches. [`study`] reads a source once;
 //! by what it finds [`report_of`] tells what each process stands at that is left, [`chart_of`] draws a chart with the names of the PROCs, [`nameless`] finds a word that names none of its columns,
-//! [`steps_of`] has the turns of a run, [`trace_of`] its trace for a file, [`run_texts`] what a page has of it that [`page_of`] makes, and [`past_of`] tells whether
+//! [`save_steps`] writes the turns of a run into a file, [`save_trace`] its trace, [`run_texts`] what a page has of it that [`page_of`] makes, and [`past_of`] tells whether
 //! choices name who is ready. [`may_input`] tells whether what is typed can change anything.
 #![tactic(auto)]
 
@@ -20,6 +20,7 @@ pub mod refused;
 pub mod reported;
 pub mod stepped;
 pub mod studied;
+mod trace_pieces;
 pub mod tracing;
 mod unchecked;
 pub mod unreached;
@@ -33,7 +34,7 @@ pub use paged::{page_of, run_texts};
 pub use past::past_of;
 pub use refused::explained_fault;
 pub use reported::report_of;
-pub use stepped::steps_of;
+pub use stepped::save_steps;
 pub use studied::{Studied, study};
-pub use tracing::{Form, trace_of};
+pub use tracing::{Form, save_trace};
 pub use unreached::unreached_told;

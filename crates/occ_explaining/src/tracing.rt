@@ -1,18 +1,17 @@
 //! The trace of a run as a text of its own.
-ghost use Rattle.std.specs.Prelude.{◌≡◌, IfOk};
-ghost use Rattle.occ_explaining.specs.Studied.{TracesBy};
-ghost use Rattle.occ_shown.specs.Answers.{entries_in};
-ghost use Rattle.occ_term.specs.Runs.{entries};
-ghost use Rattle.occ_explaining.specs.Traced.{IsFormText};
+ghost use Rattle.std.specs.Prelude.{IfOk, OnErr, OnOk};
+ghost use Rattle.occ_net_tables.specs.Outcomes.{IsOutcome};
+ghost use Rattle.occ_explaining.specs.Studied.{SavesTrace, TracesBy};
+ghost use Rattle.occ_files.specs.Leaving.{LeavesNothing};
 
 use crate::reported::plan_of;
 use crate::studied::Studied;
-use occ_board::Shown;
+use crate::trace_pieces::TracePieces;
+use occ_files::{Folder, whole_text};
 use occ_net_replay::Choice;
-use occ_net_tables::{Trace, run};
-use occ_shown::{json_lines, shown_as, watch_lines};
-use occ_term::{Channel, Ending};
+use occ_net_tables::{Outcome, run};
 use std::alloc::{AllocError, Global};
+use std::io;
 
 /// How a trace is written.
 #[derive(Clone, Copy, Debug, Drop)]
@@ -23,37 +22,41 @@ pub enum Form {
     Json,
 }
 
-/// The communications of a trace, numbered from 1, with the names of these channels.
-fn shown_list(alloc: Global, trace: &Trace, channels: &[Channel]) -> Result<Vec<Shown>, AllocError>
-    ensures { IfOk result (λ list. list.items ≡ entries_in channels.now trace.now) }
+/// What the run of a source by these choices comes to.
+fn outcome_of(
+    studied: &Studied,
+    alloc: Global,
+    keyboard: &[u8],
+    choices: &[Choice],
+) -> Result<Outcome, AllocError>
+    ensures { IfOk result (IsOutcome studied.now.code keyboard.now choices.now) }
 {
-    let mut list = Vec::new(alloc);
-    let mut number = 0;
-    for communication in trace.entries() {
-        number += 1;
-        let shown = shown_as(alloc, number, &communication, channels)?;
-        list.push(shown)?;
-    }
-    Ok(list)
+    let plan = plan_of(alloc, choices)?;
+    run(alloc, &studied.code, keyboard, &plan)
 }
 
-/// The lines of the communications, and the line of the ending.
-fn lines_of(alloc: Global, list: &[Shown], ending: Ending) -> Result<Vec<u8>, AllocError>
-    ensures { IfOk result (IsFormText Form.Lines list.now ending) }
+/// Writes the trace of the run of a source by these choices, with its ending, in this form, into the file of this path. Of its text a
+/// part is held at a time.
+///
+/// # Errors
+///
+/// A refused growth, and what the system says of what it could not do.
+pub fn save_trace<F: Folder>(
+    folder: &mut F,
+    path: &str,
+    studied: &Studied,
+    alloc: Global,
+    keyboard: &[u8],
+    choices: &[Choice],
+    form: Form,
+) -> io::Result<()>
+    ensures saved { SavesTrace result F.left folder.old folder.new path.now studied.now keyboard.now
+        choices.now form }
+    ensures failed { OnErr result (LeavesNothing (F.left folder.old) (F.left folder.new)) }
 {
-    let mut lines = watch_lines(alloc, list)?;
-    let line = format!(in alloc; "{ending}\n")?;
-    lines.extend_from_slice(line.as_bytes())?;
-    Ok(lines)
-}
-
-fn text_of(alloc: Global, list: &[Shown], ending: Ending, form: Form) -> Result<Vec<u8>, AllocError>
-    ensures { IfOk result (IsFormText form list.now ending) }
-{
-    match form {
-        Form::Lines => lines_of(alloc, list, ending),
-        Form::Json => json_lines(alloc, list, ending),
-    }
+    let outcome = outcome_of(studied, alloc, keyboard, choices)?;
+    let mut pieces = TracePieces::new(alloc, studied.code.channels(), &outcome, form);
+    folder.save(path, &mut pieces)
 }
 
 /// The trace of the run of a source by these choices, with its ending, in this form.
@@ -61,7 +64,7 @@ fn text_of(alloc: Global, list: &[Shown], ending: Ending, form: Form) -> Result<
 /// # Errors
 ///
 /// A refused growth.
-pub fn trace_of(
+pub(crate) fn trace_of(
     studied: &Studied,
     alloc: Global,
     keyboard: &[u8],
@@ -70,9 +73,7 @@ pub fn trace_of(
 ) -> Result<Vec<u8>, AllocError>
     ensures { IfOk result (TracesBy studied.now keyboard.now choices.now form) }
 {
-    let plan = plan_of(alloc, choices)?;
-    let outcome = run(alloc, &studied.code, keyboard, &plan)?;
-    let list = shown_list(alloc, &outcome.trace, studied.code.channels())?;
-    let bytes = text_of(alloc, list.as_slice(), outcome.ending, form)?;
-    Ok(bytes)
+    let outcome = outcome_of(studied, alloc, keyboard, choices)?;
+    let mut pieces = TracePieces::new(alloc, studied.code.channels(), &outcome, form);
+    whole_text(alloc, &mut pieces)
 }

@@ -1,3 +1,4 @@
 pub mod Ends
 pub mod Joins
 mod Known
+mod PiecesWritten

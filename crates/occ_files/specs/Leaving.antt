@@ -1,6 +1,6 @@
 -- What a folder has after a file was written into it.
 -- Manual: nothing; this is (own).
-use Rattle.std.specs.Prelude.{List, None, Option, Some, [], take, ℕ, ◌++◌, ◌∷◌, ◌≡◌, ◌⊎◌, ⊤}
+use Rattle.std.specs.Prelude.{List, None, Option, Some, [], take, ℕ, ◌++◌, ◌∷◌, ◌≡◌, ⊤}
 
 -- the path of a file, and what was written into it
 abbrev pub Written : Type 0
@@ -22,6 +22,12 @@ LeavesAll (Some files) (Some more) added = more ≡ files ++ added
 abbrev pub LeavesOne : Option (List Written) → Option (List Written) → (path text : List ℕ) → Type 0
 LeavesOne old new path text = LeavesAll old new ((path, text) ∷ [])
 
+-- one was, with such a text
+pub record LeavesText (Is : List ℕ → Type 0) (old new : Option (List Written)) (path : List ℕ) : Type 0 where
+  pub text : List ℕ
+  pub is : Is text
+  pub left : LeavesOne old new path text
+
 -- ---- of a folder, and what is written into it
 
 -- these files were
@@ -31,7 +37,3 @@ AddsFiles left old new files = LeavesAll (left old) (left new) files
 -- some of these, from the first one on
 abbrev pub AddsSome : {F : Type 0} → (F → Option (List Written)) → (old new : F) → List Written → Type 0
 AddsSome left old new files = (n : ℕ) × AddsFiles left old new (take n files)
-
--- this one was, or nothing was
-abbrev pub MayAdd : {F : Type 0} → (F → Option (List Written)) → (old new : F) → Written → Type 0
-MayAdd left old new file = LeavesNothing (left old) (left new) ⊎ AddsFiles left old new (file ∷ [])

@@ -1,4 +1,5 @@
 //! Where a program leaves its files.
+use crate::pieces::Pieces;
 use crate::saving::save;
 use std::alloc::Global;
 use std::io;
@@ -7,19 +8,23 @@ use std::rt::Files;
 /// Where a program leaves its files. What a function that is generic over it promises of files, it promises of each place
 /// that can tell what was written into it.
 pub trait Folder {
-    ghost use Rattle.std.specs.Prelude.{Option, List};
-    ghost use Rattle.occ_files.specs.Leaving.{LeavesOne, Written};
+    ghost use Rattle.std.specs.Prelude.{Option, List, OnErr, OnOk};
+    ghost use Rattle.occ_files.specs.Leaving.{LeavesNothing, LeavesText, Written};
 
-    /// What was written, or tried to be, in this order; none where it isn't known.
+    /// The files that were written whole, in this order; none where it isn't known.
     ghost left: { Self → Option (List Written) };
 
-    /// Writes the file of this path: it has this text then, whatever stood there.
+    /// Writes the file of this path: it has this text then, whatever stood there. Where that fails, it is not among those that
+    /// were written.
     ///
     /// # Errors
     ///
-    /// What the system says of what it could not do.
-    fn save(&mut self, path: &str, text: &[u8]) -> io::Result<()>
-        ensures { LeavesOne (left self.old) (left self.new) path.now text.now };
+    /// What the system says of what it could not do; and a refused growth.
+    fn save<P: Pieces>(&mut self, path: &str, pieces: &mut P) -> io::Result<()>
+        requires { P.can_write pieces.old }
+        ensures saved { OnOk result
+            (LeavesText (P.is_left pieces.old) (left self.old) (left self.new) path.now) }
+        ensures failed { OnErr result (LeavesNothing (left self.old) (left self.new)) };
 }
 
 /// The files of the machine, each written by [`save`].
@@ -40,7 +45,7 @@ impl<'a, R: Files> Folder for Disk<'a, R> {
 
     ghost left = { λ _. None };
 
-    fn save(&mut self, path: &str, text: &[u8]) -> io::Result<()> {
-        save(self.files, self.alloc, path, text)
+    fn save<P: Pieces>(&mut self, path: &str, pieces: &mut P) -> io::Result<()> {
+        save(self.files, self.alloc, path, pieces)
     }
 }

@@ -1,7 +1,8 @@
 //! Files that are written whole, or not at all.
 ghost use Rattle.std.specs.Prelude.{OnOk};
-ghost use Rattle.std.specs.Io.KnownBytes.{Appends};
+ghost use Rattle.occ_files.specs.Pieces.{AppendsText, IsSomeText, WritesSome};
 
+use crate::pieces::{HELD, Pieces};
 use std::alloc::Global;
 use std::fs::{File, Metadata, OpenFile, OpenOptions, Permissions};
 use std::io::{Error, ErrorKind, Write};
@@ -12,38 +13,51 @@ use std::{fs, io};
 /// How many names are tried for a file beside another.
 const MOST_NAMES: u32 = 100;
 
-/// Writes the file of this path: its whole text goes into a new file beside it, which then takes its place with the
-/// permissions of the old one. So where that fails, what stood there stands as it was. Where no file can be made
+/// Writes the file of this path: its whole text goes piece by piece into a new file beside it, which then takes its place with
+/// the permissions of the old one. So where that fails, what stood there stands as it was. Where no file can be made
 /// beside it, and what is no plain file, as a device or a link, is written in its place.
 ///
 /// # Errors
 ///
 /// What the system says of what it could not do.
-pub fn save<R: Files>(rt: &R, alloc: Global, path: &str, text: &[u8]) -> io::Result<()> {
+pub fn save<R: Files, P: Pieces>(
+    rt: &R,
+    alloc: Global,
+    path: &str,
+    pieces: &mut P,
+) -> io::Result<()>
+    requires { P.can_write pieces.old }
+    ensures { OnOk result (IsSomeText (P.is_left pieces.old)) }
+{
     match fs::symlink_metadata(rt, path) {
-        Ok(old) if old.is_file() => replace(rt, alloc, path, text, Some(old.permissions())),
-        Ok(_) => write_in_place(rt, path, text),
-        Err(error) if error.kind() == ErrorKind::NotFound => replace(rt, alloc, path, text, None),
+        Ok(old) if old.is_file() => replace(rt, alloc, path, pieces, Some(old.permissions())),
+        Ok(_) => write_in_place(rt, alloc, path, pieces),
+        Err(error) if error.kind() == ErrorKind::NotFound => replace(rt, alloc, path, pieces, None),
         Err(error) => Err(error),
     }
 }
 
 /// Writes a new file beside the path and moves it there.
-fn replace<R: Files>(
+fn replace<R: Files, P: Pieces>(
     rt: &R,
     alloc: Global,
     path: &str,
-    text: &[u8],
+    pieces: &mut P,
     permissions: Option<Permissions>,
-) -> io::Result<()> {
+) -> io::Result<()>
+    requires { P.can_write pieces.old }
+    ensures { OnOk result (IsSomeText (P.is_left pieces.old)) }
+{
     for number in 0..MOST_NAMES {
         let beside = format!(in alloc; "{path}.new{number}")?;
         match make(rt, beside.as_str()) {
-            Ok(file) => return finish(rt, file, beside.as_str(), path, text, permissions),
+            Ok(file) => {
+                return finish(rt, alloc, file, beside.as_str(), path, pieces, permissions);
+            }
             Err(error) => match error.kind() {
                 ErrorKind::AlreadyExists => {}
                 ErrorKind::PermissionDenied | ErrorKind::InvalidFilename => {
-                    return write_in_place(rt, path, text);
+                    return write_in_place(rt, alloc, path, pieces);
                 }
                 _ => return Err(error),
             },
@@ -61,16 +75,20 @@ fn make<R: Files>(rt: &R, path: &str) -> io::Result<R::File> {
 }
 
 /// Fills the file beside the path, and moves it there. Where that fails, the file beside it is gone.
-fn finish<R: Files>(
+fn finish<R: Files, P: Pieces>(
     rt: &R,
+    alloc: Global,
     file: R::File,
     beside: &str,
     path: &str,
-    text: &[u8],
+    pieces: &mut P,
     permissions: Option<Permissions>,
-) -> io::Result<()> {
+) -> io::Result<()>
+    requires { P.can_write pieces.old }
+    ensures { OnOk result (IsSomeText (P.is_left pieces.old)) }
+{
     let mut file = file;
-    let done = match fill(&mut file, text, permissions) {
+    let done = match fill(&mut file, alloc, pieces, permissions) {
         Ok(()) => fs::rename(rt, beside, path),
         Err(error) => Err(error),
     };
@@ -81,14 +99,16 @@ fn finish<R: Files>(
 }
 
 /// Writes the whole text, and gives the file its permissions.
-fn fill<F: Write + OpenFile>(
+fn fill<F: Write + OpenFile, P: Pieces>(
     file: &mut F,
-    text: &[u8],
+    alloc: Global,
+    pieces: &mut P,
     permissions: Option<Permissions>,
 ) -> io::Result<()>
-    ensures { OnOk result (Appends (F.contents file.old) (F.contents file.new) text.now) }
+    requires { P.can_write pieces.old }
+    ensures { OnOk result (AppendsText F.contents P.is_left file.old file.new pieces.old) }
 {
-    file.write_all(text)?;
+    write_whole(file, alloc, pieces)?;
     if let Some(permissions) = permissions {
         file.set_permissions(permissions)?;
     }
@@ -96,16 +116,42 @@ fn fill<F: Write + OpenFile>(
 }
 
 /// Writes over what has this path.
-fn write_in_place<R: Files>(rt: &R, path: &str, text: &[u8]) -> io::Result<()> {
+fn write_in_place<R: Files, P: Pieces>(
+    rt: &R,
+    alloc: Global,
+    path: &str,
+    pieces: &mut P,
+) -> io::Result<()>
+    requires { P.can_write pieces.old }
+    ensures { OnOk result (IsSomeText (P.is_left pieces.old)) }
+{
     let mut file = File::create(rt, path)?;
-    write_whole(&mut file, text)
+    write_whole(&mut file, alloc, pieces)
 }
 
-/// Writes the whole text.
-fn write_whole<W: Write>(out: &mut W, text: &[u8]) -> io::Result<()>
-    ensures { OnOk result (Appends (W.contents out.old) (W.contents out.new) text.now) }
+/// Writes the whole text, of which a part is held at a time.
+fn write_whole<W: Write, P: Pieces>(out: &mut W, alloc: Global, pieces: &mut P) -> io::Result<()>
+    requires { P.can_write pieces.old }
+    ensures { OnOk result (AppendsText W.contents P.is_left out.old out.new pieces.old) }
 {
-    out.write_all(text)
+    let mut held = Vec::new(alloc);
+    while pieces.write_next(&mut held)? {
+        write_held(out, &mut held)?;
+    }
+    out.write_all(held.as_slice())
+}
+
+/// Writes the bytes that are held, where there are enough of them.
+fn write_held<W: Write>(out: &mut W, held: &mut Vec<u8>) -> io::Result<()>
+    ensures { OnOk result (WritesSome (W.contents out.old) (W.contents out.new) held.old.items
+        held.new.items) }
+{
+    if held.len() < HELD {
+        return Ok(());
+    }
+    out.write_all(held.as_slice())?;
+    held.clear();
+    Ok(())
 }
 
 /// Whether two paths name one plain file that there is, or one name in one folder.

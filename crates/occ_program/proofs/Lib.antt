@@ -3,6 +3,7 @@ mod LiveRuns
 mod Paths
 mod Recorded
 mod Statuses
+mod ToldFiles
 mod ToldPages
 mod Terminals
 mod Told

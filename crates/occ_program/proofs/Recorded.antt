@@ -1,5 +1,5 @@
 -- Files that are written one after the other.
-use Rattle.std.proofs.Common.{◌≡◌, ◌∙◌, ◌⊎◌, ◌++◌, ◌∷◌, ◌+◌, ◌<◌, ℕ, zero, suc, List, [], None, Option, Some, arith, ap, append_assoc, get_or, inl, inr, length, refl, subst, sym, take, ◌≤◌}
+use Rattle.std.proofs.Common.{◌≡◌, ◌∙◌, ◌++◌, ◌∷◌, ◌+◌, ◌<◌, ℕ, zero, suc, List, [], None, Option, Some, arith, ap, append_assoc, get_or, length, refl, subst, sym, take, ◌≤◌}
 use Rattle.std.specs.Prelude.{Result, Ok, Err, OnErr, OnOk, ⊤}
 use Rattle.std.specs.Borrow.{Bor}
 use Rattle.occ_play_inputs.specs.declared.failure.Failure.{Failure}
@@ -72,25 +72,23 @@ all_so_far first old new stem answers i number a within is same h one =
     subst (LeavesAll first new) (next_file stem 1 answers i a within is)
     (one_more first old new (take i (answer_files stem 1 answers)) (answer_path stem (1 + i)) (choice_text a.choices.items) h (subst (λ k. LeavesOne old new (answer_path stem k) (choice_text a.choices.items)) same one))
 
--- the first so many files, where the next one failed: it was not begun, or it is there
+-- the first so many files, where the next one failed
 pub first_files : (first old new : Option (List Written)) (stem : List ℕ) (answers : List Answer) (i number : ℕ) (a : Answer) → i < length answers → a ≡ get_or answers i a → number ≡ 1 + i
-    → LeavesAll first old (take i (answer_files stem 1 answers)) → LeavesNothing old new ⊎ LeavesOne old new (answer_path stem number) (choice_text a.choices.items)
+    → LeavesAll first old (take i (answer_files stem 1 answers)) → LeavesNothing old new
     → (n : ℕ) × LeavesAll first new (take n (answer_files stem 1 answers))
-first_files first old new stem answers i number a within is same h (inl none) = (i, no_more first old new (take i (answer_files stem 1 answers)) h none)
-first_files first old new stem answers i number a within is same h (inr one) = (suc i, all_so_far first old new stem answers i number a within is same h one)
+first_files first old new stem answers i number a within is same h none = (i, no_more first old new (take i (answer_files stem 1 answers)) h none)
 
 -- the one file of the one answer
 pub one_recorded : (path : Option (Bor (List ℕ))) (stem : Bor (List ℕ)) (a : Answer) (text : List Choice) (old new : Option (List Written)) (r : Result ⊤ Failure) → path ≡ Some stem → text ≡ a.choices.items
-    → OnOk r (LeavesOne old new (answer_path stem.now 1) (choice_text text)) → OnErr r (LeavesNothing old new ⊎ LeavesOne old new (answer_path stem.now 1) (choice_text text)) → AreRecorded path (a ∷ []) old new r
+    → OnOk r (LeavesOne old new (answer_path stem.now 1) (choice_text text)) → OnErr r (LeavesNothing old new) → AreRecorded path (a ∷ []) old new r
 one_recorded path stem a text old new r named same ok err = subst (λ p. AreRecorded p (a ∷ []) old new r) (sym named) (by r ok err)
   where
     said : LeavesOne old new (answer_path stem.now 1) (choice_text text) → LeavesOne old new (answer_path stem.now 1) (choice_text a.choices.items)
     said h = subst (λ t. LeavesOne old new (answer_path stem.now 1) (choice_text t)) same h
 
-    by : (r : Result ⊤ Failure) → OnOk r (LeavesOne old new (answer_path stem.now 1) (choice_text text)) → OnErr r (LeavesNothing old new ⊎ LeavesOne old new (answer_path stem.now 1) (choice_text text)) → AreRecorded (Some stem) (a ∷ []) old new r
+    by : (r : Result ⊤ Failure) → OnOk r (LeavesOne old new (answer_path stem.now 1) (choice_text text)) → OnErr r (LeavesNothing old new) → AreRecorded (Some stem) (a ∷ []) old new r
     by (Ok done) h g = said h
-    by (Err f) h (inl none) = (0, none_more old new none)
-    by (Err f) h (inr one) = (1, said one)
+    by (Err f) h none = (0, none_more old new none)
 
 -- of the first answers each
 pub each_recorded : (path : Option (Bor (List ℕ))) (stem : Bor (List ℕ)) (answers firsts : List Answer) (old new : Option (List Written)) (r : Result ⊤ Failure) → path ≡ Some stem → firsts ≡ take 100 answers
@@ -104,7 +102,7 @@ each_recorded path stem answers firsts old new r named same ok err = subst (λ p
 -- ---- of those that wait for good
 
 pub waiting_recorded : (stem : List ℕ) (waiting : Option Waiting) (w : Waiting) (text : List Choice) (old new : Option (List Written)) (r : Result ⊤ Failure) → waiting ≡ Some w → text ≡ w.choices.items
-    → OnOk r (LeavesOne old new (answer_path stem 0) (choice_text text)) → OnErr r (LeavesNothing old new ⊎ LeavesOne old new (answer_path stem 0) (choice_text text))
+    → OnOk r (LeavesOne old new (answer_path stem 0) (choice_text text)) → OnErr r (LeavesNothing old new)
     → OnOk r (LeavesAll old new (waiting_file stem waiting)) × OnErr r ((n : ℕ) × LeavesAll old new (take n (waiting_file stem waiting)))
 waiting_recorded stem waiting w text old new r is same ok err =
     subst (λ o. OnOk r (LeavesAll old new (waiting_file stem o)) × OnErr r ((n : ℕ) × LeavesAll old new (take n (waiting_file stem o)))) (sym is) (by r ok err)
@@ -112,11 +110,10 @@ waiting_recorded stem waiting w text old new r is same ok err =
     said : LeavesOne old new (answer_path stem 0) (choice_text text) → LeavesOne old new (answer_path stem 0) (choice_text w.choices.items)
     said h = subst (λ t. LeavesOne old new (answer_path stem 0) (choice_text t)) same h
 
-    by : (r : Result ⊤ Failure) → OnOk r (LeavesOne old new (answer_path stem 0) (choice_text text)) → OnErr r (LeavesNothing old new ⊎ LeavesOne old new (answer_path stem 0) (choice_text text))
+    by : (r : Result ⊤ Failure) → OnOk r (LeavesOne old new (answer_path stem 0) (choice_text text)) → OnErr r (LeavesNothing old new)
         → OnOk r (LeavesAll old new (waiting_file stem (Some w))) × OnErr r ((n : ℕ) × LeavesAll old new (take n (waiting_file stem (Some w))))
     by (Ok done) h g = (said h, tt)
-    by (Err f) h (inl none) = (tt, (0, none_more old new none))
-    by (Err f) h (inr one) = (tt, (1, said one))
+    by (Err f) h none = (tt, (0, none_more old new none))
 
 pub nobody_recorded : (stem : List ℕ) (waiting : Option Waiting) (files : Option (List Written)) → waiting ≡ None → LeavesAll files files (waiting_file stem waiting)
 nobody_recorded stem waiting files is = subst (λ o. LeavesAll files files (waiting_file stem o)) (sym is) (none_more files files (untouched files))

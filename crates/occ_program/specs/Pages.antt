@@ -1,6 +1,6 @@
 -- Which files a run leaves.
 -- Manual: nothing; this is (own).
-use Rattle.std.specs.Prelude.{Bool, List, Some, None, Ok, Err, Option, Result, Vec, [], codes, false, if◌then◌else◌, length, nat_lt, suc, take, true, ℕ, ◌++◌, ◌-◌, ◌∷◌, ◌≡◌, ◌⊎◌, ⊤}
+use Rattle.std.specs.Prelude.{Bool, List, Some, None, Ok, Err, Option, Result, Vec, [], codes, false, if◌then◌else◌, length, nat_lt, suc, take, true, ℕ, ◌++◌, ◌-◌, ◌∷◌, ◌≡◌, ⊤}
 use Rattle.std.specs.Fmt.{decimal}
 use Rattle.std.specs.Borrow.{Bor}
 use Rattle.std.specs.Option.{option_to_list}
@@ -28,16 +28,12 @@ use Rattle.occ_exploring.specs.GraphTexts.{graph_text}
 use Rattle.occ_exploring.specs.Texts.{answer_line, left_text}
 use Rattle.occ_exploring.specs.Within.{outside_of}
 use Rattle.occ_exploring.specs.declared.within.Kept.{Kept}
-use Rattle.occ_files.specs.Leaving.{LeavesOne, LeavesAll, LeavesNothing, Written}
+use Rattle.occ_files.specs.Leaving.{LeavesOne, LeavesAll, LeavesNothing, LeavesText, Written}
 use Rattle.occ_play_inputs.specs.declared.failure.Failure.{Failure}
 use Rattle.occ_play_inputs.specs.declared.inputs.Inputs.{Inputs}
 use Rattle.occ_play_inputs.specs.declared.words.Words.{Words}
-use Rattle.occ_play_inputs.specs.declared.failure.Stream.{Stream}
-use Rattle.occ_play_inputs.specs.declared.failure.Stream.TheVariants as streams
 use Rattle.occ_program.specs.Coming.{options_in}
 use Rattle.occ_program.specs.declared.page.Page.{Page}
-use Rattle.occ_program.specs.declared.telling.Told.{Told}
-use Rattle.occ_program.specs.declared.telling.Told.TheVariants as told
 use Rattle.occ_explaining.specs.declared.tracing.Form.{Form}
 use Rattle.occ_explaining.specs.declared.tracing.Form.TheVariants.{Lines, Json}
 use Rattle.occ_explaining.specs.Traced.{IsTraced}
@@ -82,31 +78,22 @@ form_in false = Lines
 abbrev pub ShowsRun : Options → (source keyboard : List ℕ) → List Choice → List ℕ → Type 0
 ShowsRun options source keyboard list text = (r : RunTexts) × IsShownRun options source keyboard [] list r × PageOf options source (r ∷ []) text
 
--- a chart of the run, its trace, its turns, or a page that shows it
-abbrev pub TellsRun : Told → Words → Inputs → Played → List ℕ → Type 0
-TellsRun told.Chart words inputs p text =
+-- a chart of the run
+abbrev pub ChartsRun : Words → Inputs → Played → List ℕ → Type 0
+ChartsRun words inputs p text =
     IsNamedChart (options_in words) inputs.source.items inputs.keyboard.items p.choices.items (part_in words.arrows words.last) words.only.items words.without.items text
-TellsRun told.Trace words inputs p text = IsTraced (options_in words) inputs.source.items inputs.keyboard.items p.choices.items (form_in words.json) text
-TellsRun told.Turns words inputs p text = StepsOf (options_in words) inputs.source.items inputs.keyboard.items p.choices.items text
-TellsRun told.Page words inputs p text = ShowsRun (options_in words) inputs.source.items inputs.keyboard.items p.choices.items text
 
--- the path that the words name for it
-abbrev pub path_told : Told → Words → Option (Bor (List ℕ))
-path_told told.Chart words = words.chart
-path_told told.Trace words = words.trace_to
-path_told told.Turns words = words.steps
-path_told told.Page words = words.page
+-- its trace
+abbrev pub TracesRun : Words → Inputs → Played → List ℕ → Type 0
+TracesRun words inputs p text = IsTraced (options_in words) inputs.source.items inputs.keyboard.items p.choices.items (form_in words.json) text
 
--- what its file is called where writing it fails
-abbrev pub stream_told : Told → Stream
-stream_told told.Chart = streams.Chart
-stream_told told.Trace = streams.Trace
-stream_told told.Turns = streams.Turns
-stream_told told.Page = streams.Page
+-- its turns
+abbrev pub StepsRun : Words → Inputs → Played → List ℕ → Type 0
+StepsRun words inputs p text = StepsOf (options_in words) inputs.source.items inputs.keyboard.items p.choices.items text
 
--- that, at the path that the words name, if they do
-abbrev pub ToldPage : Told → Words → Inputs → Played → Option Page → Type 0
-ToldPage told words inputs p page = HasTextAt (TellsRun told words inputs p) (path_told told words) page
+-- a page that shows it
+abbrev pub PagesRun : Words → Inputs → Played → List ℕ → Type 0
+PagesRun words inputs p text = ShowsRun (options_in words) inputs.source.items inputs.keyboard.items p.choices.items text
 
 -- ---- what is then in the folder
 
@@ -121,10 +108,33 @@ pub record WritesPage (Is : Option Page → Type 0) (old new : Option (List Writ
   pub is : Is page
   pub left : LeavesPage old new page
 
--- where that failed, no file of the folder was touched, or the whole text stood before the file was
+-- where that failed, nothing was
 abbrev pub IsLeft : {F : Type 0} → (F → Option (List Written)) → (old new : F) → (Option Page → Type 0) → Result ⊤ Failure → Type 0
 IsLeft left old new Is (Ok done) = WritesPage Is (left old) (left new)
-IsLeft left old new Is (Err failure) = LeavesNothing (left old) (left new) ⊎ WritesPage Is (left old) (left new)
+IsLeft left old new Is (Err failure) = LeavesNothing (left old) (left new)
+
+-- such a text was written at this path, if there is one, and nothing else
+abbrev pub LeavesTextAt : (List ℕ → Type 0) → Option (Bor (List ℕ)) → (old new : Option (List Written)) → Type 0
+LeavesTextAt Is None old new = LeavesNothing old new
+LeavesTextAt Is (Some path) old new = LeavesText Is old new path.now
+
+-- where that failed, nothing was
+abbrev pub IsToldAt : {F : Type 0} → (F → Option (List Written)) → (old new : F) → (List ℕ → Type 0) → Option (Bor (List ℕ)) → Result ⊤ Failure → Type 0
+IsToldAt left old new Is path (Ok done) = LeavesTextAt Is path (left old) (left new)
+IsToldAt left old new Is path (Err failure) = LeavesNothing (left old) (left new)
+
+-- of what is told of the run, at the path that the words name for it
+abbrev pub ChartIsLeft : {F : Type 0} → (F → Option (List Written)) → (old new : F) → Words → Inputs → Played → Result ⊤ Failure → Type 0
+ChartIsLeft left old new words inputs p result = IsToldAt left old new (ChartsRun words inputs p) words.chart result
+
+abbrev pub TraceIsLeft : {F : Type 0} → (F → Option (List Written)) → (old new : F) → Words → Inputs → Played → Result ⊤ Failure → Type 0
+TraceIsLeft left old new words inputs p result = IsToldAt left old new (TracesRun words inputs p) words.trace_to result
+
+abbrev pub TurnsAreLeft : {F : Type 0} → (F → Option (List Written)) → (old new : F) → Words → Inputs → Played → Result ⊤ Failure → Type 0
+TurnsAreLeft left old new words inputs p result = IsToldAt left old new (StepsRun words inputs p) words.steps result
+
+abbrev pub PageIsLeft : {F : Type 0} → (F → Option (List Written)) → (old new : F) → Words → Inputs → Played → Result ⊤ Failure → Type 0
+PageIsLeft left old new words inputs p result = IsToldAt left old new (PagesRun words inputs p) words.page result
 
 -- ---- the files of a search
 

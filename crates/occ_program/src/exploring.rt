@@ -1,7 +1,7 @@
 //! Tells what all lists of choices of a source come to.
 ghost use Rattle.std.specs.Prelude.{[], ◌≡◌, ◌∷◌, ◌≤◌, ◌<◌, ◌-◌, ◌^◌, IfErr, IfOk, IsTrue, OnErr, OnOk, length, take};
 ghost use Rattle.occ_exploring.specs.Alone.{only_status, only_text};
-ghost use Rattle.occ_files.specs.Leaving.{AddsFiles, AddsSome, MayAdd};
+ghost use Rattle.occ_files.specs.Leaving.{AddsFiles, AddsSome, LeavesNothing};
 ghost use Rattle.occ_files.specs.declared.reason.Reason.{Reason};
 ghost use Rattle.occ_play_inputs.specs.Failures.{FailsToWrite, trouble};
 ghost use Rattle.occ_play_inputs.specs.declared.failure.Failure.{Failure};
@@ -14,6 +14,7 @@ ghost use Rattle.occ_shown.specs.Counting.{failures_of};
 use crate::counting::Counter;
 use crate::explaining::explain_fault;
 use crate::graphing::leave_graph;
+use crate::page::write_text;
 use crate::paging::show_answers;
 use crate::program::{options_of, tell};
 use crate::reading::read_inputs;
@@ -26,7 +27,6 @@ use occ_exploring::{
 };
 use occ_files::{Disk, Folder, Noting, Reason, are_one_file};
 use occ_play::{Choice, PlayFault, status_of};
-use occ_play_inputs::failure::of_write;
 use occ_play_inputs::{Failure, Inputs, Stream, Trouble, Words};
 use occ_shown::{Counted, write_answer};
 use std::alloc::{AllocError, Global};
@@ -485,13 +485,14 @@ fn record_answer<F: Folder>(
     ensures ok { OnOk result
         (AddsFiles F.left folder.old folder.new (answer_file stem.now number choices.now ∷ [])) }
     ensures failed { IfErr result (FailsToWrite (stream.Answer number)) }
-    ensures err { OnErr result
-        (MayAdd F.left folder.old folder.new (answer_file stem.now number choices.now)) }
+    ensures err { OnErr result (LeavesNothing (F.left folder.old) (F.left folder.new)) }
 {
     let path = answer_path(alloc, stem, number)?;
     let text = choices_text(alloc, choices)?;
-    match folder.save(path.as_str(), text.as_slice()) {
-        Ok(()) => Ok(()),
-        Err(error) => Err(of_write(Stream::Answer(number), error)),
-    }
+    write_text(
+        folder,
+        Stream::Answer(number),
+        path.as_str(),
+        text.as_slice(),
+    )
 }

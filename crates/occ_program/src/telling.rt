@@ -1,40 +1,25 @@
 //! Writes what the words ask to be told of a run, each into a file of its own.
 ghost use Rattle.std.specs.Prelude.{◌≡◌, IfErr, IfOk};
-ghost use Rattle.std.specs.Option.{option_copied};
 ghost use Rattle.occ_explaining.specs.Studied.{IsStudied};
 ghost use Rattle.occ_play_inputs.specs.Failures.{FailsToWrite};
+ghost use Rattle.occ_play_inputs.specs.declared.failure.Stream.TheVariants as stream;
 ghost use Rattle.occ_program.specs.Charted.{ChartsAsked};
 ghost use Rattle.occ_program.specs.Coming.{RefusesSource, options_in};
-ghost use Rattle.occ_program.specs.Pages.{IsLeft, ShowsBy, TellsRun, ToldPage, form_in, part_in, path_told, stream_told};
+ghost use Rattle.occ_program.specs.Pages.{ShowsBy, ChartIsLeft, PageIsLeft, TraceIsLeft, TurnsAreLeft, form_in, part_in};
 
-use crate::page::{Page, write_page};
+use crate::page::write_text;
 use crate::program::options_of;
 use occ_chart::Part;
-use occ_explaining::{Form, Studied, chart_of, page_of, run_texts, steps_of, study, trace_of};
+use occ_explaining::{Form, Studied, chart_of, page_of, run_texts, save_steps, save_trace, study};
 use occ_files::Folder;
 use occ_play::{Choice, PlayFault, Played};
+use occ_play_inputs::failure::of_write;
 use occ_play_inputs::{Failure, Inputs, Stream, Words};
 use std::alloc::{AllocError, Global};
 use std::slice;
 
-/// What is told of a run.
-#[derive(Clone, Copy, Drop)]
-pub(crate) enum Told {
-    /// A chart of its communications.
-    Chart,
-    /// Its trace.
-    Trace,
-    /// A line for each turn.
-    Turns,
-    /// A page that goes through it.
-    Page,
-}
-
-/// In which order the files are written.
-static ORDER: [Told; 4] = [Told::Chart, Told::Trace, Told::Turns, Told::Page];
-
-/// Writes the files that the words name, of a run that answered, by the choices that it used. The source is read once for all of them.
-/// Where one of them fails, the next ones are not begun.
+/// Writes the files that the words name, of a run that answered, by the choices that it used: the chart, the trace, the turns and the
+/// page. The source is read once for all of them. Where one of them fails, the next ones are not begun.
 pub(crate) fn tell_files<F: Folder>(
     folder: &mut F,
     alloc: Global,
@@ -54,9 +39,10 @@ pub(crate) fn tell_files<F: Folder>(
         Ok(studied) => studied,
         Err(fault) => return Ok(Err(fault)),
     };
-    for told in ORDER.as_slice() {
-        tell_file(folder, alloc, words, inputs, played, &studied, *told)?;
-    }
+    tell_chart(folder, alloc, words, inputs, played, &studied)?;
+    tell_trace(folder, alloc, words, inputs, played, &studied)?;
+    tell_turns(folder, alloc, words, inputs, played, &studied)?;
+    tell_page(folder, alloc, words, inputs, played, &studied)?;
     Ok(Ok(()))
 }
 
@@ -68,90 +54,97 @@ fn is_asked(words: &Words<'_>) -> bool {
         || words.page.is_some()
 }
 
-/// Writes one of the files, where the words name it.
-fn tell_file<F: Folder>(
+/// Writes a chart of the run's communications, where the words ask for it.
+fn tell_chart<F: Folder>(
     folder: &mut F,
     alloc: Global,
     words: &Words<'_>,
     inputs: &Inputs,
     played: &Played,
     studied: &Studied,
-    told: Told,
 ) -> Result<(), Failure>
     requires { IsStudied (options_in words.now) inputs.now.source.items studied.now }
-    ensures left { IsLeft F.left folder.old folder.new
-        (ToldPage told words.now inputs.now played.now) result }
-    ensures failed { IfErr result (FailsToWrite (stream_told told)) }
+    ensures left { ChartIsLeft F.left folder.old folder.new words.now inputs.now played.now result }
+    ensures failed { IfErr result (FailsToWrite stream.Chart) }
 {
-    let page = told_page(alloc, words, inputs, played, studied, told)?;
-    write_page(folder, stream_of(told), &page)
-}
-
-/// What the file is called where writing it fails.
-fn stream_of(told: Told) -> Stream
-    ensures { result ≡ stream_told told }
-{
-    match told {
-        Told::Chart => Stream::Chart,
-        Told::Trace => Stream::Trace,
-        Told::Turns => Stream::Turns,
-        Told::Page => Stream::Page,
-    }
-}
-
-/// What is to be written, and where.
-#[tactic(auto, using(crate::proofs::Paths::at_path, crate::proofs::Paths::no_path))]
-fn told_page<'a>(
-    alloc: Global,
-    words: &Words<'a>,
-    inputs: &Inputs,
-    played: &Played,
-    studied: &Studied,
-    told: Told,
-) -> Result<Option<Page<'a>>, AllocError>
-    requires { IsStudied (options_in words.now) inputs.now.source.items studied.now }
-    ensures { IfOk result (ToldPage told words.now inputs.now played.now) }
-{
-    match path_of(words, told) {
+    let (keyboard, choices) = (inputs.keyboard.as_slice(), played.choices.as_slice());
+    match words.chart {
         Some(path) => {
-            let text = text_of(alloc, words, inputs, played, studied, told)?;
-            Ok(Some(Page { path, text }))
+            let text = charted(studied, alloc, words, keyboard, choices)?;
+            write_text(folder, Stream::Chart, path, text.as_slice())
         }
-        None => Ok(None),
+        None => Ok(()),
     }
 }
 
-/// The path of the file.
-fn path_of<'a>(words: &Words<'a>, told: Told) -> Option<&'a str>
-    ensures { option_copied result ≡ option_copied (path_told told words.now) }
-{
-    match told {
-        Told::Chart => words.chart,
-        Told::Trace => words.trace_to,
-        Told::Turns => words.steps,
-        Told::Page => words.page,
-    }
-}
-
-/// The text of the file.
-fn text_of(
+/// Writes the run's trace, where the words ask for it.
+fn tell_trace<F: Folder>(
+    folder: &mut F,
     alloc: Global,
     words: &Words<'_>,
     inputs: &Inputs,
     played: &Played,
     studied: &Studied,
-    told: Told,
-) -> Result<Vec<u8>, AllocError>
+) -> Result<(), Failure>
     requires { IsStudied (options_in words.now) inputs.now.source.items studied.now }
-    ensures { IfOk result (λ text. TellsRun told words.now inputs.now played.now text.items) }
+    ensures left { TraceIsLeft F.left folder.old folder.new words.now inputs.now played.now result }
+    ensures failed { IfErr result (FailsToWrite stream.Trace) }
 {
-    let keyboard = inputs.keyboard.as_slice();
+    let (keyboard, choices) = (inputs.keyboard.as_slice(), played.choices.as_slice());
+    let form = form_of(words);
+    match words.trace_to {
+        Some(path) => match save_trace(folder, path, studied, alloc, keyboard, choices, form) {
+            Ok(()) => Ok(()),
+            Err(error) => Err(of_write(Stream::Trace, error)),
+        },
+        None => Ok(()),
+    }
+}
+
+/// Writes a line for each turn of the run, where the words ask for it.
+fn tell_turns<F: Folder>(
+    folder: &mut F,
+    alloc: Global,
+    words: &Words<'_>,
+    inputs: &Inputs,
+    played: &Played,
+    studied: &Studied,
+) -> Result<(), Failure>
+    requires { IsStudied (options_in words.now) inputs.now.source.items studied.now }
+    ensures left { TurnsAreLeft F.left folder.old folder.new words.now inputs.now played.now result }
+    ensures failed { IfErr result (FailsToWrite stream.Turns) }
+{
+    let (keyboard, choices) = (inputs.keyboard.as_slice(), played.choices.as_slice());
+    match words.steps {
+        Some(path) => match save_steps(folder, path, studied, alloc, keyboard, choices) {
+            Ok(()) => Ok(()),
+            Err(error) => Err(of_write(Stream::Turns, error)),
+        },
+        None => Ok(()),
+    }
+}
+
+/// Writes a page that goes through the run, where the words ask for it.
+fn tell_page<F: Folder>(
+    folder: &mut F,
+    alloc: Global,
+    words: &Words<'_>,
+    inputs: &Inputs,
+    played: &Played,
+    studied: &Studied,
+) -> Result<(), Failure>
+    requires { IsStudied (options_in words.now) inputs.now.source.items studied.now }
+    ensures left { PageIsLeft F.left folder.old folder.new words.now inputs.now played.now result }
+    ensures failed { IfErr result (FailsToWrite stream.Page) }
+{
+    let (source, keyboard) = (inputs.source.as_slice(), inputs.keyboard.as_slice());
     let choices = played.choices.as_slice();
-    match told {
-        Told::Chart => charted(studied, alloc, words, keyboard, choices),
-        Told::Trace => trace_of(studied, alloc, keyboard, choices, form_of(words)),
-        Told::Turns => steps_of(studied, alloc, keyboard, choices),
-        Told::Page => shown(studied, alloc, inputs.source.as_slice(), keyboard, choices),
+    match words.page {
+        Some(path) => {
+            let text = shown(studied, alloc, source, keyboard, choices)?;
+            write_text(folder, Stream::Page, path, text.as_slice())
+        }
+        None => Ok(()),
     }
 }
 

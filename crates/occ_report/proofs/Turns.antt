@@ -1,5 +1,5 @@
 -- A run, turn by turn.
-use Rattle.std.proofs.Common.{◌≡◌, ◌∙◌, ◌++◌, ◌+◌, ◌-◌, ◌%◌, ◌<◌, ◌≤◌, ◌^◌, ℕ, zero, suc, Bool, List, [], ◌∷◌, Option, None, Some, false, drop, length, refl, sym, ap, subst, arith, append_assoc, append-nil, length-append}
+use Rattle.std.proofs.Common.{◌≡◌, ◌∙◌, ◌++◌, ◌+◌, ◌-◌, ◌%◌, ◌<◌, ◌≤◌, ◌^◌, ℕ, zero, suc, Bool, List, [], ◌∷◌, Option, None, Some, false, true, drop, length, refl, sym, ap, subst, arith, append_assoc, append-nil, length-append}
 use Rattle.std.specs.Prelude.{slice_get}
 use Rattle.std.specs.Option.{is_some}
 use Rattle.std.proofs.lemmas.List.{length-drop}
@@ -197,3 +197,31 @@ none_of (Some x) e = cc
 pub none_left : {A : Type 0} (xs : List A) → length xs ≡ 0 → xs ≡ []
 none_left [] e = refl
 none_left (x ∷ xs) e = absurd (omega (arith, e))
+
+-- ---- line by line
+
+tail_of : {x y : ℕ} {xs ys : List ℕ} → x ∷ xs ≡ y ∷ ys → xs ≡ ys
+tail_of q = cc
+
+same_end : (out a b : List ℕ) → out ++ a ≡ out ++ b → a ≡ b
+same_end [] a b e = e
+same_end (x ∷ out) a b e = same_end out a b (tail_of e)
+
+-- whatever stood before the line, it is the line of that turn
+pub line_more : (known : List Known) (p : Program) (kb : List ℕ) (turns : ℕ) (rest others list : List Choice) (c : Choice) (old new : Tables) (text out grown piece : List ℕ)
+    → (h : Stepping known p kb turns rest list old text) → ending_of p.errors h.net ≡ None → rest ≡ c ∷ others
+    → ((net : Net) → Holds p kb old net → StepsTo known p kb (turns + 1) c net out new grown) → grown ≡ out ++ piece
+    → Stepping known p kb (turns + 1) others list new (text ++ piece)
+line_more known p kb turns rest others list c old new text out grown piece h going first turn is =
+    one_more known p kb turns rest others list c old new text (text ++ piece) h going first
+    (λ net holds.
+    let x = turn net holds in
+    record { next = x.next; taken = x.taken; holds = x.holds; is = ap (λ l. text ++ l) (same_end out piece (step_text (names_of p.channels) known (turns + 1) net x.taken.number c.pick x.taken.after x.next) (sym is ∙ x.is)) })
+
+pub ended_here : (known : List Known) (p : Program) (kb : List ℕ) (turns : ℕ) (rest list : List Choice) (n : Tables) (text : List ℕ) → (h : Stepping known p kb turns rest list n text)
+    → (ending_of p.errors h.net ≡ None → rest ≡ []) → IsSteps known p kb list (text ++ [])
+ended_here known p kb turns rest list n text h over = subst (IsSteps known p kb list) (sym (append-nil text)) (ended known p kb turns rest list n text h over)
+
+pub some_none : {A : Type 0} (o : Option A) → is_some o ≡ true → o ≡ None → ⊥
+some_none None some none = cc
+some_none (Some x) some none = cc

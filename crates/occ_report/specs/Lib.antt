@@ -5,4 +5,5 @@ pub mod Faults
 pub mod Places
 pub mod Reports
 pub mod Steps
+pub mod TurnLines
 pub mod Past

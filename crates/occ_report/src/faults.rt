@@ -85,7 +85,7 @@ fn write_variable(
     out.extend_from_slice(b"    ")?;
     cell.name.write(alloc, out)?;
     out.extend_from_slice(b" = ")?;
-    write_value(alloc, out, cell.primitive, value)?;
+    write_value(out, cell.primitive, value)?;
     out.extend_from_slice(b"\n")
 }
 

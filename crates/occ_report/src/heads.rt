@@ -30,7 +30,7 @@ pub(crate) fn write_head(
 {
     let first = format!(in alloc; "{turn} ready")?;
     out.extend_from_slice(first.as_bytes())?;
-    write_numbers(alloc, out, ready)?;
+    write_numbers(out, ready)?;
     let last = format!(in alloc; " took p{taken} pick {pick} ")?;
     out.extend_from_slice(last.as_bytes())?;
     Ok(())

@@ -1,7 +1,7 @@
 //! Where a run stands. [`places_of`] tells of each process the PROC that its branch calls, and the line of what it stops at: it goes
 //! through the tree as the unfolding does, and tells a line only where the code has what the tree has, place by place.
 //! [`report`] tells of each process that is left on which channel it waits, with which message, and who is at its other end.
-//! [`steps`] writes a line for each turn of a run, and [`first_past`] finds a choice that names none of the processes that are ready.
+//! [`TurnLines`] are a line for each turn of a run, and [`first_past`] finds a choice that names none of the processes that are ready.
 #![tactic(auto)]
 
 mod agreement;
@@ -24,6 +24,7 @@ pub mod stop;
 mod stops;
 mod taking;
 mod text_lines;
+pub mod turn_lines;
 mod walk;
 
 pub use calls::Call;
@@ -31,5 +32,5 @@ pub use past::first_past;
 pub use places::Places;
 pub use placing::places_of;
 pub use reporting::{circle_of, report};
-pub use stepping::steps;
 pub use stop::{Kind, Stop};
+pub use turn_lines::TurnLines;

@@ -236,7 +236,7 @@ fn write_offer(
         (AddsOffer channels.now readers.now written.now chan message.now out.old out.new) }
 {
     out.extend_from_slice(b"offers ")?;
-    write_message(alloc, out, message, chan, channels)?;
+    write_message(out, message, chan, channels)?;
     out.extend_from_slice(b" on ")?;
     write_channel(alloc, out, channels, written, chan)?;
     write_reader(alloc, out, readers, chan)

@@ -1,7 +1,6 @@
-//! Runs, turn by turn.
-ghost use Rattle.std.specs.Prelude.{◌+◌, ◌<◌, IfOk};
+//! A turn of a run, and its line.
 ghost use Rattle.occ_net_tables.specs.Settling.{Standing};
-ghost use Rattle.occ_report.specs.Steps.{AddsStep, IsSteps};
+ghost use Rattle.occ_report.specs.Steps.{AddsStep};
 
 use crate::Places;
 use crate::heads::write_head;
@@ -14,7 +13,7 @@ use occ_proc::Scratch;
 use std::alloc::{AllocError, Global};
 
 /// Takes the turn of a choice, and writes its line.
-fn step(
+pub(crate) fn step(
     alloc: Global,
     code: &Code,
     places: &Places,
@@ -48,50 +47,4 @@ fn step(
         news,
     )?;
     Ok(())
-}
-
-/// The line of each turn of the run by these choices: its number, the processes that were ready, the one that took it, the pick,
-/// at what the turn stopped, with its line where that is known, and the communication that it made possible.
-///
-/// # Errors
-///
-/// A refused growth.
-pub fn steps(
-    alloc: Global,
-    code: &Code,
-    places: &Places,
-    keyboard: &[u8],
-    choices: &[Choice],
-) -> Result<Vec<u8>, AllocError>
-    ensures { IfOk result
-        (λ bytes. IsSteps places.now code.now keyboard.now choices.now bytes.items) }
-{
-    let mut scratch = Scratch::new(alloc);
-    let mut tables = Tables::new(alloc, code)?;
-    let mut news = News::new(alloc);
-    let mut out = Vec::new(alloc);
-    let mut turns = 0;
-    let mut rest = choices;
-    loop {
-        if tables.ending(code.errors()).is_some() {
-            return Ok(out);
-        }
-        let Some((choice, others)) = rest.split_first() else {
-            return Ok(out);
-        };
-        turns += 1;
-        step(
-            alloc,
-            code,
-            places,
-            &mut scratch,
-            keyboard,
-            &mut tables,
-            &mut news,
-            turns,
-            *choice,
-            &mut out,
-        )?;
-        rest = others;
-    }
 }

@@ -90,11 +90,11 @@ fn write_choosing(
     write_arms(alloc, out, channels, arms)
 }
 
-fn write_joining(alloc: Global, out: &mut Vec<u8>, branches: &[u32]) -> Result<(), AllocError>
+fn write_joining(out: &mut Vec<u8>, branches: &[u32]) -> Result<(), AllocError>
     ensures { OnOk result (AddsText out.old out.new (joins_text branches.now)) }
 {
     out.extend_from_slice(b"waits for")?;
-    write_numbers(alloc, out, branches)
+    write_numbers(out, branches)
 }
 
 fn write_fault(alloc: Global, out: &mut Vec<u8>, fault: Fault) -> Result<(), AllocError>
@@ -122,7 +122,7 @@ fn write_stop(
         Wait::Offers { chan, message } => write_offer(alloc, out, channels, *chan, message),
         Wait::Awaits { chan } => write_awaited(alloc, out, channels, *chan),
         Wait::Chooses { arms, .. } => write_choosing(alloc, out, channels, arms.as_slice()),
-        Wait::Joins { branches } => write_joining(alloc, out, branches.as_slice()),
+        Wait::Joins { branches } => write_joining(out, branches.as_slice()),
         Wait::Faulted(fault) => write_fault(alloc, out, *fault),
     }
 }

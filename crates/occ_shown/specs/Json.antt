@@ -4,12 +4,14 @@ use Rattle.std.specs.Prelude.{List, None, Option, Some, [], codes, if◌then◌e
 use Rattle.std.specs.Fmt.{decimal, signed_decimal}
 use Rattle.occ_term.specs.declared.primitive.Primitive.{Primitive}
 use Rattle.occ_term.specs.declared.primitive.Primitive.TheVariants.{Bool as Boolean, Byte, Int}
+use Rattle.occ_term.specs.declared.message.Message.{Message}
 use Rattle.occ_term.specs.declared.message.Part.{Part}
 use Rattle.occ_term.specs.declared.message.Part.TheVariants.{One, Many, Counted}
-use Rattle.occ_term.specs.Runs.{Entry}
+use Rattle.occ_term.specs.Runs.{Entry, tag_shown}
 use Rattle.occ_term.specs.declared.ending.Ending.{Ending}
+use Rattle.occ_term.specs.declared.names.Channel.{Channel}
 use Rattle.occ_term.specs.Endings.{ending_text}
-use Rattle.occ_shown.specs.Answers.{end_text}
+use Rattle.occ_shown.specs.Answers.{end_text, names_of}
 
 -- ---- names
 
@@ -93,3 +95,11 @@ ending_json e = codes "{\"ending\":" ++ quoted (ending_text e) ++ codes "}\n"
 -- the communications, and the ending
 abbrev pub json_text : List Entry → Ending → List ℕ
 json_text es e = trace_json es ++ ending_json e
+
+-- ---- by the declared names; private contracts alone cite what follows
+
+abbrev pub named_head : List Channel → (number c : ℕ) → List ℕ
+named_head cs number c = head_json number c ((names_of cs).channel_name c)
+
+abbrev pub message_named : List Channel → ℕ → Message → List ℕ
+message_named cs c m = message_json (tag_shown (names_of cs) c m.tag) m.items

@@ -1,11 +1,12 @@
 //! Names, values and messages in JSON.
 ghost use Rattle.std.specs.Prelude.{◌≡◌, ◌++◌, OnOk};
-ghost use Rattle.std.specs.Fmt.{decimal};
-ghost use Rattle.std.specs.Option.{option_copied};
-ghost use Rattle.occ_shown.specs.Json.{array_json, escaped, escaped_byte, more_parts, more_values, part_json, parts_json, quoted, tag_json, value_json, values_json};
+ghost use Rattle.occ_net_tables.specs.Views.{part_viewed};
+ghost use Rattle.occ_shown.specs.Json.{array_json, escaped, escaped_byte, more_parts, more_values, part_json, parts_json, quoted, value_json, values_json};
 
-use occ_term::{Part, Primitive, Text};
-use std::alloc::{AllocError, Global};
+use crate::values::write_integer;
+use occ_net_tables::{PartView, PartViews};
+use occ_term::Primitive;
+use std::alloc::AllocError;
 
 fn write_byte(out: &mut Vec<u8>, byte: u8) -> Result<(), AllocError>
     ensures { OnOk result (out.new.items ≡ out.old.items ++ escaped_byte byte) }
@@ -38,29 +39,7 @@ pub(crate) fn write_quoted(out: &mut Vec<u8>, bytes: &[u8]) -> Result<(), AllocE
     Ok(())
 }
 
-/// The name of a tag, where there is one.
-pub(crate) fn write_tag(out: &mut Vec<u8>, tag: Option<&Text>) -> Result<(), AllocError>
-    ensures { OnOk result (out.new.items ≡ out.old.items ++ tag_json (option_copied tag.entry)) }
-{
-    match tag {
-        Some(name) => write_quoted(out, name.as_slice()),
-        None => out.extend_from_slice(b"null"),
-    }
-}
-
-pub(crate) fn write_number(alloc: Global, out: &mut Vec<u8>, number: u64) -> Result<(), AllocError>
-    ensures { OnOk result (out.new.items ≡ out.old.items ++ decimal number) }
-{
-    let text = format!(in alloc; "{number}")?;
-    out.extend_from_slice(text.as_bytes())
-}
-
-fn write_value(
-    alloc: Global,
-    out: &mut Vec<u8>,
-    primitive: Primitive,
-    value: &i64,
-) -> Result<(), AllocError>
+fn write_value(out: &mut Vec<u8>, primitive: Primitive, value: &i64) -> Result<(), AllocError>
     ensures { OnOk result (out.new.items ≡ out.old.items ++ value_json primitive value.now) }
 {
     match primitive {
@@ -71,16 +50,12 @@ fn write_value(
                 out.extend_from_slice(b"false")
             }
         }
-        Primitive::Byte | Primitive::Int => {
-            let text = format!(in alloc; "{value}")?;
-            out.extend_from_slice(text.as_bytes())
-        }
+        Primitive::Byte | Primitive::Int => write_integer(out, *value),
     }
 }
 
 /// Values, each behind a comma.
 fn write_more_values(
-    alloc: Global,
     out: &mut Vec<u8>,
     primitive: Primitive,
     values: &[i64],
@@ -89,62 +64,53 @@ fn write_more_values(
 {
     for value in values {
         out.push(b',')?;
-        write_value(alloc, out, primitive, value)?;
+        write_value(out, primitive, value)?;
     }
     Ok(())
 }
 
-fn write_array(
-    alloc: Global,
-    out: &mut Vec<u8>,
-    primitive: Primitive,
-    values: &[i64],
-) -> Result<(), AllocError>
+fn write_array(out: &mut Vec<u8>, primitive: Primitive, values: &[i64]) -> Result<(), AllocError>
     ensures { OnOk result (out.new.items ≡ out.old.items ++ array_json primitive values.now) }
 {
     out.push(b'[')?;
     if let Some((first, others)) = values.split_first() {
-        write_value(alloc, out, primitive, first)?;
-        write_more_values(alloc, out, primitive, others)?;
+        write_value(out, primitive, first)?;
+        write_more_values(out, primitive, others)?;
     }
     out.push(b']')?;
     Ok(())
 }
 
-fn write_part(alloc: Global, out: &mut Vec<u8>, part: &Part) -> Result<(), AllocError>
-    ensures { OnOk result (out.new.items ≡ out.old.items ++ part_json part.now) }
+fn write_part(out: &mut Vec<u8>, part: &PartView<'_>) -> Result<(), AllocError>
+    ensures { OnOk result (out.new.items ≡ out.old.items ++ part_json (part_viewed part.now)) }
 {
     match part {
-        Part::One(primitive, value) => write_value(alloc, out, *primitive, value),
-        Part::Many(primitive, values) | Part::Counted(primitive, values) => {
-            write_array(alloc, out, *primitive, values.as_slice())
+        PartView::One(primitive, value) => write_value(out, *primitive, value),
+        PartView::Many(primitive, values) | PartView::Counted(primitive, values) => {
+            write_array(out, *primitive, values)
         }
     }
 }
 
 /// Items, each behind a comma.
-fn write_more_parts(alloc: Global, out: &mut Vec<u8>, parts: &[Part]) -> Result<(), AllocError>
-    ensures { OnOk result (out.new.items ≡ out.old.items ++ more_parts parts.now) }
+fn write_more_parts(out: &mut Vec<u8>, parts: PartViews<'_>) -> Result<(), AllocError>
+    ensures { OnOk result (out.new.items ≡ out.old.items ++ more_parts parts.entry) }
 {
     for part in parts {
         out.push(b',')?;
-        write_part(alloc, out, part)?;
+        write_part(out, &part)?;
     }
     Ok(())
 }
 
 /// The items of a message.
-pub(crate) fn write_parts(
-    alloc: Global,
-    out: &mut Vec<u8>,
-    parts: &[Part],
-) -> Result<(), AllocError>
-    ensures { OnOk result (out.new.items ≡ out.old.items ++ parts_json parts.now) }
+pub(crate) fn write_parts(out: &mut Vec<u8>, mut parts: PartViews<'_>) -> Result<(), AllocError>
+    ensures { OnOk result (out.new.items ≡ out.old.items ++ parts_json parts.entry) }
 {
-    match parts.split_first() {
-        Some((first, others)) => {
-            write_part(alloc, out, first)?;
-            write_more_parts(alloc, out, others)
+    match parts.next() {
+        Some(first) => {
+            write_part(out, &first)?;
+            write_more_parts(out, parts)
         }
         None => Ok(()),
     }

@@ -1,20 +1,28 @@
 //! Communications and endings as lines of JSON.
 ghost use Rattle.std.specs.Prelude.{◌≡◌, IfOk, OnOk};
 ghost use Rattle.occ_term.specs.Endings.{ending_text};
-ghost use Rattle.occ_shown.specs.Answers.{end_text, AddsText};
-ghost use Rattle.occ_shown.specs.Json.{ending_json, ends_json, head_json, json_text, line_json, message_json, quoted, trace_json};
+ghost use Rattle.occ_term.specs.Runs.{tag_shown};
+ghost use Rattle.occ_shown.specs.Answers.{AddsText, end_text, entry_at, names_of};
+ghost use Rattle.occ_shown.specs.Json.{ending_json, ends_json, line_json, message_named, named_head, quoted, tag_json};
 
-use crate::json_values::{write_number, write_parts, write_quoted, write_tag};
-use occ_board::Shown;
-use occ_term::{End, Ending, Name};
+use crate::json_values::{write_parts, write_quoted};
+use crate::values::{tag_name, write_name, write_number};
+use occ_net_tables::{Entry, MessageView};
+use occ_term::{Channel, End, Ending};
 use std::alloc::{AllocError, Global};
 
 /// The name of a channel, between quotes.
-fn write_name(alloc: Global, out: &mut Vec<u8>, name: &Name) -> Result<(), AllocError>
-    ensures { OnOk result (AddsText out.old out.new (quoted name.now)) }
+fn write_quoted_name(
+    alloc: Global,
+    out: &mut Vec<u8>,
+    channels: &[Channel],
+    chan: u32,
+) -> Result<(), AllocError>
+    ensures { OnOk result
+        (AddsText out.old out.new (quoted ((names_of channels.now).channel_name chan))) }
 {
     let mut letters = Vec::new(alloc);
-    name.write(alloc, &mut letters)?;
+    write_name(alloc, &mut letters, channels, chan)?;
     write_quoted(out, letters.as_slice())
 }
 
@@ -40,16 +48,21 @@ fn write_end(alloc: Global, out: &mut Vec<u8>, end: End) -> Result<(), AllocErro
 
 /// The number, the channel's number and its name.
 #[tactic(auto, unfolding(crate::specs::Json::head_json))]
-fn write_head(alloc: Global, out: &mut Vec<u8>, shown: &Shown) -> Result<(), AllocError>
-    ensures { OnOk result
-        (AddsText out.old out.new (head_json shown.now.number shown.now.channel shown.now.name)) }
+fn write_head(
+    alloc: Global,
+    out: &mut Vec<u8>,
+    number: u64,
+    chan: u32,
+    channels: &[Channel],
+) -> Result<(), AllocError>
+    ensures { OnOk result (AddsText out.old out.new (named_head channels.now number chan)) }
 {
     out.extend_from_slice(b"{\"number\":")?;
-    write_number(alloc, out, shown.number())?;
+    write_number(out, number)?;
     out.extend_from_slice(b",\"channel\":")?;
-    write_number(alloc, out, u64::from(shown.channel()))?;
+    write_number(out, u64::from(chan))?;
     out.extend_from_slice(b",\"name\":")?;
-    write_name(alloc, out, shown.name())
+    write_quoted_name(alloc, out, channels, chan)
 }
 
 /// Who sent it, and who received it.
@@ -69,60 +82,72 @@ fn write_ends(
     write_end(alloc, out, receiver)
 }
 
-/// The tag and the items.
-#[tactic(auto, unfolding(crate::specs::Json::message_json))]
-fn write_message(alloc: Global, out: &mut Vec<u8>, shown: &Shown) -> Result<(), AllocError>
+/// The name of the tag of a message on this channel, where it has one.
+fn write_tag(
+    out: &mut Vec<u8>,
+    tag: Option<u32>,
+    chan: u32,
+    channels: &[Channel],
+) -> Result<(), AllocError>
     ensures { OnOk result
-        (AddsText out.old out.new (message_json shown.now.tag shown.now.message.items)) }
+        (AddsText out.old out.new (tag_json (tag_shown (names_of channels.now) chan tag))) }
+{
+    match tag {
+        Some(tag) => write_quoted(out, tag_name(channels, chan, tag)),
+        None => out.extend_from_slice(b"null"),
+    }
+}
+
+/// The tag and the items of a message on this channel.
+#[tactic(auto, unfolding(crate::specs::Json::message_json))]
+fn write_message(
+    out: &mut Vec<u8>,
+    message: &MessageView<'_>,
+    chan: u32,
+    channels: &[Channel],
+) -> Result<(), AllocError>
+    ensures { OnOk result (AddsText out.old out.new (message_named channels.now chan message.now)) }
 {
     out.extend_from_slice(b",\"tag\":")?;
-    write_tag(out, shown.tag())?;
+    write_tag(out, message.tag(), chan, channels)?;
     out.extend_from_slice(b",\"message\":[")?;
-    write_parts(alloc, out, shown.message().items.as_slice())?;
+    write_parts(out, message.items())?;
     out.extend_from_slice(b"]}\n")
 }
 
-/// The object of a communication, on a line.
-fn write_line(alloc: Global, out: &mut Vec<u8>, shown: &Shown) -> Result<(), AllocError>
-    ensures { OnOk result (AddsText out.old out.new (line_json shown.now)) }
+/// Puts a communication, which has this number, behind these bytes as a line of JSON: an object with its number, its channel's number
+/// and name, its ends, its tag and its items.
+///
+/// # Errors
+///
+/// A refused growth.
+pub fn write_object(
+    alloc: Global,
+    out: &mut Vec<u8>,
+    number: u64,
+    communication: &Entry<'_>,
+    channels: &[Channel],
+) -> Result<(), AllocError>
+    ensures { OnOk result
+        (AddsText out.old out.new (line_json (entry_at channels.now number communication.now))) }
 {
-    write_head(alloc, out, shown)?;
-    write_ends(alloc, out, shown.sender(), shown.receiver())?;
-    write_message(alloc, out, shown)?;
+    let chan = communication.chan();
+    write_head(alloc, out, number, chan, channels)?;
+    write_ends(alloc, out, communication.sender(), communication.receiver())?;
+    write_message(out, &communication.message(), chan, channels)?;
     Ok(())
 }
 
-/// The objects of all communications, each on a line.
-fn write_lines(alloc: Global, out: &mut Vec<u8>, list: &[Shown]) -> Result<(), AllocError>
-    ensures { OnOk result (AddsText out.old out.new (trace_json list.now)) }
-{
-    for shown in list {
-        write_line(alloc, out, shown)?;
-    }
-    Ok(())
-}
-
-/// The object of an ending, on a line.
-fn write_ending(alloc: Global, out: &mut Vec<u8>, ending: Ending) -> Result<(), AllocError>
+/// Puts an ending behind these bytes as a line of JSON.
+///
+/// # Errors
+///
+/// A refused growth.
+pub fn write_ending(alloc: Global, out: &mut Vec<u8>, ending: Ending) -> Result<(), AllocError>
     ensures { OnOk result (AddsText out.old out.new (ending_json ending)) }
 {
     out.extend_from_slice(b"{\"ending\":")?;
     let words = format!(in alloc; "{ending}")?;
     write_quoted(out, words.as_bytes())?;
     out.extend_from_slice(b"}\n")
-}
-
-/// What a run shows as lines of JSON: an object for each communication, with its number, its channel's number and name, its
-/// ends, its tag and its items, and then one with the ending.
-///
-/// # Errors
-///
-/// A refused growth.
-pub fn json_lines(alloc: Global, list: &[Shown], ending: Ending) -> Result<Vec<u8>, AllocError>
-    ensures { IfOk result (λ bytes. bytes.items ≡ json_text list.now ending) }
-{
-    let mut bytes = Vec::new(alloc);
-    write_lines(alloc, &mut bytes, list)?;
-    write_ending(alloc, &mut bytes, ending)?;
-    Ok(bytes)
 }

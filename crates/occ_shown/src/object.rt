@@ -2,7 +2,8 @@
 ghost use Rattle.std.specs.Prelude.{◌≡◌, ◌++◌, ◌<◌, IfOk, OnOk, map};
 ghost use Rattle.occ_shown.specs.Objects.{AddsMembers, hex_digit, exact_byte, exact, member_json, member_of, members_json, object_json, said_json, value_said};
 
-use crate::json_values::{write_number, write_quoted};
+use crate::json_values::write_quoted;
+use crate::values::write_number;
 use std::alloc::{AllocError, Global};
 
 /// What a member of an object says.
@@ -59,11 +60,11 @@ fn write_exact(out: &mut Vec<u8>, bytes: &[u8]) -> Result<(), AllocError>
     Ok(())
 }
 
-fn write_value(alloc: Global, out: &mut Vec<u8>, value: Value<'_>) -> Result<(), AllocError>
+fn write_value(out: &mut Vec<u8>, value: Value<'_>) -> Result<(), AllocError>
     ensures { OnOk result (out.new.items ≡ out.old.items ++ said_json (value_said value.entry)) }
 {
     match value {
-        Value::Number(number) => write_number(alloc, out, number),
+        Value::Number(number) => write_number(out, number),
         Value::Text(bytes) => write_quoted(out, bytes),
         Value::Exact(text) => {
             out.push(b'"')?;
@@ -76,24 +77,20 @@ fn write_value(alloc: Global, out: &mut Vec<u8>, value: Value<'_>) -> Result<(),
 
 /// A member, behind a comma.
 #[tactic(auto, unfolding(crate::specs::Objects::member_json))]
-fn write_member(alloc: Global, out: &mut Vec<u8>, member: &Member<'_>) -> Result<(), AllocError>
+fn write_member(out: &mut Vec<u8>, member: &Member<'_>) -> Result<(), AllocError>
     ensures { OnOk result (out.new.items ≡ out.old.items ++ member_json (member_of member.now)) }
 {
     out.extend_from_slice(b",\"")?;
     out.extend_from_slice(member.name.as_bytes())?;
     out.extend_from_slice(b"\":")?;
-    write_value(alloc, out, member.value)
+    write_value(out, member.value)
 }
 
-fn write_members(
-    alloc: Global,
-    out: &mut Vec<u8>,
-    mut members: &[Member<'_>],
-) -> Result<(), AllocError>
+fn write_members(out: &mut Vec<u8>, mut members: &[Member<'_>]) -> Result<(), AllocError>
     ensures { OnOk result (AddsMembers out.old.items out.new.items members.entry.now) }
 {
     while let [member, rest @ ..] = members {
-        write_member(alloc, out, member)?;
+        write_member(out, member)?;
         members = rest;
     }
     Ok(())
@@ -116,7 +113,7 @@ pub fn object_line(
     bytes.extend_from_slice(b"{\"kind\":\"")?;
     bytes.extend_from_slice(kind.as_bytes())?;
     bytes.extend_from_slice(b"\"")?;
-    write_members(alloc, &mut bytes, members)?;
+    write_members(&mut bytes, members)?;
     bytes.extend_from_slice(b"}\n")?;
     Ok(bytes)
 }

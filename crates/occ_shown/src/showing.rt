@@ -13,38 +13,33 @@ use std::alloc::{AllocError, Global};
 /// Ends a line.
 pub(crate) const LINE_FEED: u8 = 10;
 
-pub(crate) fn write_part(
-    alloc: Global,
-    out: &mut Vec<u8>,
-    part: &PartView<'_>,
-) -> Result<(), AllocError>
+pub(crate) fn write_part(out: &mut Vec<u8>, part: &PartView<'_>) -> Result<(), AllocError>
     ensures { OnOk result (AddsText out.old out.new (part_text (part_viewed part.now))) }
 {
     match part {
-        PartView::One(primitive, value) => write_value(alloc, out, *primitive, *value),
-        PartView::Many(primitive, values) => write_array(alloc, out, *primitive, values),
+        PartView::One(primitive, value) => write_value(out, *primitive, *value),
+        PartView::Many(primitive, values) => write_array(out, *primitive, values),
         PartView::Counted(primitive, values) => {
-            write_number(alloc, out, values.len() as u64)?;
+            write_number(out, values.len() as u64)?;
             out.extend_from_slice(b"::")?;
-            write_array(alloc, out, *primitive, values)
+            write_array(out, *primitive, values)
         }
     }
 }
 
 /// Items, each after a semicolon and a space.
-fn write_later(alloc: Global, out: &mut Vec<u8>, parts: PartViews<'_>) -> Result<(), AllocError>
+fn write_later(out: &mut Vec<u8>, parts: PartViews<'_>) -> Result<(), AllocError>
     ensures { OnOk result (AddsText out.old out.new (later_text parts.entry)) }
 {
     for part in parts {
         out.extend_from_slice(b"; ")?;
-        write_part(alloc, out, &part)?;
+        write_part(out, &part)?;
     }
     Ok(())
 }
 
 /// The items of a message, of which a tag's name is the first.
 fn write_items(
-    alloc: Global,
     out: &mut Vec<u8>,
     tag: Option<&[u8]>,
     mut parts: PartViews<'_>,
@@ -55,12 +50,12 @@ fn write_items(
     match tag {
         Some(name) => {
             out.extend_from_slice(name)?;
-            write_later(alloc, out, parts)
+            write_later(out, parts)
         }
         None => match parts.next() {
             Some(first) => {
-                write_part(alloc, out, &first)?;
-                write_later(alloc, out, parts)
+                write_part(out, &first)?;
+                write_later(out, parts)
             }
             None => Ok(()),
         },
@@ -68,13 +63,13 @@ fn write_items(
 }
 
 /// The name of an end: `p` and a process's number, or what else it is.
-pub(crate) fn write_end(alloc: Global, out: &mut Vec<u8>, end: End) -> Result<(), AllocError>
+pub(crate) fn write_end(out: &mut Vec<u8>, end: End) -> Result<(), AllocError>
     ensures { OnOk result (AddsText out.old out.new (end_text end)) }
 {
     match end {
         End::Process(number) => {
             out.push(b'p')?;
-            write_number(alloc, out, u64::from(number))
+            write_number(out, u64::from(number))
         }
         End::Keyboard => out.extend_from_slice(b"keyboard"),
         End::Screen => out.extend_from_slice(b"screen"),
@@ -92,33 +87,27 @@ fn write_head(
 ) -> Result<(), AllocError>
     ensures { OnOk result (AddsText out.old out.new (channel_head channels.now number chan)) }
 {
-    write_number(alloc, out, number)?;
+    write_number(out, number)?;
     out.extend_from_slice(b" c")?;
-    write_number(alloc, out, u64::from(chan))?;
+    write_number(out, u64::from(chan))?;
     out.push(b' ')?;
     write_name(alloc, out, channels, chan)
 }
 
 /// The two ends of a communication, between spaces.
-pub(crate) fn write_ends(
-    alloc: Global,
-    out: &mut Vec<u8>,
-    sender: End,
-    receiver: End,
-) -> Result<(), AllocError>
+pub(crate) fn write_ends(out: &mut Vec<u8>, sender: End, receiver: End) -> Result<(), AllocError>
     ensures { OnOk result (AddsText out.old out.new (ends_text sender receiver)) }
 {
     out.push(b' ')?;
-    write_end(alloc, out, sender)?;
+    write_end(out, sender)?;
     out.push(b'>')?;
-    write_end(alloc, out, receiver)?;
+    write_end(out, receiver)?;
     out.push(b' ')?;
     Ok(())
 }
 
 /// The tag's name and the items of a message on this channel.
 fn write_message(
-    alloc: Global,
     out: &mut Vec<u8>,
     message: &MessageView<'_>,
     chan: u32,
@@ -128,8 +117,8 @@ fn write_message(
 {
     let items = message.items();
     match message.tag() {
-        Some(tag) => write_items(alloc, out, Some(tag_name(channels, chan, tag)), items),
-        None => write_items(alloc, out, None, items),
+        Some(tag) => write_items(out, Some(tag_name(channels, chan, tag)), items),
+        None => write_items(out, None, items),
     }
 }
 
@@ -146,11 +135,15 @@ pub(crate) fn write_label(
     let chan = communication.chan();
     write_name(alloc, out, channels, chan)?;
     out.push(b' ')?;
-    write_message(alloc, out, &communication.message(), chan, channels)
+    write_message(out, &communication.message(), chan, channels)
 }
 
-/// The line of a communication, which has this number.
-fn write_line(
+/// Puts the line of a communication, which has this number, behind these bytes.
+///
+/// # Errors
+///
+/// A refused growth.
+pub fn write_line(
     alloc: Global,
     out: &mut Vec<u8>,
     number: u64,
@@ -162,8 +155,8 @@ fn write_line(
 {
     let chan = communication.chan();
     write_head(alloc, out, number, chan, channels)?;
-    write_ends(alloc, out, communication.sender(), communication.receiver())?;
-    write_message(alloc, out, &communication.message(), chan, channels)?;
+    write_ends(out, communication.sender(), communication.receiver())?;
+    write_message(out, &communication.message(), chan, channels)?;
     out.push(LINE_FEED)?;
     Ok(())
 }

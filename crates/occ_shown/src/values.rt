@@ -1,16 +1,24 @@
 //! Values, names and numbers of processes, in bytes.
 ghost use Rattle.std.specs.Prelude.{◌≡◌, OnOk, Some};
-ghost use Rattle.std.specs.Fmt.{decimal};
+ghost use Rattle.std.specs.Fmt.{decimal, signed_decimal};
 ghost use Rattle.occ_shown.specs.Answers.{array_text, names_of, numbers_text, spaced_text, tag_name_in, value_text, AddsText};
 
+use itoa::Buffer;
 use occ_term::{Channel, Primitive, Protocol};
 use std::alloc::{AllocError, Global};
 
-pub(crate) fn write_number(alloc: Global, out: &mut Vec<u8>, number: u64) -> Result<(), AllocError>
+pub(crate) fn write_number(out: &mut Vec<u8>, number: u64) -> Result<(), AllocError>
     ensures { OnOk result (AddsText out.old out.new (decimal number)) }
 {
-    let text = format!(in alloc; "{number}")?;
-    out.extend_from_slice(text.as_bytes())
+    let mut buffer = Buffer::new();
+    out.extend_from_slice(buffer.format(number).as_bytes())
+}
+
+pub(crate) fn write_integer(out: &mut Vec<u8>, number: i64) -> Result<(), AllocError>
+    ensures { OnOk result (AddsText out.old out.new (signed_decimal number)) }
+{
+    let mut buffer = Buffer::new();
+    out.extend_from_slice(buffer.format(number).as_bytes())
 }
 
 /// A value of this type.
@@ -18,12 +26,7 @@ pub(crate) fn write_number(alloc: Global, out: &mut Vec<u8>, number: u64) -> Res
 /// # Errors
 ///
 /// A refused growth.
-pub fn write_value(
-    alloc: Global,
-    out: &mut Vec<u8>,
-    primitive: Primitive,
-    value: i64,
-) -> Result<(), AllocError>
+pub fn write_value(out: &mut Vec<u8>, primitive: Primitive, value: i64) -> Result<(), AllocError>
     ensures { OnOk result (AddsText out.old out.new (value_text primitive value)) }
 {
     match primitive {
@@ -34,26 +37,18 @@ pub fn write_value(
                 out.extend_from_slice(b"FALSE")
             }
         }
-        Primitive::Byte | Primitive::Int => {
-            let text = format!(in alloc; "{value}")?;
-            out.extend_from_slice(text.as_bytes())
-        }
+        Primitive::Byte | Primitive::Int => write_integer(out, value),
     }
 }
 
 /// Values, each after a space.
-fn write_spaced(
-    alloc: Global,
-    out: &mut Vec<u8>,
-    primitive: Primitive,
-    values: &[i64],
-) -> Result<(), AllocError>
+fn write_spaced(out: &mut Vec<u8>, primitive: Primitive, values: &[i64]) -> Result<(), AllocError>
     ensures { OnOk result (AddsText out.old out.new (spaced_text primitive values.now)) }
 {
     let mut rest = values;
     while let Some((value, others)) = rest.split_first() {
         out.push(b' ')?;
-        write_value(alloc, out, primitive, *value)?;
+        write_value(out, primitive, *value)?;
         rest = others;
     }
     Ok(())
@@ -65,7 +60,6 @@ fn write_spaced(
 ///
 /// A refused growth.
 pub fn write_array(
-    alloc: Global,
     out: &mut Vec<u8>,
     primitive: Primitive,
     values: &[i64],
@@ -74,8 +68,8 @@ pub fn write_array(
 {
     out.push(b'[')?;
     if let Some((first, others)) = values.split_first() {
-        write_value(alloc, out, primitive, *first)?;
-        write_spaced(alloc, out, primitive, others)?;
+        write_value(out, primitive, *first)?;
+        write_spaced(out, primitive, others)?;
     }
     out.push(b']')?;
     Ok(())
@@ -128,14 +122,13 @@ fn protocol_tag(protocol: &Protocol, tag: u32) -> &[u8]
 /// # Errors
 ///
 /// A refused growth.
-pub fn write_numbers(alloc: Global, out: &mut Vec<u8>, numbers: &[u32]) -> Result<(), AllocError>
+pub fn write_numbers(out: &mut Vec<u8>, numbers: &[u32]) -> Result<(), AllocError>
     ensures { OnOk result (AddsText out.old out.new (numbers_text numbers.now)) }
 {
     let mut rest = numbers;
     while let Some((first, others)) = rest.split_first() {
-        let number = *first;
-        let text = format!(in alloc; " p{number}")?;
-        out.extend_from_slice(text.as_bytes())?;
+        out.extend_from_slice(b" p")?;
+        write_number(out, u64::from(*first))?;
         rest = others;
     }
     Ok(())

@@ -138,42 +138,37 @@ fn view_of(part: &Part) -> PartView<'_>
 }
 
 /// An item.
-fn write_owned(alloc: Global, out: &mut Vec<u8>, part: &Part) -> Result<(), AllocError>
+fn write_owned(out: &mut Vec<u8>, part: &Part) -> Result<(), AllocError>
     ensures { OnOk result (AddsText out.old out.new (part_text part.now)) }
 {
-    write_part(alloc, out, &view_of(part))
+    write_part(out, &view_of(part))
 }
 
 /// Items, each after a semicolon and a space.
-fn write_others(alloc: Global, out: &mut Vec<u8>, parts: &[Part]) -> Result<(), AllocError>
+fn write_others(out: &mut Vec<u8>, parts: &[Part]) -> Result<(), AllocError>
     ensures { OnOk result (AddsText out.old out.new (later_text parts.now)) }
 {
     for part in parts {
         out.extend_from_slice(b"; ")?;
-        write_owned(alloc, out, part)?;
+        write_owned(out, part)?;
     }
     Ok(())
 }
 
 /// The items of a message, of which a tag's name is the first.
-fn write_all(
-    alloc: Global,
-    out: &mut Vec<u8>,
-    tag: Option<&Text>,
-    parts: &[Part],
-) -> Result<(), AllocError>
+fn write_all(out: &mut Vec<u8>, tag: Option<&Text>, parts: &[Part]) -> Result<(), AllocError>
     ensures { OnOk result
         (AddsText out.old out.new (items_text (option_copied tag.entry) parts.now)) }
 {
     match tag {
         Some(name) => {
             out.extend_from_slice(name.as_slice())?;
-            write_others(alloc, out, parts)
+            write_others(out, parts)
         }
         None => match parts.split_first() {
             Some((first, others)) => {
-                write_owned(alloc, out, first)?;
-                write_others(alloc, out, others)
+                write_owned(out, first)?;
+                write_others(out, others)
             }
             None => Ok(()),
         },
@@ -184,9 +179,9 @@ fn write_all(
 fn write_beginning(alloc: Global, out: &mut Vec<u8>, shown: &Shown) -> Result<(), AllocError>
     ensures { OnOk result (AddsText out.old out.new (entry_head shown.now)) }
 {
-    write_number(alloc, out, shown.number())?;
+    write_number(out, shown.number())?;
     out.extend_from_slice(b" c")?;
-    write_number(alloc, out, u64::from(shown.channel()))?;
+    write_number(out, u64::from(shown.channel()))?;
     out.push(b' ')?;
     shown.name().write(alloc, out)
 }
@@ -196,8 +191,8 @@ fn write_shown(alloc: Global, out: &mut Vec<u8>, shown: &Shown) -> Result<(), Al
     ensures { OnOk result (AddsText out.old out.new (line_text shown.now)) }
 {
     write_beginning(alloc, out, shown)?;
-    write_ends(alloc, out, shown.sender(), shown.receiver())?;
-    write_all(alloc, out, shown.tag(), shown.message().items.as_slice())?;
+    write_ends(out, shown.sender(), shown.receiver())?;
+    write_all(out, shown.tag(), shown.message().items.as_slice())?;
     out.push(LINE_FEED)?;
     Ok(())
 }

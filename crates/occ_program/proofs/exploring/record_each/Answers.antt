@@ -1,6 +1,6 @@
-use Rattle.std.proofs.Common.{◌≡◌, ◌+◌, ◌⊎◌, arith, subst, suc, sym, take}
+use Rattle.std.proofs.Common.{◌≡◌, ◌+◌, arith, subst, suc, sym, take}
 use Rattle.occ_choices.specs.Lines.{choice_text}
-use Rattle.occ_files.specs.Leaving.{LeavesOne, LeavesAll, LeavesNothing}
+use Rattle.occ_files.specs.Leaving.{LeavesOne, LeavesAll}
 use Rattle.occ_program.specs.Pages.{answer_files, answer_path}
 use Rattle.occ_program.proofs.Recorded.{all_files, all_so_far, first_files, on_err}
 use Rattle.occ_program.proofs.exploring.record_each.Goals as goal
@@ -12,8 +12,7 @@ returns-in_err-record_answer-clause-err g c =
     let stem = c.args.stem.now in
     on_err c.from_residual.result
     (first_files (left c.args.folder.now) (left c.loop-answer.folder) (left c.record_answer.new.folder) stem c.args.answers.now c.loop-answer.answer-index c.loop-answer.number a c.loop-answer-test.true c.answer-item.is
-    c.loop-answer.invariant.counted c.loop-answer.invariant.recorded
-    (subst (λ t. LeavesNothing (left c.loop-answer.folder) (left c.record_answer.new.folder) ⊎ LeavesOne (left c.loop-answer.folder) (left c.record_answer.new.folder) (answer_path stem c.loop-answer.number) (choice_text t)) c.as_slice.ensures.value c.in_err-record_answer.ensures.err))
+    c.loop-answer.invariant.counted c.loop-answer.invariant.recorded c.in_err-record_answer.ensures.err)
 
 pub loop-answer-preserved : goal.loop-answer-preserved
 loop-answer-preserved g c =
