@@ -29,7 +29,7 @@ impl Tables {
                 Some(task) => self.hears(&task.wait, pick),
                 None => unreachable!(),
             },
-            TurnEnd::Ready | TurnEnd::Offers(_, _) => false,
+            TurnEnd::Ready | TurnEnd::Offers(_, _) | TurnEnd::OffersOne(_, _, _) => false,
         }
     }
 

@@ -1,6 +1,7 @@
 //! Offers and inputs: the two ends of a channel meet, or one waits for the other.
-ghost use Rattle.std.specs.Prelude.{◌≡◌, ◌≢◌, ◌+◌, ◌<◌, ◌^◌, [], IfErr, IfOk, List, None, OnErr, OnOk, Option, Some, length, remove, slice_get, vec_capacity, vec_len, ℕ};
+ghost use Rattle.std.specs.Prelude.{◌≡◌, ◌≢◌, ◌+◌, ◌<◌, ◌^◌, [], IfErr, IfOk, IfSome, List, None, OnErr, OnOk, Option, Some, length, remove, slice_get, vec_capacity, vec_len, ℕ};
 ghost use Rattle.occ_term.specs.declared.fault.Fault.{Fault};
+ghost use Rattle.occ_proc.specs.Turns.{one_message};
 ghost use Rattle.occ_machine.specs.SameStop.{IsRising};
 ghost use Rattle.occ_machine.specs.declared.task.Arm.{Arm};
 ghost use Rattle.occ_machine.specs.declared.task.Task.{Task};
@@ -9,7 +10,7 @@ ghost use Rattle.occ_net_tables.specs.Choosing.{input_arm, keyboard_at};
 ghost use Rattle.occ_net_tables.specs.Keys.{entry_in};
 ghost use Rattle.occ_net_tables.specs.Light.{StandsLight};
 ghost use Rattle.occ_net_tables.specs.Room.{HasRoom};
-ghost use Rattle.occ_net_tables.specs.Settling.{GaveLeft, HandsTo, HasSomeMid, IsAwaiting, IsOffering, IsTaking, IsTakingBy, LeavesChannels, NotesFirst, SettlesAnyhow, SettlesBy, SettlesOn, SettlesWith, ShowsLeft, TookByte, TookOffer, byte_on, offer_left, outer_taker};
+ghost use Rattle.occ_net_tables.specs.Settling.{GaveOne, HandsTo, HasSomeMid, IsAwaiting, IsOffering, IsTaking, IsTakingBy, LeavesChannels, NotesFirst, SettlesAnyhow, SettlesBy, SettlesOn, SettlesWith, ShowsOne, TookByte, TookOffer, byte_on, offer_one, outer_taker};
 ghost use Rattle.occ_net_tables.specs.Tasks.{IsOffered, WaitSet};
 
 use crate::choosing::{choose_arm, set_arms};
@@ -18,7 +19,7 @@ use crate::ready::{insert, take_out};
 use crate::tables::Tables;
 use crate::tasks::{awaited, set_wait, take_offered, take_wait};
 use occ_machine::{Arm, Indices, Task, Wait};
-use occ_proc::Scratch;
+use occ_proc::one_message;
 use occ_term::{ERROR, End, Fault, KEYBOARD, Message, Part, Parts, Primitive, SCREEN};
 use sqlite_items::Items;
 use std::alloc::{AllocError, Global};
@@ -99,6 +100,19 @@ fn offered(tasks: &[Option<Task>], giver: u32) -> &Message
             _ => unreachable!(),
         },
         None => unreachable!(),
+    }
+}
+
+/// The value that the process offers, where its message is one value with no tag.
+#[inline(always)]
+fn offered_one(tasks: &[Option<Task>], giver: u32) -> Option<(Primitive, i64)>
+    requires { (chan : ℕ) × IsOffering tasks.now giver chan }
+    ensures { IfSome result (λ one. IsOffered tasks.now giver (one_message one.0 one.1)) }
+{
+    let message = offered(tasks, giver);
+    match (message.tag, message.items.as_slice()) {
+        (None, [Part::One(primitive, value)]) => Some((*primitive, *value)),
+        _ => None,
     }
 }
 
@@ -261,6 +275,54 @@ impl Tables {
         ensures ok { OnOk result (TookOffer self.old number giver chan arm self.new) }
         ensures err { OnErr result (self.new ≡ self.old) }
     {
+        match offered_one(&self.tasks, giver) {
+            Some((primitive, value)) => self.take_one(number, giver, chan, arm, primitive, value),
+            None => self.take_whole(number, giver, chan, arm),
+        }
+    }
+
+    /// The same where that message is one value, with no tag.
+    #[inline(always)]
+    fn take_one(
+        &mut self,
+        number: u32,
+        giver: u32,
+        chan: u32,
+        arm: Arm,
+        primitive: Primitive,
+        value: i64,
+    ) -> Result<(), AllocError>
+        requires there { StandsLight self.old.tasks.items number }
+        requires offers { IsOffering self.old.tasks.items giver chan }
+        requires one { IsOffered self.old.tasks.items giver (one_message primitive value) }
+        requires apart { number ≢ giver }
+        requires rising { IsRising self.old.ready.items }
+        requires room { HasRoom self.old 1 }
+        ensures ok { OnOk result (TookOffer self.old number giver chan arm self.new) }
+        ensures err { OnErr result (self.new ≡ self.old) }
+    {
+        let (sender, receiver) = (End::Process(giver), End::Process(number));
+        self.trace
+            .push_one(chan, sender, receiver, primitive, value)?;
+        let _offered = take_offered(&mut self.tasks, giver);
+        set_entry(&mut self.offering, chan, None);
+        let message = one_message(primitive, value);
+        set_wait(&mut self.tasks, number, took(arm, Some(message)));
+        insert(&mut self.ready, giver);
+        Ok(())
+    }
+
+    /// The same of any message.
+    #[inline(never)]
+    fn take_whole(&mut self, number: u32, giver: u32, chan: u32, arm: Arm) -> Result<(), AllocError>
+        requires there { StandsLight self.old.tasks.items number }
+        requires offers { IsOffering self.old.tasks.items giver chan }
+        requires apart { number ≢ giver }
+        requires rising { IsRising self.old.ready.items }
+        requires room { HasRoom self.old 1 }
+        ensures ok { OnOk result (TookOffer self.old number giver chan arm self.new) }
+        ensures err { OnErr result (self.new ≡ self.old) }
+    {
         let (sender, receiver) = (End::Process(giver), End::Process(number));
         self.trace
             .push(chan, sender, receiver, offered(&self.tasks, giver))?;
@@ -305,98 +367,95 @@ impl Tables {
         Ok(())
     }
 
-    /// What the process offers is taken, or it waits until it is: the message that its turn left, with this tag where it has one.
-    #[inline(always)]
-    pub(crate) fn offer_left(
+    /// The same where nothing is handed back: after a refused growth the network is not to be used.
+    #[inline(never)]
+    pub(crate) fn offer_made(
         &mut self,
-        scratch: &mut Scratch,
         place: usize,
         number: u32,
         chan: u32,
-        tag: Option<u32>,
+        message: Message,
         pick: u32,
     ) -> Result<(), AllocError>
-        requires mid { HasSomeMid self.old number place (offer_left chan tag scratch.old) }
+        requires mid { HasSomeMid self.old number place (Wait.Offers chan message) }
         requires room { HasRoom self.old 1 }
         ensures { OnOk result
-            (SettlesBy pick number place (offer_left chan tag scratch.old) self.old self.new) }
+            (SettlesBy pick number place (Wait.Offers chan message) self.old self.new) }
+    {
+        match self.offer(place, number, chan, message, pick) {
+            Ok(()) => Ok(()),
+            Err((_, refused)) => Err(refused),
+        }
+    }
+
+    /// The same of a message of one value, with no tag.
+    #[inline(always)]
+    pub(crate) fn offer_one(
+        &mut self,
+        place: usize,
+        number: u32,
+        chan: u32,
+        primitive: Primitive,
+        value: i64,
+        pick: u32,
+    ) -> Result<(), AllocError>
+        requires mid { HasSomeMid self.old number place (offer_one chan primitive value) }
+        requires room { HasRoom self.old 1 }
+        ensures { OnOk result
+            (SettlesBy pick number place (offer_one chan primitive value) self.old self.new) }
     {
         if let Some(receiver) = reader(chan) {
-            return self.show_left(scratch, number, receiver, chan, tag);
+            return self.show_one(number, receiver, chan, primitive, value);
         }
         let Some(taker) = entry(&self.awaiting, chan) else {
-            self.keep_offering(place, number, chan, scratch.take_message(tag));
+            self.keep_offering(place, number, chan, one_message(primitive, value));
             return Ok(());
         };
         let Some(_own) = awaited(&self.tasks, taker) else {
-            return self.offer_apart(scratch, place, number, chan, tag, pick);
+            return self.offer_made(place, number, chan, one_message(primitive, value), pick);
         };
-        self.give_left(scratch, number, taker, chan, tag)
+        self.give_one(number, taker, chan, primitive, value)
     }
 
-    /// The message that the process's turn left goes to an end that always takes it.
+    /// One value goes to an end that always takes it.
     #[inline(never)]
-    fn show_left(
+    fn show_one(
         &mut self,
-        scratch: &mut Scratch,
         number: u32,
         receiver: End,
         chan: u32,
-        tag: Option<u32>,
+        primitive: Primitive,
+        value: i64,
     ) -> Result<(), AllocError>
-        ensures { OnOk result
-            (ShowsLeft self.old number receiver chan tag scratch.old self.new) }
+        ensures { OnOk result (ShowsOne self.old number receiver chan primitive value self.new) }
     {
-        let message = scratch.take_message(tag);
         let sender = End::Process(number);
-        self.trace.push(chan, sender, receiver, &message)?;
+        self.trace
+            .push_one(chan, sender, receiver, primitive, value)?;
         Ok(())
     }
 
-    /// What the process offers is taken, whoever does so, or it waits until it is.
-    #[inline(never)]
-    fn offer_apart(
-        &mut self,
-        scratch: &mut Scratch,
-        place: usize,
-        number: u32,
-        chan: u32,
-        tag: Option<u32>,
-        pick: u32,
-    ) -> Result<(), AllocError>
-        requires mid { HasSomeMid self.old number place (offer_left chan tag scratch.old) }
-        requires room { HasRoom self.old 1 }
-        ensures { OnOk result
-            (SettlesBy pick number place (offer_left chan tag scratch.old) self.old self.new) }
-    {
-        let message = scratch.take_message(tag);
-        match self.offer(place, number, chan, message, pick) {
-            Ok(()) => {}
-            Err((_, refused)) => return Err(refused),
-        }
-        Ok(())
-    }
-
-    /// The message that the process's turn left goes to one that awaits it on this channel alone. It does so too where its
-    /// communication can't be noted: after a refused growth the network is not to be used.
+    /// One value goes to a process that awaits a message on this channel alone. It does so too where its communication can't be
+    /// noted: after a refused growth the network is not to be used.
     #[inline(always)]
-    fn give_left(
+    fn give_one(
         &mut self,
-        scratch: &mut Scratch,
         number: u32,
         taker: u32,
         chan: u32,
-        tag: Option<u32>,
+        primitive: Primitive,
+        value: i64,
     ) -> Result<(), AllocError>
         requires awaits { IsAwaiting self.old.tasks.items taker chan }
         requires rising { IsRising self.old.ready.items }
         requires room { HasRoom self.old 1 }
-        ensures { OnOk result (GaveLeft self.old number taker chan tag scratch.old self.new) }
+        ensures { OnOk result (GaveOne self.old number taker chan primitive value self.new) }
     {
-        let message = scratch.take_message(tag);
         let (sender, receiver) = (End::Process(number), End::Process(taker));
-        let noted = self.trace.push(chan, sender, receiver, &message);
-        self.hand_to_input(taker, chan, message);
+        let noted = self
+            .trace
+            .push_one(chan, sender, receiver, primitive, value);
+        self.hand_to_input(taker, chan, one_message(primitive, value));
         noted
     }
 

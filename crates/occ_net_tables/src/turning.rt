@@ -4,7 +4,7 @@ ghost use Rattle.occ_choices.specs.Plans.{choices_of};
 ghost use Rattle.occ_net_tables.specs.Halves.{BeginsTurn, CanBegin, IsBegun, SettlesBegun};
 ghost use Rattle.occ_net_tables.specs.Endings.{GoesOn};
 ghost use Rattle.occ_net_tables.specs.Rows.{StandsAlone};
-ghost use Rattle.occ_net_tables.specs.Settling.{HasSomeMid, HasStopped, SettlesBy, SettlesOn, SettlesWait, Standing, TakesTurn, offer_left};
+ghost use Rattle.occ_net_tables.specs.Settling.{HasSomeMid, HasStopped, SettlesBy, SettlesOn, SettlesWait, Standing, TakesTurn, offer_left, offer_one};
 ghost use Rattle.occ_net_tables.specs.Turning.{TakesRowOf};
 
 use crate::ready::place_among;
@@ -14,6 +14,7 @@ use occ_choices::Plan;
 use occ_machine::{Code, Wait};
 use occ_net_replay::Choice;
 use occ_proc::{Scratch, TurnEnd};
+use occ_term::Primitive;
 use std::alloc::{AllocError, Global};
 
 /// A turn that has come to its stop, before anything happens behind it.
@@ -136,6 +137,10 @@ impl Tables {
                 self.settle_offer(scratch, place, number, chan, tag, pick)?;
                 Ok(self.several_ready())
             }
+            TurnEnd::OffersOne(primitive, value, chan) => {
+                self.settle_one(place, number, chan, primitive, value, pick)?;
+                Ok(self.several_ready())
+            }
             TurnEnd::Awaits(chan) => {
                 self.settle_input(keyboard, place, number, chan)?;
                 Ok(self.several_ready())
@@ -171,7 +176,28 @@ impl Tables {
             (SettlesBy pick number place (offer_left chan tag scratch.old) self.old self.new) }
     {
         self.make_room(1)?;
-        self.offer_left(scratch, place, number, chan, tag, pick)?;
+        let message = scratch.take_message(tag);
+        self.offer_made(place, number, chan, message, pick)?;
+        Ok(())
+    }
+
+    /// What happens at once where a process offers a message of one value, with no tag.
+    #[inline(never)]
+    fn settle_one(
+        &mut self,
+        place: usize,
+        number: u32,
+        chan: u32,
+        primitive: Primitive,
+        value: i64,
+        pick: u32,
+    ) -> Result<(), AllocError>
+        requires { HasSomeMid self.old number place (offer_one chan primitive value) }
+        ensures { OnOk result
+            (SettlesBy pick number place (offer_one chan primitive value) self.old self.new) }
+    {
+        self.make_room(1)?;
+        self.offer_one(place, number, chan, primitive, value, pick)?;
         Ok(())
     }
 

@@ -34,5 +34,5 @@ mod values;
 
 pub use scratch::Scratch;
 pub use segment::{Segment, turn};
-pub use turn_end::TurnEnd;
+pub use turn_end::{TurnEnd, one_message};
 pub use turns::{advance, advance_row, advance_to_end};

@@ -2,11 +2,12 @@
 ghost use Rattle.std.specs.Prelude.{◌≡◌, IfNone, IfSome, List};
 ghost use Rattle.occ_term.specs.declared.message.Part.{Part};
 ghost use Rattle.occ_proc.specs.Doing.{wait_of};
-ghost use Rattle.occ_proc.specs.Turns.{IsEndOf, IsHeavy, IsLeftReady, left_message, standing_at};
+ghost use Rattle.occ_proc.specs.Turns.{IsEndOf, IsHeavy, IsLeftReady, left_message, one_message, standing_at};
 
 use crate::scratch::Scratch;
 use crate::stop::Stop;
 use occ_machine::Wait;
+use occ_term::{Message, Part, Parts, Primitive};
 
 /// What a process stands at after its turn, where that is light enough to be handed over.
 #[derive(Clone, Copy, PartialEq, Eq)]
@@ -15,6 +16,8 @@ pub enum TurnEnd {
     Ready,
     /// It offers the message that its turn left, with this tag where it has one, on this channel.
     Offers(Option<u32>, u32),
+    /// It offers a message of this one value, with no tag, on this channel.
+    OffersOne(Primitive, i64, u32),
     /// It awaits a message on this channel.
     Awaits(u32),
     /// Something else, which is in its task.
@@ -78,6 +81,21 @@ pub(crate) fn put_wait(end: TurnEnd, scratch: &mut Scratch, wait: &mut Wait)
             let message = scratch.take_message(tag);
             *wait = Wait::Offers { chan, message };
         }
+        TurnEnd::OffersOne(primitive, value, chan) => {
+            let message = one_message(primitive, value);
+            *wait = Wait::Offers { chan, message };
+        }
         TurnEnd::Awaits(chan) => *wait = Wait::Awaits { chan },
+    }
+}
+
+/// The message of one value, with no tag.
+#[inline(always)]
+pub fn one_message(primitive: Primitive, value: i64) -> Message
+    ensures { result ≡ one_message primitive value }
+{
+    Message {
+        tag: None,
+        items: Parts::one(Part::One(primitive, value)),
     }
 }

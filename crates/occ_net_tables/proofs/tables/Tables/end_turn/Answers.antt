@@ -1,9 +1,9 @@
-use Rattle.std.proofs.Common.{◌≡◌, ◌∙◌, ap, arith, refl, subst, sym}
+use Rattle.std.proofs.Common.{◌≡◌, ◌∙◌, ap, arith, of_z, refl, rules, subst, sym, to_z, w64}
 use Rattle.occ_term.specs.Messages.{message}
 use Rattle.occ_machine.specs.SameStop.{ready_with}
 use Rattle.occ_machine.specs.declared.task.Task.{Task}
 use Rattle.occ_machine.specs.declared.task.Wait.TheVariants as W
-use Rattle.occ_proc.specs.Turns.{IsLeftReady, left_message, standing_at}
+use Rattle.occ_proc.specs.Turns.{IsLeftReady, left_message, one_message, standing_at}
 use Rattle.occ_net_replay.specs.Replay.{is_done, noted_at}
 use Rattle.occ_net_replay.proofs.Tables.{task_once}
 use Rattle.occ_net_tables.specs.Settling.{SettlesTo, tables_with}
@@ -64,6 +64,25 @@ settle_offer-requires c =
     let after : Task = ready_with r.left (standing_at c.args.begun.end items r.left.wait) in
     let waits : after.wait ≡ W.Offers c.in-Offers.chan (message c.in-Offers.tag items) = ap (λ e. standing_at e items r.left.wait) c.in-Offers.is in
     let ready : r.left.wait ≡ W.Ready = subst (λ e. IsLeftReady e r.left.wait) c.in-Offers.is r.ready in
+    let tasks = tasks_left n number r.left r.there ready (standing_at c.args.begun.end items r.left.wait) in
+    let s = r.behind.standing in
+    let mid = mid_behind p kb c.compiled.ensures bytes n place number after r.behind.last s r.behind.turn n tasks s.net s.holds refl refl refl refl refl refl refl refl in
+    (p, record { keyboard = kb; after = after; net = s.net; mid = mid; waits = waits })
+
+pub settle_one-requires : goal.settle_one-requires
+settle_one-requires c =
+    let p = c.args.code.now in
+    let kb = c.args.keyboard.now in
+    let n = c.args.self.now in
+    let number = c.args.begun.number in
+    let place = c.args.begun.place in
+    let items = left_message c.args.scratch.now in
+    let bytes = are_bytes kb (λ k. (c.type_inv.keyboard k).fits) in
+    let r = c.requires in
+    let after : Task = ready_with r.left (standing_at c.args.begun.end items r.left.wait) in
+    let held : to_z w64 (of_z w64 c.in-OffersOne.value) ≡ c.in-OffersOne.value = search rules in
+    let waits : after.wait ≡ W.Offers c.in-OffersOne.chan (one_message c.in-OffersOne.primitive (to_z w64 (of_z w64 c.in-OffersOne.value))) = ap (λ e. standing_at e items r.left.wait) c.in-OffersOne.is ∙ ap (λ v. W.Offers c.in-OffersOne.chan (one_message c.in-OffersOne.primitive v)) (sym held) in
+    let ready : r.left.wait ≡ W.Ready = subst (λ e. IsLeftReady e r.left.wait) c.in-OffersOne.is r.ready in
     let tasks = tasks_left n number r.left r.there ready (standing_at c.args.begun.end items r.left.wait) in
     let s = r.behind.standing in
     let mid = mid_behind p kb c.compiled.ensures bytes n place number after r.behind.last s r.behind.turn n tasks s.net s.holds refl refl refl refl refl refl refl refl in
@@ -133,6 +152,27 @@ returns-in_ok-settle_offer-in-Offers-clause-turn c =
     turns_behind p kb c.compiled.ensures bytes n place number after last s t n tasks net h choice (own_place n place number choice.which t.at own) _
     (subst (λ k. SettlesTo p kb k number after net c.settle_offer.new.self) pick (c.in_ok-settle_offer-in-Offers.ensures p kb after net mid waits))
 
+pub returns-in_ok-settle_one-in-OffersOne-clause-turn : goal.returns-in_ok-settle_one-in-OffersOne-clause-turn
+returns-in_ok-settle_one-in-OffersOne-clause-turn c =
+    let p = c.args.code.now in
+    let kb = c.args.keyboard.now in
+    let n = c.args.self.now in
+    let number = c.args.begun.number in
+    let place = c.args.begun.place in
+    let items = left_message c.args.scratch.now in
+    let bytes = are_bytes kb (λ k. (c.type_inv.keyboard k).fits) in
+    let r = c.requires in
+    λ left there last net choice s t h own pick.
+    let same : r.left ≡ left = task_once n.tasks.items number r.there there in
+    let after : Task = ready_with left (standing_at c.args.begun.end items left.wait) in
+    let held : to_z w64 (of_z w64 c.in-OffersOne.value) ≡ c.in-OffersOne.value = search rules in
+    let waits : after.wait ≡ W.Offers c.in-OffersOne.chan (one_message c.in-OffersOne.primitive (to_z w64 (of_z w64 c.in-OffersOne.value))) = ap (λ e. standing_at e items left.wait) c.in-OffersOne.is ∙ ap (λ v. W.Offers c.in-OffersOne.chan (one_message c.in-OffersOne.primitive v)) (sym held) in
+    let ready : left.wait ≡ W.Ready = subst (λ (z : Task). z.wait ≡ W.Ready) same (subst (λ e. IsLeftReady e r.left.wait) c.in-OffersOne.is r.ready) in
+    let tasks = tasks_left n number left there ready (standing_at c.args.begun.end items left.wait) in
+    let mid = mid_behind p kb c.compiled.ensures bytes n place number after last s t n tasks net h refl refl refl refl refl refl refl refl in
+    turns_behind p kb c.compiled.ensures bytes n place number after last s t n tasks net h choice (own_place n place number choice.which t.at own) _
+    (subst (λ k. SettlesTo p kb k number after net c.settle_one.new.self) pick (c.in_ok-settle_one-in-OffersOne.ensures p kb after net mid waits))
+
 pub returns-in_ok-settle_offer-in-Offers-clause-going : goal.returns-in_ok-settle_offer-in-Offers-clause-going
 returns-in_ok-settle_offer-in-Offers-clause-going c =
     let p = c.args.code.now in
@@ -152,6 +192,27 @@ returns-in_ok-settle_offer-in-Offers-clause-going c =
     λ going.
     let several = c.several_ready.ensures going in
     goes_where_some p kb (tables_with n number r.behind.last) s c.args.pick number mid.before after mid.has_task (ap is_done waits) (ap noted_at waits) (λ ns e. let q = sym waits ∙ e in cc) _ (c.in_ok-settle_offer-in-Offers.ensures p kb after s.net mid waits) (omega (arith, several))
+
+pub returns-in_ok-settle_one-in-OffersOne-clause-going : goal.returns-in_ok-settle_one-in-OffersOne-clause-going
+returns-in_ok-settle_one-in-OffersOne-clause-going c =
+    let p = c.args.code.now in
+    let kb = c.args.keyboard.now in
+    let n = c.args.self.now in
+    let number = c.args.begun.number in
+    let place = c.args.begun.place in
+    let items = left_message c.args.scratch.now in
+    let bytes = are_bytes kb (λ k. (c.type_inv.keyboard k).fits) in
+    let r = c.requires in
+    let after : Task = ready_with r.left (standing_at c.args.begun.end items r.left.wait) in
+    let held : to_z w64 (of_z w64 c.in-OffersOne.value) ≡ c.in-OffersOne.value = search rules in
+    let waits : after.wait ≡ W.Offers c.in-OffersOne.chan (one_message c.in-OffersOne.primitive (to_z w64 (of_z w64 c.in-OffersOne.value))) = ap (λ e. standing_at e items r.left.wait) c.in-OffersOne.is ∙ ap (λ v. W.Offers c.in-OffersOne.chan (one_message c.in-OffersOne.primitive v)) (sym held) in
+    let ready : r.left.wait ≡ W.Ready = subst (λ e. IsLeftReady e r.left.wait) c.in-OffersOne.is r.ready in
+    let tasks = tasks_left n number r.left r.there ready (standing_at c.args.begun.end items r.left.wait) in
+    let s = r.behind.standing in
+    let mid = mid_behind p kb c.compiled.ensures bytes n place number after r.behind.last s r.behind.turn n tasks s.net s.holds refl refl refl refl refl refl refl refl in
+    λ going.
+    let several = c.several_ready-in-OffersOne.ensures going in
+    goes_where_some p kb (tables_with n number r.behind.last) s c.args.pick number mid.before after mid.has_task (ap is_done waits) (ap noted_at waits) (λ ns e. let q = sym waits ∙ e in cc) _ (c.in_ok-settle_one-in-OffersOne.ensures p kb after s.net mid waits) (omega (arith, several))
 
 pub returns-in_ok-settle_input-in-Awaits-clause-turn : goal.returns-in_ok-settle_input-in-Awaits-clause-turn
 returns-in_ok-settle_input-in-Awaits-clause-turn c =
