@@ -63,6 +63,15 @@ impl Indices {
         Ok(Indices { kept })
     }
 
+    /// Whether they take no block of memory.
+    #[inline(always)]
+    pub fn is_light(&self) -> bool {
+        match &self.kept {
+            Kept::None | Kept::One(_) => true,
+            Kept::Several(_) => false,
+        }
+    }
+
     /// The values.
     pub fn as_slice(&self) -> &[i64]
         ensures { result.now ≡ self.now }

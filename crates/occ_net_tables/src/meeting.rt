@@ -17,7 +17,7 @@ use crate::choosing::{choose_arm, set_arms};
 use crate::entries::{entry, set_entry};
 use crate::ready::{insert, take_out};
 use crate::tables::Tables;
-use crate::tasks::{awaited, set_wait, take_offered, take_wait};
+use crate::tasks::{awaited, drop_offered, set_wait, take_offered, take_wait};
 use occ_machine::{Arm, Indices, Task, Wait};
 use occ_proc::one_message;
 use occ_term::{ERROR, End, Fault, KEYBOARD, Message, Part, Parts, Primitive, SCREEN};
@@ -304,7 +304,7 @@ impl Tables {
         let (sender, receiver) = (End::Process(giver), End::Process(number));
         self.trace
             .push_one(chan, sender, receiver, primitive, value)?;
-        let _offered = take_offered(&mut self.tasks, giver);
+        drop_offered(&mut self.tasks, giver);
         set_entry(&mut self.offering, chan, None);
         let message = one_message(primitive, value);
         set_wait(&mut self.tasks, number, took(arm, Some(message)));

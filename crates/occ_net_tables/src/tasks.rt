@@ -136,6 +136,22 @@ pub(crate) fn take_offered(tasks: &mut Vec<Option<Task>>, giver: u32) -> Message
     }
 }
 
+/// The message that the process offers is let go, and the process is left as ready.
+#[inline(always)]
+pub(crate) fn drop_offered(tasks: &mut Vec<Option<Task>>, giver: u32)
+    requires { (chan : ℕ) × IsOffering tasks.old.items giver chan }
+    ensures { WaitSet tasks.old.items giver Wait.Ready tasks.new.items }
+{
+    match &mut tasks[giver as usize] {
+        Some(task) => match &task.wait {
+            // in this arm it is known that nothing is let go
+            Wait::Offers { message, .. } if message.items.is_light() => task.wait = Wait::Ready,
+            _ => task.wait = Wait::Ready,
+        },
+        None => unreachable!(),
+    }
+}
+
 /// Takes the task out of its place.
 pub(crate) fn take_task(tasks: &mut Vec<Option<Task>>, number: u32) -> Task
     requires { IsThere tasks.old.items number }

@@ -77,6 +77,15 @@ impl Parts {
         }
     }
 
+    /// Whether they take no block of memory.
+    #[inline(always)]
+    pub fn is_light(&self) -> bool {
+        match &self.kept {
+            Kept::None | Kept::One(Part::One(_, _)) => true,
+            _ => false,
+        }
+    }
+
     /// Whether there are none.
     pub fn is_empty(&self) -> bool
         ensures { IsTrue result ↔ (self.now ≡ []) }
