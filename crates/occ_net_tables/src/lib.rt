@@ -7,6 +7,7 @@ mod asking;
 mod choosing;
 mod copying;
 mod counting;
+mod ends;
 mod entries;
 mod forking;
 mod joining;

@@ -1,26 +1,29 @@
 //! Offers and inputs: the two ends of a channel meet, or one waits for the other.
-ghost use Rattle.std.specs.Prelude.{◌≡◌, ◌≢◌, ◌+◌, ◌<◌, ◌^◌, [], IfErr, IfOk, IfSome, List, None, OnErr, OnOk, Option, Some, length, remove, slice_get, vec_capacity, vec_len, ℕ};
+ghost use Rattle.std.specs.Prelude.{◌≡◌, ◌≢◌, ◌+◌, ◌<◌, ◌^◌, [], IfErr, None, OnErr, OnOk, Option, Some, remove, vec_capacity, vec_len, ℕ};
 ghost use Rattle.occ_term.specs.declared.fault.Fault.{Fault};
 ghost use Rattle.occ_proc.specs.Turns.{one_message};
 ghost use Rattle.occ_machine.specs.SameStop.{IsRising};
 ghost use Rattle.occ_machine.specs.declared.task.Arm.{Arm};
 ghost use Rattle.occ_machine.specs.declared.task.Task.{Task};
-ghost use Rattle.occ_net_replay.specs.Replay.{byte_message};
-ghost use Rattle.occ_net_tables.specs.Choosing.{input_arm, keyboard_at};
+ghost use Rattle.occ_net_tables.specs.Choosing.{input_arm};
 ghost use Rattle.occ_net_tables.specs.Keys.{entry_in};
 ghost use Rattle.occ_net_tables.specs.Light.{StandsLight};
 ghost use Rattle.occ_net_tables.specs.Room.{HasRoom};
-ghost use Rattle.occ_net_tables.specs.Settling.{GaveOne, HandsTo, HasSomeMid, IsAwaiting, IsOffering, IsTaking, IsTakingBy, LeavesChannels, NotesFirst, SettlesAnyhow, SettlesBy, SettlesOn, SettlesWith, ShowsOne, TookByte, TookOffer, byte_on, offer_one, outer_taker};
+ghost use Rattle.occ_net_tables.specs.Settling.{GaveOne, HandsTo, HasSomeMid, IsAwaiting, IsOffering, IsTaking, IsTakingBy, LeavesChannels, NotesFirst, SettlesAnyhow, SettlesBy, SettlesOn, SettlesWith, ShowsOne, TookByte, TookOffer, offer_one, outer_taker};
 ghost use Rattle.occ_net_tables.specs.Tasks.{IsOffered, WaitSet};
 
 use crate::choosing::{choose_arm, set_arms};
+use crate::ends::{
+    copied_arm, input_arm, keyboard_channel, next_byte, offered, offered_one, one_byte, reader,
+    took,
+};
 use crate::entries::{entry, set_entry};
 use crate::ready::{insert, take_out};
 use crate::tables::Tables;
 use crate::tasks::{awaited, set_wait, take_offered, take_wait};
-use occ_machine::{Arm, Indices, Task, Wait};
+use occ_machine::{Arm, Task, Wait};
 use occ_proc::one_message;
-use occ_term::{ERROR, End, Fault, KEYBOARD, Message, Part, Parts, Primitive, SCREEN};
+use occ_term::{End, Fault, KEYBOARD, Message, Primitive};
 use sqlite_items::Items;
 use std::alloc::{AllocError, Global};
 
@@ -41,122 +44,6 @@ pub(crate) fn rest(
 {
     take_out(ready, place);
     set_wait(tasks, number, wait);
-}
-
-/// The end that always takes what is offered on this channel.
-#[inline(always)]
-fn reader(chan: u32) -> Option<End>
-    ensures { result ≡ outer_taker chan }
-{
-    match chan {
-        SCREEN => Some(End::Screen),
-        ERROR => Some(End::Error),
-        _ => None,
-    }
-}
-
-/// What the keyboard gives on this channel, where so many of its bytes are taken.
-#[inline(always)]
-fn next_byte(chan: u32, keyboard: &[u8], used: usize) -> Option<u8>
-    ensures { result ≡ byte_on chan keyboard.now used }
-{
-    if chan == KEYBOARD {
-        keyboard.get(used).copied()
-    } else {
-        None
-    }
-}
-
-/// The keyboard's channel, where not all of its bytes are taken.
-pub(crate) fn keyboard_channel(keyboard: &[u8], used: usize) -> Option<u32>
-    ensures { result ≡ keyboard_at keyboard.now used }
-{
-    if used < keyboard.len() {
-        Some(KEYBOARD)
-    } else {
-        None
-    }
-}
-
-/// The message of one byte.
-fn one_byte(byte: u8) -> Message
-    ensures { result ≡ byte_message byte }
-{
-    Message {
-        tag: None,
-        items: Parts::one(Part::One(Primitive::Byte, i64::from(byte))),
-    }
-}
-
-/// The message that the process offers.
-#[inline(always)]
-fn offered(tasks: &[Option<Task>], giver: u32) -> &Message
-    requires { (chan : ℕ) × IsOffering tasks.now giver chan }
-    ensures { IsOffered tasks.now giver result.now }
-{
-    match &tasks[giver as usize] {
-        Some(task) => match &task.wait {
-            Wait::Offers { message, .. } => message,
-            _ => unreachable!(),
-        },
-        None => unreachable!(),
-    }
-}
-
-/// The value that the process offers, where its message is one value with no tag.
-#[inline(always)]
-fn offered_one(tasks: &[Option<Task>], giver: u32) -> Option<(Primitive, i64)>
-    requires { (chan : ℕ) × IsOffering tasks.now giver chan }
-    ensures { IfSome result (λ one. IsOffered tasks.now giver (one_message one.0 one.1)) }
-{
-    let message = offered(tasks, giver);
-    match (message.tag, message.items.as_slice()) {
-        (None, [Part::One(primitive, value)]) => Some((*primitive, *value)),
-        _ => None,
-    }
-}
-
-/// A copy of the arm at this place.
-fn copied_arm(alloc: Global, arms: &[Arm], at: usize) -> Result<Arm, AllocError>
-    requires { at < length arms.now }
-    ensures { IfOk result (λ arm. slice_get arms.now at ≡ Some arm) }
-{
-    let arm = &arms[at];
-    let indices = arm.indices.copy(alloc)?;
-    Ok(Arm {
-        number: arm.number,
-        chan: arm.chan,
-        indices,
-    })
-}
-
-/// The arm by which an input takes its message.
-#[inline(always)]
-fn input_arm(chan: u32) -> Arm
-    ensures { result ≡ input_arm chan }
-{
-    Arm {
-        number: 0,
-        chan: Some(chan),
-        indices: Indices::new(),
-    }
-}
-
-/// What a process stands at that took this arm, with its message.
-#[inline(always)]
-fn took(arm: Arm, message: Option<Message>) -> Wait
-    ensures { result ≡ Wait.Took arm.number arm.indices message }
-{
-    let Arm {
-        number,
-        indices,
-        ..
-    } = arm;
-    Wait::Took {
-        arm: number,
-        indices,
-        message,
-    }
 }
 
 /// The first of the faults that were noted and of this one, which comes after them.

@@ -6,6 +6,7 @@
 #![tactic(auto)]
 
 mod arms;
+mod assigns;
 mod choices;
 mod common;
 mod common_arms;
@@ -16,6 +17,7 @@ mod numbers;
 mod opening;
 mod operands;
 mod parts;
+mod pushes;
 mod quick;
 mod replicating;
 mod results;
