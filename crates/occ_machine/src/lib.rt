@@ -6,9 +6,11 @@
 pub mod body;
 mod channels;
 pub mod code;
+mod describing;
 mod flat;
 pub mod indices;
 pub mod instr;
+mod looking;
 pub mod quick;
 mod same_code;
 pub mod task;
