@@ -2,6 +2,7 @@
 //! a lawful program do, stop by stop, and refuses one only for its size, its quantum or want of memory.
 #![tactic(auto)]
 
+mod actions;
 mod arms;
 mod cells;
 mod compiling;
@@ -14,3 +15,4 @@ mod slots;
 mod statements;
 
 pub use compiling::{CodeFault, MOST_INSTRUCTIONS, MOST_QUANTUM, compile, compile_for};
+pub use occ_machine::{Body, Code, Task};

@@ -1,27 +1,27 @@
 //! The code of terms.
-ghost use Rattle.std.specs.Prelude.{◌≡◌, ◌-◌, ◌+◌, ◌*◌, ◌≤◌, ◌<◌, IfOk, OnOk, length, map};
+ghost use Rattle.std.specs.Prelude.{◌≡◌, ◌-◌, ◌+◌, ◌*◌, ◌≤◌, ◌<◌, OnOk, length};
 ghost use Rattle.occ_term.specs.Terms as terms;
-ghost use Rattle.occ_term.specs.View.{arm_of, arms_of, branches_of, choice_of, choices_of, expression_of, items_of, option_of, options_of, place_of, reception_of, targets_of, term_of, terms_of, variant_of, variants_of};
+ghost use Rattle.occ_term.specs.View.{arm_of, arms_of, choice_of, choices_of, expression_of, option_of, options_of, reception_of, term_of, terms_of, variant_of, variants_of};
 ghost use Rattle.occ_machine.specs.declared.instr.Instr.TheVariants as instructions;
-ghost use Rattle.occ_code.specs.Expressions.{expression_code, par_code};
+ghost use Rattle.occ_code.specs.Expressions.{expression_code};
 ghost use Rattle.occ_code.specs.Emitted.{arms_code, choices_code, else_code, list_code, options_code, term_code, terms_code, variants_code, while_code};
 ghost use Rattle.occ_code.specs.Emits.{EmitsBefore};
 ghost use Rattle.occ_machine.specs.declared.instr.Instr.{Instr};
-ghost use Rattle.occ_code.specs.Pieces.{AddsPiece, AddsAround, EmitsOne, among_code, choosing_code, input_code, output_code, rounds_over, since};
+ghost use Rattle.occ_code.specs.Pieces.{AddsPiece, AddsAround, EmitsOne, among_code, choosing_code, rounds_over, since};
 
+use crate::actions::{emit_input, emit_output, emit_par};
 use crate::arms::{
     emit_alt, emit_each_value, emit_input_opening, emit_next, emit_passing, emit_skip_opening,
     emit_taken,
 };
 use crate::expressions::{
     emit_assignment, emit_counting, emit_declaration, emit_declarations, emit_expression,
-    emit_items, emit_naming, emit_place, emit_place_before, emit_storing,
+    emit_naming, emit_place_before, emit_storing,
 };
 use crate::pieces::{emitted, put, put_at, since};
 use occ_machine::Instr;
 use occ_term::{
-    Arm, Branch, Choice, Declaration, Item, Place, Reception, Replicator, Selection, Target, Term,
-    TermExpr, Variant,
+    Arm, Choice, Declaration, Reception, Replicator, Selection, Term, TermExpr, Variant,
 };
 use sqlite_items::Items;
 use std::alloc::{AllocError, Global};
@@ -110,62 +110,6 @@ fn emit_terms(
         emit_term(alloc, slot, &parts[count], code)?;
     }
     Ok(())
-}
-
-fn emit_input(
-    alloc: Global,
-    channel: &Place,
-    targets: &[Target],
-    code: &mut Vec<Instr<u32>>,
-) -> Result<(), AllocError>
-    ensures { AddsPiece result code.old code.new
-        (input_code (place_of channel.now) (targets_of targets.now)) }
-{
-    emit_storing(alloc, targets, code)?;
-    emit_place_before(alloc, channel, Instr::Receive, code)?;
-    Ok(())
-}
-
-fn emit_output(
-    alloc: Global,
-    channel: &Place,
-    tag: Option<u32>,
-    items: &[Item],
-    code: &mut Vec<Instr<u32>>,
-) -> Result<(), AllocError>
-    ensures { AddsPiece result code.old code.new
-        (output_code (place_of channel.now) tag (items_of items.now)) }
-{
-    put(code, Instr::Send(tag))?;
-    emit_items(alloc, items, code)?;
-    emit_place(alloc, channel, code)?;
-    Ok(())
-}
-
-/// The start of the branches of a PAR, where there are any.
-fn emit_par(
-    alloc: Global,
-    branches: &[Branch],
-    code: &mut Vec<Instr<u32>>,
-) -> Result<(), AllocError>
-    ensures { AddsPiece result code.old code.new (par_code (branches_of branches.now)) }
-{
-    if branches.is_empty() {
-        return Ok(());
-    }
-    let numbers = branch_numbers(alloc, branches)?;
-    put(code, Instr::Fork(numbers))?;
-    Ok(())
-}
-
-fn branch_numbers(alloc: Global, branches: &[Branch]) -> Result<Items<u32>, AllocError>
-    ensures { IfOk result (λ numbers. numbers ≡ map (λ branch. branch.number) branches.now) }
-{
-    let mut numbers = Items::new(alloc);
-    for branch in branches {
-        numbers.push(branch.number)?;
-    }
-    Ok(numbers)
 }
 
 /// The test of a loop whose body was emitted behind the jump back at the place.

@@ -12,4 +12,6 @@
 
 mod text;
 
+pub use occ_tree_grammar::ParseFault;
+pub use occ_tree_grammar::tree::process::{Program, Stmt};
 pub use text::parse;

@@ -3,7 +3,7 @@ use Rattle.std.proofs.lemmas.Grind.{common_steps}
 use Rattle.occ_machine.specs.declared.instr.Instr.TheVariants.{Fork}
 use Rattle.occ_code.proofs.Emitting.{emits_none, emits_as}
 use Rattle.occ_code.proofs.EmittingTerms.{fork_seen, no_fork}
-use Rattle.occ_code.proofs.statements.emit_par.Goals as goal
+use Rattle.occ_code.proofs.actions.emit_par.Goals as goal
 
 pub returns-then-is_empty : goal.returns-then-is_empty
 returns-then-is_empty c =
