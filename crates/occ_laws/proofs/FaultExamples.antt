@@ -6,11 +6,12 @@ use Rattle.occ_term.specs.declared.fault.Errors.TheVariants as on_fault
 use Rattle.occ_term.specs.Steps.{faults, in_assign, seq, clear, drops, in_output, in_each, assign, par, Left, Step, Context, left, Faulted, Forking}
 use Rattle.occ_term.specs.Turns.{none, more, single_turn, stops}
 use Rattle.occ_term.specs.System.{alone, turn_here, system_turn, turn_below, turn_first, system, process, no_processes, and_process, change_here, process_sends, change_below, change_first, change_later, passes_skip, meets, turn_later, SystemTurn, System}
-use Rattle.occ_term.specs.Runs.{no_turn, goes, by_fault, StepOf, private_step, meeting_step, skip_step, own_step, join_step, branch_step, first_can, later_can, by_standing, EndsBy, FaultEnds}
+use Rattle.occ_term.specs.Runs.{no_turn, goes, by_fault, StepOf, private_step, meeting_step, skip_step, own_step, join_step, branch_step, first_can, later_can, by_standing, EndsBy}
 use Rattle.occ_laws.specs.FaultExamples.{QuotientPlays, NoBytePlays, NegativeCountPlays, TooManyPlays, FaultingPlays, AddsPlays, Divides, both_divide, faulted, second_first, StopsBoth, after_divides, FaultHalts}
 use Rattle.occ_term.specs.Values.{Store}
-use Rattle.occ_term.specs.Messages.{Fault}
 use Rattle.occ_laws.proofs.Meetings.{unmet}
+use Rattle.occ_term.specs.declared.ending.Ending.TheVariants.{Fault as FaultEnds}
+use Rattle.occ_term.specs.declared.fault.Fault.{Fault}
 
 pub quotient_plays : QuotientPlays
 quotient_plays = (

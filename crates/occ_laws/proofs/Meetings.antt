@@ -3,11 +3,14 @@ use Rattle.std.proofs.Common.{ℕ, zero, suc, Bool, true, false, List, [], ◌�
 use Rattle.std.proofs.lemmas.Bool.{eq-eqb}
 use Rattle.std.specs.Prelude.{nat_eq, slice_get, if◌then◌else◌, ◌&&◌, ◌||◌}
 use Rattle.occ_term.specs.declared.fault.Errors.{Errors}
-use Rattle.occ_term.specs.Messages.{Message}
 use Rattle.occ_term.specs.Selecting.{Enabled, SkipArm, InputArm, is_ready_on, ready_among, waits_for}
 use Rattle.occ_term.specs.Steps.{Status, Runs, Loops, Offers, Awaits, Chooses, Forks, IsHalted, FailsBy, HasEnded, status}
-use Rattle.occ_term.specs.System.{Process, process, Processes, no_processes, and_process, System, system, End, OfProcess, has_byte, ChangeIn, change_here, change_below, ChangeAmong, change_first, change_later, offers, offers_in, offers_among, GivesOn, offer_ends, GetsOn, input_gets, arm_gets, PassesBy, arm_skips, Sends, process_sends, keyboard_sends, Receives, process_receives, screen_receives, error_receives, Communication, Meets, meets, passes_skip}
+use Rattle.occ_term.specs.System.{Process, process, Processes, no_processes, and_process, System, system, has_byte, ChangeIn, change_here, change_below, ChangeAmong, change_first, change_later, offers, offers_in, offers_among, GivesOn, offer_ends, GetsOn, input_gets, arm_gets, PassesBy, arm_skips, Sends, process_sends, keyboard_sends, Receives, process_receives, screen_receives, error_receives, Meets, meets, passes_skip}
 use Rattle.occ_term.specs.Runs.{TakesPart, Meeting, by_message, by_skip, MeetsAtMost, meets_none}
+use Rattle.occ_term.specs.declared.communication.End.TheVariants.{Process as OfProcess}
+use Rattle.occ_term.specs.declared.message.Message.{Message}
+use Rattle.occ_term.specs.declared.communication.End.{End}
+use Rattle.occ_term.specs.declared.communication.Communication.{Communication}
 
 -- ---- the test
 

@@ -7,10 +7,13 @@ use Rattle.occ_term.specs.System.{change_here, meets, offer_ends, process_sends,
 use Rattle.occ_term.specs.Runs.{goes, goes_on, meets_one, no_turn, own_step, private_step, by_end, StepOf, branch_step, meeting_step, skip_step, by_standing, MeetsAtMost, by_message, meets_none, meets_skip}
 use Rattle.occ_laws.specs.TurnExamples.{LetterGoesOn, LetterEnds, StopStops, TwoLetters, EmptySequence, NoTurn, MeetsAtOnce, WritesA, LongTurns, ThreeTurns}
 use Rattle.occ_term.specs.Values.{Store}
-use Rattle.occ_term.specs.Messages.{Message, Byte, One, message}
+use Rattle.occ_term.specs.Messages.{message}
 use Rattle.occ_laws.proofs.Meetings.{unmet}
 use Rattle.occ_term.proofs.Going.{going}
 use Rattle.occ_term.proofs.OneResult.{one_turn}
+use Rattle.occ_term.specs.declared.primitive.Primitive.TheVariants.{Byte}
+use Rattle.occ_term.specs.declared.message.Part.TheVariants.{One}
+use Rattle.occ_term.specs.declared.message.Message.{Message}
 
 pub letter_goes_on : LetterGoesOn
 letter_goes_on = (

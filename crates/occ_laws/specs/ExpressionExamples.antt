@@ -2,10 +2,15 @@
 -- Manual: expressions; primitive processes. The numbers of processes, channels and cells: (own).
 use Rattle.std.specs.Prelude.{[], ◌∷◌, List, None, Some, pos}
 use Rattle.occ_term.specs.ExampleParts.{least_int, minus_one, in_order, into, one_int, shows_digit, Plays, number, shows, component}
-use Rattle.occ_term.specs.Messages.{Int, Byte, One, message, Boolean}
-use Rattle.occ_term.specs.Terms.{Remainder, Cell, Binary, Term, Assign, Clear, Add, And, OfOne, Component, Into}
-use Rattle.occ_term.specs.System.{OfProcess, Screen, communication}
-use Rattle.occ_term.specs.Runs.{Event, event, Ended}
+use Rattle.occ_term.specs.Messages.{message}
+use Rattle.occ_term.specs.Terms.{Cell, Binary, Term, Assign, Clear, And, OfOne, Component, Into}
+use Rattle.occ_term.specs.System.{communication}
+use Rattle.occ_term.specs.Runs.{Event, event}
+use Rattle.occ_term.specs.declared.primitive.Primitive.TheVariants.{Int, Byte, Bool as Boolean}
+use Rattle.occ_term.specs.declared.message.Part.TheVariants.{One}
+use Rattle.occ_term.specs.declared.expression.Operator.TheVariants.{Remainder, Add}
+use Rattle.occ_term.specs.declared.communication.End.TheVariants.{Process as OfProcess, Screen}
+use Rattle.occ_term.specs.declared.ending.Ending.TheVariants.{Ended}
 
 -- `(MOSTNEG INT) \\ (-1)` is 0.
 abbrev pub remainder : Term

@@ -3,12 +3,17 @@
 use Rattle.std.specs.Prelude.{[], pos, ◌∷◌, None, ℕ, List}
 use Rattle.occ_term.specs.declared.fault.Errors.TheVariants as on_fault
 use Rattle.occ_term.specs.ExampleParts.{number, single, Plays, in_order, into, one_int, shows, plus, least_int, minus_one, shows_digit}
-use Rattle.occ_term.specs.Messages.{Int, Arith, fault, Fault, Range, Byte, Convert, Count}
-use Rattle.occ_term.specs.Terms.{Divide, Cell, Binary, OfOne, Into, Term, Assign, Remainder, Branches, no_branches, and_branch, Par, Clear, Conversion, replicator, Stop, Each}
+use Rattle.occ_term.specs.Messages.{fault}
+use Rattle.occ_term.specs.Terms.{Cell, Binary, OfOne, Into, Term, Assign, Branches, no_branches, and_branch, Par, Clear, Conversion, replicator, Stop, Each}
 use Rattle.occ_term.specs.Steps.{Faulted, left, Forking}
 use Rattle.occ_term.specs.System.{process, no_processes, System, system, start, SystemTurn, Process, and_process}
-use Rattle.occ_term.specs.Runs.{event, Run, FaultEnds, EndsBy, StoppedBy, Event}
+use Rattle.occ_term.specs.Runs.{event, Run, EndsBy, Event}
 use Rattle.occ_laws.specs.NetworkExamples.{sends_counted}
+use Rattle.occ_term.specs.declared.primitive.Primitive.TheVariants.{Int, Byte}
+use Rattle.occ_term.specs.declared.fault.FaultKind.TheVariants.{Arith, Range, Convert, Count}
+use Rattle.occ_term.specs.declared.expression.Operator.TheVariants.{Divide, Remainder}
+use Rattle.occ_term.specs.declared.ending.Ending.TheVariants.{Fault as FaultEnds, StoppedBy}
+use Rattle.occ_term.specs.declared.fault.Fault.{Fault}
 
 -- ---- a division by 0, in both modes
 

@@ -4,11 +4,17 @@
 use Rattle.std.specs.Prelude.{None, [], ℕ, ℤ, ◌∷◌, pos, Some, Bool, List, ◌+ℤ◌, false, true, ◌+◌}
 use Rattle.occ_term.specs.declared.fault.Errors.TheVariants as on_fault
 use Rattle.occ_term.specs.ExampleParts.{number, single, to_screen, component, in_order, into, one_int, plus, shows_digit, Plays, shows}
-use Rattle.occ_term.specs.Messages.{Int, Byte, One, Message, message, Counted}
-use Rattle.occ_term.specs.Terms.{OfOne, Term, Output, Into, Skip, Reception, Plain, Add, Cell, Binary, Conversion, Arms, no_arms, input_arm, Seq, Alt, Clear, no_terms, then_term, Branches, no_branches, and_branch, Par, Input, Expression, Component, Assign, Less, While, VariantInput, no_variants, or_variant, place, no_subscripts, IntoCounted, Cells, OfCounted, replicator, Each}
-use Rattle.occ_term.specs.System.{OfProcess, communication, System, start, process, no_processes, and_process, system, SystemTurn, Screen, Keyboard}
-use Rattle.occ_term.specs.Runs.{Event, event, Run, Ended, EndsBy, Stopped}
+use Rattle.occ_term.specs.Messages.{message}
+use Rattle.occ_term.specs.Terms.{OfOne, Term, Output, Into, Skip, Reception, Plain, Cell, Binary, Conversion, Arms, no_arms, input_arm, Seq, Alt, Clear, no_terms, then_term, Branches, no_branches, and_branch, Par, Input, Expression, Component, Assign, While, VariantInput, no_variants, or_variant, place, no_subscripts, IntoCounted, Cells, OfCounted, replicator, Each}
+use Rattle.occ_term.specs.System.{communication, System, start, process, no_processes, and_process, system, SystemTurn}
+use Rattle.occ_term.specs.Runs.{Event, event, Run, EndsBy}
 use Rattle.occ_term.specs.Steps.{Do, Forking, Done, left}
+use Rattle.occ_term.specs.declared.primitive.Primitive.TheVariants.{Int, Byte}
+use Rattle.occ_term.specs.declared.message.Part.TheVariants.{One, Counted}
+use Rattle.occ_term.specs.declared.expression.Operator.TheVariants.{Add, Less}
+use Rattle.occ_term.specs.declared.communication.End.TheVariants.{Process as OfProcess, Screen, Keyboard}
+use Rattle.occ_term.specs.declared.ending.Ending.TheVariants.{Ended, Stopped}
+use Rattle.occ_term.specs.declared.message.Message.{Message}
 
 -- ---- two outputs and an ALT that waits for one of them
 -- CHAN OF INT a, b: PAR / a ! 1 / b ! 2 / INT x: SEQ (opt PRI) ALT / a ? x SKIP / b ? x SKIP / screen ! BYTE (x + 48)

@@ -4,12 +4,17 @@ use Rattle.std.specs.Prelude.{[], None, pos, true, ◌∷◌, List, Some}
 use Rattle.occ_term.specs.declared.fault.Errors.TheVariants as on_fault
 use Rattle.occ_term.specs.Values.{Store, store_with}
 use Rattle.occ_term.specs.Steps.{Halted, left}
-use Rattle.occ_term.specs.System.{process, no_processes, System, system, start, OfProcess, Screen, communication}
+use Rattle.occ_term.specs.System.{process, no_processes, System, system, start, communication}
 use Rattle.occ_term.specs.SelectingExamples.{closed_arms}
 use Rattle.occ_term.specs.ExampleParts.{zeros, number, Plays, in_order, shows, into, one_int, shows_digit}
-use Rattle.occ_term.specs.Terms.{Alt, Term, Skip, If, no_choices, or_choice, Case, no_options, or_option, Stop, While, Cell, replicator, Assign, Each, Clear, Equal, Binary, each_choice}
-use Rattle.occ_term.specs.Runs.{event, Run, Stopped, EndsBy, Event, Limit, Ended}
-use Rattle.occ_term.specs.Messages.{Byte, One, message, Int}
+use Rattle.occ_term.specs.Terms.{Alt, Term, Skip, If, no_choices, or_choice, Case, no_options, or_option, Stop, While, Cell, replicator, Assign, Each, Clear, Binary, each_choice}
+use Rattle.occ_term.specs.Runs.{event, Run, EndsBy, Event}
+use Rattle.occ_term.specs.Messages.{message}
+use Rattle.occ_term.specs.declared.communication.End.TheVariants.{Process as OfProcess, Screen}
+use Rattle.occ_term.specs.declared.expression.Operator.TheVariants.{Equal}
+use Rattle.occ_term.specs.declared.ending.Ending.TheVariants.{Stopped, Limit, Ended}
+use Rattle.occ_term.specs.declared.primitive.Primitive.TheVariants.{Byte, Int}
+use Rattle.occ_term.specs.declared.message.Part.TheVariants.{One}
 
 -- ---- STOP alone
 

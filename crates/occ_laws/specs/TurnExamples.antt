@@ -2,12 +2,18 @@
 -- Manual: nothing; the programs are (own).
 use Rattle.std.specs.Prelude.{None, [], pos, ◌∷◌, List, Some, ◌≡◌, ℕ}
 use Rattle.occ_term.specs.declared.fault.Errors.TheVariants as on_fault
-use Rattle.occ_term.specs.Messages.{Byte, One, Message, message}
+use Rattle.occ_term.specs.Messages.{message}
 use Rattle.occ_term.specs.ExampleParts.{number, single, to_screen}
 use Rattle.occ_term.specs.Terms.{OfOne, Term, Output, Skip, While, replicator, Each, Constant, no_subscripts, place, Seq, no_terms, then_term, Stop}
-use Rattle.occ_term.specs.Runs.{Event, event, Run, Ended, EndsBy, Names, shown, Ending, Limit, Stopped}
+use Rattle.occ_term.specs.Runs.{Event, event, Run, EndsBy, Names, shown}
 use Rattle.occ_term.specs.Steps.{Done, left, Loop, WhileLoop, Again}
-use Rattle.occ_term.specs.System.{process, no_processes, System, system, start, OfProcess, Screen, communication}
+use Rattle.occ_term.specs.System.{process, no_processes, System, system, start, communication}
+use Rattle.occ_term.specs.declared.primitive.Primitive.TheVariants.{Byte}
+use Rattle.occ_term.specs.declared.message.Part.TheVariants.{One}
+use Rattle.occ_term.specs.declared.ending.Ending.TheVariants.{Ended, Limit, Stopped}
+use Rattle.occ_term.specs.declared.communication.End.TheVariants.{Process as OfProcess, Screen}
+use Rattle.occ_term.specs.declared.message.Message.{Message}
+use Rattle.occ_term.specs.declared.ending.Ending.{Ending}
 
 -- ---- a program: screen ! 'A'
 

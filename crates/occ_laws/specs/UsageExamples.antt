@@ -1,14 +1,15 @@
 -- The cells and channels that a term uses, its size, and terms that keep the usage rules or break them.
 -- Manual: nothing; the terms are (own).
 use Rattle.std.specs.Prelude.{[], ◌∷◌, pos, None, Some, false, true, ◌≡◌, ℕ, List, ⊤}
-use Rattle.occ_term.specs.Terms.{Expression, Place, place, no_subscripts, then_subscript, Cells, OfMany, Into, Term, Assign, Text, Item, OfCounted, Replicator, replicator, Divide, Cell, Binary, Naming, Skip, Input, Seq, Alt, If, Case, Each, Clear, Local, no_terms, then_term, no_arms, input_arm, each_arm, Plain, no_choices, each_choice, no_options, or_option, OfOne, Par, no_branches, and_branch, Output, VariantInput, While, skip_arm, no_variants, or_choice}
+use Rattle.occ_term.specs.Terms.{Expression, Place, place, no_subscripts, then_subscript, Cells, OfMany, Into, Term, Assign, Text, Item, OfCounted, Replicator, replicator, Cell, Binary, Naming, Skip, Input, Seq, Alt, If, Case, Each, Clear, Local, no_terms, then_term, no_arms, input_arm, each_arm, Plain, no_choices, each_choice, no_options, or_option, OfOne, Par, no_branches, and_branch, Output, VariantInput, While, skip_arm, no_variants, or_choice}
 use Rattle.occ_term.specs.ExampleParts.{number, cell_in, count_and_two, single, zeros}
-use Rattle.occ_term.specs.Messages.{Int, Byte}
 use Rattle.occ_term.specs.Storing.{declared}
 use Rattle.occ_term.specs.Uses.{named_by, cells_of_item, uses_of, Lawful}
 use Rattle.occ_term.specs.Sizes.{size_of}
 use Rattle.occ_laws.specs.NetworkExamples.{sends, three}
 use Rattle.occ_laws.specs.TurnExamples.{writes_a}
+use Rattle.occ_term.specs.declared.expression.Operator.TheVariants.{Divide}
+use Rattle.occ_term.specs.declared.primitive.Primitive.TheVariants.{Int, Byte}
 
 -- ---- use: PAR a[0] := a[1] beside a[i] := 2, for [2][2]INT a
 

@@ -2,11 +2,25 @@
 -- Manual: nothing; the rows are (own).
 use Rattle.std.specs.Prelude.{ℤ, pos, ◌≡◌, [], ◌∷◌, None, Option, Some, List, ℕ}
 use Rattle.occ_term.specs.ExampleParts.{minus, number, cell_in, count_and_two, zeros}
-use Rattle.occ_term.specs.Messages.{Primitive, Int, Byte, Arith, Convert, Shift, fault, Range, Fault, Counted, Message, message, PartType, Tag, OneOf, CountedArray, Variant, Fits, Boolean}
-use Rattle.occ_term.specs.Terms.{Operator, Binary, Divide, Expression, Add, Remainder, Plus, Minus, Times, BitXor, ShiftLeft, ShiftRight, After, Equal, BitNot, Unary, And, Conversion, Place, place, no_subscripts, then_subscript, Array, Cells, OfCounted, Skip, Plain, Tagged, no_variants, or_variant, Text, Item, OfMany, Target, Into, Cell, OfOne, Monadic, Subtract, Multiply, BitAnd, BitOr, Unequal, Less, AtLeast, Negate, Not}
+use Rattle.occ_term.specs.Messages.{fault, message, Fits}
+use Rattle.occ_term.specs.Terms.{Binary, Expression, Unary, And, Conversion, Place, place, no_subscripts, then_subscript, Array, Cells, OfCounted, Skip, Plain, Tagged, no_variants, or_variant, Text, Item, OfMany, Target, Into, Cell, OfOne}
 use Rattle.occ_term.specs.Values.{Evaluated, value_of, Value, Fails, span, span_of, part_of, store_with}
 use Rattle.occ_term.specs.Storing.{Outcome, Gives, Faults, assigned}
 use Rattle.occ_term.specs.Selecting.{taken}
+use Rattle.occ_term.specs.declared.primitive.Primitive.TheVariants.{Int, Byte, Bool as Boolean}
+use Rattle.occ_term.specs.declared.fault.FaultKind.TheVariants.{Arith, Convert, Shift, Range}
+use Rattle.occ_term.specs.declared.protocol.Tag.{Tag}
+use Rattle.occ_term.specs.declared.protocol.PartType.TheVariants.{One as OneOf}
+use Rattle.occ_term.specs.declared.protocol.Protocol.TheVariants.{CountedArray, Variant}
+use Rattle.occ_term.specs.declared.expression.Operator.{Operator}
+use Rattle.occ_term.specs.declared.expression.Operator.TheVariants.{Divide, Add, Remainder, Plus, Minus, Times, BitXor, ShiftLeft, ShiftRight, After, Equal, Subtract, Multiply, BitAnd, BitOr, Unequal, Less, AtLeast}
+use Rattle.occ_term.specs.declared.expression.Monadic.TheVariants.{BitNot, Negate, Not}
+use Rattle.occ_term.specs.declared.expression.Monadic.{Monadic}
+use Rattle.occ_term.specs.declared.primitive.Primitive.{Primitive}
+use Rattle.occ_term.specs.declared.fault.Fault.{Fault}
+use Rattle.occ_term.specs.declared.message.Part.TheVariants.{Counted}
+use Rattle.occ_term.specs.declared.message.Message.{Message}
+use Rattle.occ_term.specs.declared.protocol.PartType.{PartType}
 
 abbrev pub most_neg : ℤ
 most_neg = minus 2147483648
