@@ -2,7 +2,6 @@ pub mod Going
 pub mod Priority
 pub mod TurnSteps
 pub mod OneResult
-pub mod Meetings
 pub mod Saturating
 pub mod Bounds
 pub mod Products
@@ -25,11 +24,5 @@ pub mod Components
 pub mod Few
 pub mod TakenArms
 pub mod ArmExamples
-pub mod UsageExamples
-pub mod TurnExamples
-pub mod ExpressionExamples
-pub mod ProcessExamples
-pub mod FaultExamples
-pub mod NetworkExamples
 pub mod Chained
 pub mod Chains

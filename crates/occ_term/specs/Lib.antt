@@ -32,15 +32,8 @@ pub mod Parts
 pub mod ArraySizes
 pub mod Names
 pub mod ExampleParts
-pub mod ValueExamples
 pub mod SelectingExamples
 pub mod ArmExamples
-pub mod UsageExamples
-pub mod TurnExamples
-pub mod ExpressionExamples
-pub mod ProcessExamples
-pub mod FaultExamples
-pub mod NetworkExamples
 pub mod CommonOperators
 pub mod FrameParts
 pub mod Chains

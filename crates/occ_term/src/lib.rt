@@ -1,6 +1,6 @@
 //! What a program means: messages, terms, values, private steps, communication and runs, and when a
 //! program keeps the usage rules. The definitions stand in `specs/`, over pure data, through which this
-//! crate's types are seen; [`laws`] and the small programs of [`examples`] check them, and [`value_of`] answers
+//! crate's types are seen; [`laws`] and the crate `occ_laws` check them, and [`value_of`] answers
 //! what an expression is worth. [`value_of_constant`] answers that of expressions without a cell, a component and a letter of a
 //! string, also where an operand is a number that is no INT, and [`is_constant`] says which those are.
 #![tactic(auto)]
@@ -9,7 +9,6 @@ pub mod cell_rows;
 pub mod communication;
 mod constant;
 pub mod ending;
-pub mod examples;
 pub mod expression;
 pub mod fault;
 pub mod frame;

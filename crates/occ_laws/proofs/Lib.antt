@@ -1,0 +1,7 @@
+mod ExpressionExamples
+mod FaultExamples
+mod NetworkExamples
+mod ProcessExamples
+mod TurnExamples
+mod UsageExamples
+mod Meetings

@@ -1,5 +1,0 @@
-use Rattle.occ_term.proofs.FaultExamples.{negative_count_plays}
-use Rattle.occ_term.proofs.examples.faults.negative_count.Goals as goal
-
-pub returns : goal.returns
-returns c = negative_count_plays

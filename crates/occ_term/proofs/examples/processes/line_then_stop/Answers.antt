@@ -1,5 +1,0 @@
-use Rattle.occ_term.proofs.ProcessExamples.{line_then_stop_plays}
-use Rattle.occ_term.proofs.examples.processes.line_then_stop.Goals as goal
-
-pub returns : goal.returns
-returns c = line_then_stop_plays

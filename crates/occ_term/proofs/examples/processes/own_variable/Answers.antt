@@ -1,5 +1,0 @@
-use Rattle.occ_term.proofs.ProcessExamples.{own_variable_plays}
-use Rattle.occ_term.proofs.examples.processes.own_variable.Goals as goal
-
-pub returns : goal.returns
-returns c = own_variable_plays

@@ -1,5 +1,0 @@
-use Rattle.occ_term.proofs.ProcessExamples.{third_choice_plays}
-use Rattle.occ_term.proofs.examples.processes.third_choice.Goals as goal
-
-pub returns : goal.returns
-returns c = third_choice_plays

@@ -1,5 +1,0 @@
-use Rattle.occ_term.proofs.TurnExamples.{meets_at_once}
-use Rattle.occ_term.proofs.examples.turns.meets_at_once.Goals as goal
-
-pub returns : goal.returns
-returns c = meets_at_once

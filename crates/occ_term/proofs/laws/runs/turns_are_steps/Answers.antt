@@ -1,5 +1,0 @@
-use Rattle.occ_term.proofs.TurnSteps.{turns_are_steps}
-use Rattle.occ_term.proofs.laws.runs.turns_are_steps.Goals as goal
-
-pub returns : goal.returns
-returns c = turns_are_steps

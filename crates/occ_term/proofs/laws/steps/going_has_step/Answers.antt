@@ -1,5 +1,0 @@
-use Rattle.occ_term.proofs.Going.{going}
-use Rattle.occ_term.proofs.laws.steps.going_has_step.Goals as goal
-
-pub returns : goal.returns
-returns c = going

@@ -1,5 +1,0 @@
-use Rattle.occ_term.proofs.Going.{sequence_performs}
-use Rattle.occ_term.proofs.laws.steps.sequence_performs.Goals as goal
-
-pub returns : goal.returns
-returns c = sequence_performs

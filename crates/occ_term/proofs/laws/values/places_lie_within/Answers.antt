@@ -1,5 +1,0 @@
-use Rattle.occ_term.proofs.TypedPlaces as places
-use Rattle.occ_term.proofs.laws.values.places_lie_within.Goals as goal
-
-pub returns : goal.returns
-returns c = places.places_lie_within
