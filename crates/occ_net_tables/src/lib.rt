@@ -4,10 +4,10 @@
 #![tactic(auto)]
 
 mod asking;
+mod channel_ends;
 mod choosing;
 mod copying;
 mod counting;
-mod ends;
 mod entries;
 mod forking;
 mod joining;

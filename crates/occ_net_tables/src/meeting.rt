@@ -12,11 +12,11 @@ ghost use Rattle.occ_net_tables.specs.Room.{HasRoom};
 ghost use Rattle.occ_net_tables.specs.Settling.{GaveOne, HandsTo, HasSomeMid, IsAwaiting, IsOffering, IsTaking, IsTakingBy, LeavesChannels, NotesFirst, SettlesAnyhow, SettlesBy, SettlesOn, SettlesWith, ShowsOne, TookByte, TookOffer, offer_one, outer_taker};
 ghost use Rattle.occ_net_tables.specs.Tasks.{IsOffered, WaitSet};
 
-use crate::choosing::{choose_arm, set_arms};
-use crate::ends::{
+use crate::channel_ends::{
     copied_arm, input_arm, keyboard_channel, next_byte, offered, offered_one, one_byte, reader,
     took,
 };
+use crate::choosing::{choose_arm, set_arms};
 use crate::entries::{entry, set_entry};
 use crate::ready::{insert, take_out};
 use crate::tables::Tables;
