@@ -2,9 +2,10 @@
 
 use crate::class::Class;
 use crate::finding::index_of;
+use crate::leaving::Part;
 use crate::refusal::Refusal;
 use crate::scan::{Text, Word};
-use crate::walk::class_at;
+use crate::words::class_at;
 
 /// What a line may be.
 #[derive(Clone, Copy)]
@@ -20,17 +21,17 @@ pub(crate) enum Start {
 }
 
 impl Start {
-    /// Its part of the grammar.
-    pub(crate) fn part(self) -> &'static str {
+    /// What a line begins with.
+    pub(crate) fn part(self) -> Part {
         match self {
-            Start::Top => "top",
-            Start::Process => "process",
-            Start::Choice => "choice",
-            Start::Arm => "arm",
-            Start::Option => "option",
-            Start::Variant => "variant",
-            Start::Cases => "cases",
-            Start::Tag => "tag",
+            Start::Top => ("top", "PROC, PROTOCOL or VAL"),
+            Start::Process => ("process", "a process or a declaration"),
+            Start::Choice => ("choice", "a condition, a declaration or IF"),
+            Start::Arm => ("arm", "a guard, a declaration or ALT"),
+            Start::Option => ("option", "a constant, ELSE or a declaration"),
+            Start::Variant => ("variant", "a tag or a declaration"),
+            Start::Cases => ("cases", "CASE"),
+            Start::Tag => ("tag", "a tag"),
         }
     }
 }
