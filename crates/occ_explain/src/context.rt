@@ -2,7 +2,6 @@
 
 use crate::class::Class;
 use crate::finding::index_of;
-use crate::leaving::Part;
 use crate::refusal::Refusal;
 use crate::scan::{Text, Word};
 use crate::words::class_at;
@@ -18,22 +17,6 @@ pub(crate) enum Start {
     Variant,
     Cases,
     Tag,
-}
-
-impl Start {
-    /// What a line begins with.
-    pub(crate) fn part(self) -> Part {
-        match self {
-            Start::Top => ("top", "PROC, PROTOCOL or VAL"),
-            Start::Process => ("process", "a process or a declaration"),
-            Start::Choice => ("choice", "a condition, a declaration or IF"),
-            Start::Arm => ("arm", "a guard, a declaration or ALT"),
-            Start::Option => ("option", "a constant, ELSE or a declaration"),
-            Start::Variant => ("variant", "a tag or a declaration"),
-            Start::Cases => ("cases", "CASE"),
-            Start::Tag => ("tag", "a tag"),
-        }
-    }
 }
 
 /// The last PROC at the left margin, and the first line where there is none.

@@ -151,8 +151,7 @@ fn unexpected(text: &Text<'_>, line: usize, reader: Reader) -> Option<Told> {
         return None;
     };
     let words = text.words_at(line);
-    let start = start_of(text, line);
-    let leaving = leaving_of(words, start, stop);
+    let leaving = leaving_of(words, start_of(text, line), stop);
     if let Some(at) = break_before(words, leaving.at) {
         return Some(Told {
             line,
@@ -169,7 +168,6 @@ fn unexpected(text: &Text<'_>, line: usize, reader: Reader) -> Option<Told> {
     let met = Met {
         line,
         words,
-        start: start.part().0,
         leaving,
     };
     Some(met.told())

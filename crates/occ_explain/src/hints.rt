@@ -8,11 +8,10 @@ use crate::scan::Word;
 use crate::sentence::{Nothing, Piece, Told};
 use crate::words::{bytes_at, class_at, word_from};
 
-/// The hints, each behind all that has to hold where it is given. `in` is the part that the line begins with, `wanted` the one that
-/// is wanted, and `first` the first word. `met` is the word that is met, `before` the one before it and `next` the one behind it;
-/// `like` is a word of the class of the one that is met, `after` of the one before, and `two.before` of the one before that. `some`
-/// is any word of the line. Where it `ends`, the line has to end; where something is `over`, no more of it can stand; and what `joins`
-/// is an operator.
+/// The hints, each behind all that has to hold where it is given. `wanted` is the part that is wanted, and `first` the line's first
+/// word. `met` is the word that is met, `before` the one before it and `next` the one behind it. `like` is a word of the class of
+/// the one that is met, `after` of the one before, and `two.before` of the one before that. `some` is any word of the line. Where it
+/// `ends`, the line has to end; where something is `over`, no more of it can stand; and what `joins` is an operator.
 static HINTS: &str = "\
 some=TIMER / this profile of occam 2 has no timers
 some=AFTER some=? / this profile of occam 2 has no timers
@@ -45,18 +44,18 @@ met=& over / write AND for both
 before=+ met=+ / write x := x + 1 to add one
 met=+ next== / write x := x + 1 to add one
 met=MOD / write \\ or REM for the remainder
-in=choice met=:= / write = to compare, and := to assign
+over met=:= / write = to compare, and := to assign
 wanted=action met== / write := to assign, and = to compare
 wanted=placed met== / write := to assign, and = to compare
 first=FOR / write a loop as SEQ i = 0 FOR 10, and its body below, two spaces deeper
 first=WHILE met=DO / leave DO out: the body of a WHILE stands in the next line, two spaces deeper
-in=arm first=SEQ / an arm begins with a guard, such as c ? x: write that first, and the SEQ below it
-in=arm first=PAR / an arm begins with a guard, such as c ? x: write that first, and the PAR below it
+wanted=arm first=SEQ / an arm begins with a guard, such as c ? x: write that first, and the SEQ below it
+wanted=arm first=PAR / an arm begins with a guard, such as c ? x: write that first, and the PAR below it
 first=PROC ends met=: / leave this colon out: the one that ends a PROC stands below its body, in a line of its own
 ends met=( after=name / a PROC has no value: let it set a formal, and call it in a line of its own: f (3, x)
-in=choice met=ELSE / write TRUE for the last choice of an IF; ELSE is for CASE alone
+wanted=choice met=ELSE / write TRUE for the last choice of an IF; ELSE is for CASE alone
 first=IF / write IF alone, each condition in a line below it, and its process below that
-in=arm met=SKIP / write TRUE & SKIP for a guard that is always ready
+wanted=arm met=SKIP / write TRUE & SKIP for a guard that is always ready
 wanted=guard met=! / a guard is an input: an output cannot be one
 wanted=guard / a guard is an input, or a condition with & and an input or SKIP: x > 0 & c ? y
 wanted=FOR / a replicator has a base and a count, not a last value: i = 0 FOR 10
@@ -93,7 +92,6 @@ over joins / operators have no precedence: write (a + b) * c or a + (b * c)";
 pub(crate) struct Met<'a> {
     pub(crate) line: usize,
     pub(crate) words: &'a [Word<'a>],
-    pub(crate) start: &'static str,
     pub(crate) leaving: Leaving,
 }
 
@@ -138,7 +136,6 @@ impl Met<'_> {
         };
         let class = class_at(self.words, place);
         match kind {
-            [b'i', ..] => self.start == spelling,
             [b'w', ..] => leaving.wanted.0 == spelling,
             [b'e', ..] => leaving.wanted.1.is_empty(),
             [b'o', ..] => !leaving.over.is_empty(),

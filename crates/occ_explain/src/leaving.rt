@@ -21,6 +21,20 @@ pub(crate) struct Leaving {
     pub(crate) over: &'static str,
 }
 
+/// What a line begins with.
+fn first_part(start: Start) -> Part {
+    match start {
+        Start::Top => ("top", "PROC, PROTOCOL or VAL"),
+        Start::Process => ("process", "a process or a declaration"),
+        Start::Choice => ("choice", "a condition, a declaration or IF"),
+        Start::Arm => ("arm", "a guard, a declaration or ALT"),
+        Start::Option => ("option", "a constant, ELSE or a declaration"),
+        Start::Variant => ("variant", "a tag or a declaration"),
+        Start::Cases => ("cases", "CASE"),
+        Start::Tag => ("tag", "a tag"),
+    }
+}
+
 /// Whether a line at the left margin cannot begin there.
 fn is_out_of_place(words: &[Word<'_>], start: Start) -> bool {
     matches!(start, Start::Top)
@@ -131,7 +145,7 @@ pub(crate) fn leaving_of(words: &[Word<'_>], start: Start, stop: Stop) -> Leavin
     if is_out_of_place(words, start) || at == 0 && !is_end {
         return Leaving {
             at: 0,
-            wanted: start.part(),
+            wanted: first_part(start),
             over: "",
         };
     }
