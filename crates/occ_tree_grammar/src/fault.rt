@@ -7,7 +7,7 @@ use crate::stops::Stop;
 use std::alloc::{AllocError, AllocFailed};
 use thiserror::Error;
 
-/// Why lines were refused. The first number is that of the logical line at which it was found.
+/// Why lines were refused. The first number is that of the logical line where the mistake was found.
 #[derive(Debug, Drop, Error)]
 pub enum ParseFault {
     /// A word that no case of the grammar allows, or a line that ends too early: the line, and the place in it.
@@ -16,7 +16,7 @@ pub enum ParseFault {
     /// A line at a level that no case allows: the line, and the level at which one has to stand.
     #[error("refused 21 Level line {0}")]
     Level(u32, u32),
-    /// A line that must follow, and the text ends: the last line, and the level at which one has to stand.
+    /// The source ends where a line must follow: the last line, and the level at which one has to stand.
     #[error("refused 22 Missing line {0}")]
     Missing(u32, u32),
     /// A line at more than 64 levels, or more than 64 brackets open at one place: the line, and the place in it.

@@ -7,8 +7,8 @@ use occ_text::Token;
 /// Where a line leaves the grammar: at the furthest word that its reader came to.
 #[derive(Clone, Copy, Debug)]
 pub struct Stop {
-    /// How many words of the line are left, the first of which may not stand there: 0 where the line ends too early, and
-    /// `usize::MAX` where the whole line may not stand there.
+    /// How many words of the line are left, of which the first may not stand there. It is 0 where the line ends too early, and
+    /// `usize::MAX` where the whole line may not stand at its place.
     pub left: usize,
     /// What has to stand there.
     pub wanted: Wanted,
@@ -27,10 +27,10 @@ impl Stop {
     }
 }
 
-/// What has to stand where a line leaves the grammar; a variant that is called as a word or a symbol is that one.
+/// What has to stand where a line leaves the grammar. A variant that has the name of a word or a symbol stands for that one.
 #[derive(Clone, Copy, Debug)]
 pub enum Wanted {
-    /// What a line begins with under the line that it stands under.
+    /// What may begin a line at this place of the source.
     Begin,
     /// The end of the line.
     End,
@@ -40,17 +40,17 @@ pub enum Wanted {
     Operand,
     /// A variable.
     Variable,
-    /// A name that is declared.
+    /// A name to declare.
     NewName,
     /// A primitive type.
     Primitive,
-    /// A part of a message; behind `OF`, a protocol too.
+    /// A part of a message. Behind `OF` a protocol may stand too.
     Part,
-    /// The type of a value; behind the `VAL` of a line, a name too.
+    /// The type of a value. Behind a `VAL` that begins the line a name may stand too.
     ValueType,
     /// A formal.
     Formal,
-    /// What names are declared as, by a line that begins with it.
+    /// A type or `CHAN`, at the front of a declaration.
     Declared,
     Int,
     Of,
@@ -65,7 +65,7 @@ pub enum Wanted {
     Ampersand,
     /// `?` or `&`
     Guard,
-    /// What follows the variables at the front of a process: `:=`, and behind a single one `?` or `!` too.
+    /// `:=`, behind the variables at the front of a process. Behind a single one `?` or `!` may stand too.
     Action,
     /// `,` or `:`, behind a new name.
     Names,

@@ -199,7 +199,7 @@ pub fn decl_head(alloc: Global, line: u32, tokens: &[Token]) -> Result<DeclHead,
     }
 }
 
-/// Where a line leaves the grammar that may not begin so; one that begins with a type is a declaration without its colon.
+/// Where a line with a wrong beginning leaves the grammar. One that begins with a type is a declaration without its colon.
 pub(crate) fn stop_of_line(alloc: Global, line: u32, tokens: &[Token]) -> Stop {
     match tokens {
         [Token::Key(Key::Bool | Key::Byte | Key::Int), ..] => {

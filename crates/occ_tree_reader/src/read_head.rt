@@ -28,7 +28,7 @@ use occ_tree_grammar::tree::line::{Action, Guard, OneOrMore, Out, Target, Var, V
 use occ_tree_grammar::{ParseFault, Stop, Wanted};
 use std::alloc::Global;
 
-/// Where a line leaves the grammar that goes on behind this action.
+/// Where a line that goes on behind this action leaves the grammar.
 fn stop_behind_action(action: &Action, rest: &[Token]) -> Stop {
     match action {
         Action::Assign(_, _) | Action::Output(_, _) => Stop::before(rest, Wanted::ExpressionEnd),
@@ -178,7 +178,7 @@ fn behind_while(alloc: Global, line: u32, tokens: &[Token]) -> Result<ProcessHea
     }
 }
 
-/// Where a line leaves the grammar that begins no process.
+/// Where a line that begins no process leaves the grammar.
 fn stop_of_process(alloc: Global, line: u32, tokens: &[Token]) -> Stop {
     match tokens {
         [Token::Key(Key::Pri), rest @ ..] => Stop::before(rest, Wanted::Alt),

@@ -31,7 +31,7 @@ pub fn name(line: u32, tokens: &[Token]) -> Result<(Letters, &[Token]), ParseFau
     }
 }
 
-/// Where a line leaves the grammar that has no name here, or not what has to stand behind it.
+/// Where a line leaves the grammar in which a name has to stand here, and `behind` after it.
 pub(crate) fn stop_behind(behind: Wanted, name: Wanted, tokens: &[Token]) -> Stop {
     match tokens {
         [Token::Name(_), rest @ ..] => Stop::before(rest, behind),

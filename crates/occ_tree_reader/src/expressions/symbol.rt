@@ -46,7 +46,7 @@ pub fn int(line: u32, tokens: &[Token]) -> Result<&[Token], ParseFault>
     }
 }
 
-/// Where a line leaves the grammar that has no type here: a channel needs `OF` behind `CHAN`.
+/// Where a line without a type here leaves the grammar. A channel needs `OF` behind `CHAN`.
 fn stop_of_type(wanted: Wanted, tokens: &[Token]) -> Stop {
     let takes_channel = matches!(wanted, Wanted::Declared | Wanted::Formal);
     match tokens {

@@ -48,7 +48,7 @@ pub fn line_of(last: u32, level: u32, lines: &[Line]) -> Result<(&Line, &[Line])
     }
 }
 
-/// Where a line leaves the grammar that has to be `CASE` alone.
+/// Where a line that has to be `CASE` alone leaves the grammar.
 fn stop_of_case(tokens: &[Token]) -> Stop {
     match tokens {
         [Token::Key(Key::Case), rest @ ..] => Stop::before(rest, Wanted::End),
@@ -56,7 +56,7 @@ fn stop_of_case(tokens: &[Token]) -> Stop {
     }
 }
 
-/// Where a line leaves the grammar that has to be a colon alone.
+/// Where a line that has to be a colon alone leaves the grammar.
 fn stop_of_colon(tokens: &[Token]) -> Stop {
     match tokens {
         [Token::Sym(Sym::Colon), rest @ ..] => Stop::before(rest, Wanted::End),
