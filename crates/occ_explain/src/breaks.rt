@@ -3,7 +3,7 @@
 use crate::class::Class;
 use crate::scan::Text;
 use crate::sentence::{Nothing, Piece, Told};
-use crate::walk::class_at;
+use crate::words::class_at;
 
 /// A line that goes on: which one, and the word that it ends with.
 pub(crate) fn break_finding(text: &Text<'_>, index: usize) -> Option<Told> {

@@ -9,7 +9,7 @@ use crate::scope::{
 use crate::sentence::{Nothing, Piece, Told};
 use crate::shapes::{Shape, are_alike};
 use crate::types::{begins_int, expression_end, operand_end, spelled_type, typed_at};
-use crate::walk::{bytes_at, class_at};
+use crate::words::{bytes_at, class_at};
 
 /// A call, the head of its PROC, and a formal with its actual.
 #[derive(Clone, Copy)]

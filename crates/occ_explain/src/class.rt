@@ -1,6 +1,6 @@
-//! Kinds of words, as the grammar of a line tells them apart.
+//! Kinds of words, as explanations tell them apart.
 
-/// What kind of word it is. A reserved word and a symbol with a place of its own in the grammar is its own kind.
+/// What kind of word it is. A reserved word or a symbol of which an explanation speaks is its own kind.
 #[derive(Clone, Copy, PartialEq)]
 pub enum Class {
     Name,
@@ -38,8 +38,6 @@ pub enum Class {
     Par,
     While,
     For,
-    Skip,
-    Stop,
     Assign,
     DoubleColon,
     Colon,
@@ -52,7 +50,7 @@ pub enum Class {
     Ampersand,
     Question,
     Exclamation,
-    /// A reserved word that stands in no line.
+    /// Any other reserved word.
     Reserved,
     /// A byte that begins no word, or that a literal may not hold.
     BadByte,
@@ -78,8 +76,8 @@ static RESERVED: [(&str, Class); 55] = [
     ("VAL", Class::Val), ("CHAN", Class::Chan), ("OF", Class::Of), ("PROTOCOL", Class::Protocol),
     ("PROC", Class::Proc), ("IS", Class::Is), ("CASE", Class::Case), ("ELSE", Class::Else),
     ("IF", Class::If), ("ALT", Class::Alt), ("PRI", Class::Pri), ("SEQ", Class::Seq),
-    ("PAR", Class::Par), ("WHILE", Class::While), ("FOR", Class::For), ("SKIP", Class::Skip),
-    ("STOP", Class::Stop), ("ANY", Class::Reserved), ("AT", Class::Reserved),
+    ("PAR", Class::Par), ("WHILE", Class::While), ("FOR", Class::For), ("SKIP", Class::Reserved),
+    ("STOP", Class::Reserved), ("ANY", Class::Reserved), ("AT", Class::Reserved),
     ("FROM", Class::Reserved), ("FUNCTION", Class::Reserved), ("INT16", Class::Reserved),
     ("INT32", Class::Reserved), ("INT64", Class::Reserved), ("PLACE", Class::Reserved),
     ("PLACED", Class::Reserved), ("PORT", Class::Reserved), ("PROCESSOR", Class::Reserved),

@@ -4,7 +4,7 @@ use crate::class::Class;
 use crate::finding::index_of;
 use crate::refusal::Refusal;
 use crate::scan::{Text, Word};
-use crate::walk::class_at;
+use crate::words::class_at;
 
 /// What a line may be.
 #[derive(Clone, Copy)]
@@ -17,22 +17,6 @@ pub(crate) enum Start {
     Variant,
     Cases,
     Tag,
-}
-
-impl Start {
-    /// Its part of the grammar.
-    pub(crate) fn part(self) -> &'static str {
-        match self {
-            Start::Top => "top",
-            Start::Process => "process",
-            Start::Choice => "choice",
-            Start::Arm => "arm",
-            Start::Option => "option",
-            Start::Variant => "variant",
-            Start::Cases => "cases",
-            Start::Tag => "tag",
-        }
-    }
 }
 
 /// The last PROC at the left margin, and the first line where there is none.

@@ -12,16 +12,17 @@ use crate::context::{line_index, start_of};
 use crate::hints::Met;
 use crate::kinds::{constant_finding, kind_finding, main_finding, subscript_finding};
 use crate::large::large_finding;
+use crate::leaving::{leaving_of, place_of};
 use crate::levels::{level_finding, missing_finding};
 use crate::messages::{message_finding, tag_finding};
 use crate::mismatch::mismatch;
 use crate::names::{base, shared_finding, twice, unknown};
 use crate::odd::odd_finding;
-use crate::refusal::Refusal;
+use crate::refusal::{Reader, Refusal};
 use crate::scan::{Text, Word};
 use crate::sentence::{Nothing, Piece, Told};
 use crate::telling::written;
-use crate::walk::{class_at, first_leaving};
+use crate::words::class_at;
 use std::alloc::{AllocError, Global};
 
 /// A place behind so many bytes of a physical line.
@@ -144,18 +145,15 @@ fn break_before(words: &[Word<'_>], at: usize) -> Option<usize> {
     None
 }
 
-/// A line that leaves the grammar; nothing where the words do not tell.
-fn unexpected(alloc: Global, text: &Text<'_>, line: usize) -> Result<Option<Told>, AllocError> {
-    let words = text.words_at(line);
-    let start = start_of(text, line).part();
-    let Some(mut leaving) = first_leaving(alloc, words, start)? else {
-        return Ok(None);
+/// A line that leaves the grammar, where the refusal tells the place.
+fn unexpected(text: &Text<'_>, line: usize, reader: Reader) -> Option<Told> {
+    let Reader::Stop(stop) = reader else {
+        return None;
     };
-    if leaving.at == 0 {
-        leaving.wanted = start;
-    }
+    let words = text.words_at(line);
+    let leaving = leaving_of(words, start_of(text, line), stop);
     if let Some(at) = break_before(words, leaving.at) {
-        return Ok(Some(Told {
+        return Some(Told {
             line,
             at,
             wrong: "`@1` at the end of a line, which then goes on in the next one",
@@ -165,15 +163,14 @@ fn unexpected(alloc: Global, text: &Text<'_>, line: usize) -> Result<Option<Told
                 "end a declaration with a colon, or go on with its next name"
             },
             pieces: [Piece::Short(line, at), Nothing, Nothing, Nothing],
-        }));
+        });
     }
     let met = Met {
         line,
         words,
-        start,
         leaving,
     };
-    Ok(Some(met.told()))
+    Some(met.told())
 }
 
 /// Where a refusal points to whose cause is told, as far as the words tell, and a hint beside it.
@@ -226,9 +223,9 @@ fn told_of(alloc: Global, text: &Text<'_>, refusal: &Refusal<'_>) -> Result<Told
     let found = match number {
         2 | 4 | 5 | 6 => Some(odd_finding(text, line)),
         7 => break_finding(text, line),
-        20 => unexpected(alloc, text, line)?,
-        21 => Some(level_finding(text, line)),
-        22 => Some(missing_finding(text, line)),
+        20 => unexpected(text, line, refusal.reader),
+        21 => Some(level_finding(text, line, refusal.reader)),
+        22 => Some(missing_finding(text, line, refusal.reader)),
         30 => Some(unknown(text, line, base(refusal.name))),
         31 => Some(twice(words, line, refusal.name)),
         32 => kind_finding(text, line),
@@ -246,7 +243,11 @@ fn told_of(alloc: Global, text: &Text<'_>, refusal: &Refusal<'_>) -> Result<Told
     if let Some(found) = found {
         return Ok(found);
     }
-    let (at, hint) = beside_cause(words, number);
+    let (at, hint) = match refusal.reader {
+        // the bracket that is one too many
+        Reader::Stop(stop) => (place_of(words, stop).saturating_sub(1), ""),
+        _ => beside_cause(words, number),
+    };
     Ok(Told {
         line,
         at,

@@ -2,16 +2,16 @@
 //! occam 2.
 
 use crate::class::{Class, class_of, reserved_like};
-use crate::grammar::{class_in, said_of};
+use crate::fronts::front_of;
+use crate::leaving::Leaving;
 use crate::scan::Word;
 use crate::sentence::{Nothing, Piece, Told};
-use crate::walk::{Leaving, bytes_at, class_at, word_from};
+use crate::words::{bytes_at, class_at, word_from};
 
-/// The hints, each behind all that has to hold where it is given. `in` is the part that the line begins with, `wanted` the one that
-/// is wanted, and `first` the first word. `met` is the word that is met, `before` the one before it and `next` the one behind it;
-/// `like` is a word of the class of the one that is met, `after` of the one before, and `two.before` of the one before that. `some`
-/// is any word of the line. Where it `ends`, the line has to end; where something is `over`, no more of it can stand; and what `joins`
-/// is an operator.
+/// The hints, each behind all that has to hold where it is given. `wanted` is the part that is wanted, and `first` the line's first
+/// word. `met` is the word that is met, `before` the one before it and `next` the one behind it. `like` is a word of the class of
+/// the one that is met, `after` of the one before, and `two.before` of the one before that. `some` is any word of the line. Where it
+/// `ends`, the line has to end; where something is `over`, no more of it can stand; and what `joins` is an operator.
 static HINTS: &str = "\
 some=TIMER / this profile of occam 2 has no timers
 some=AFTER some=? / this profile of occam 2 has no timers
@@ -31,6 +31,7 @@ some=ANY / this profile of occam 2 has no ANY: write a type, or declare a PROTOC
 before=PRI met=PAR / this profile of occam 2 has no PRI PAR: write PAR
 first=INITIAL / there is no INITIAL: declare the variable, and assign it in a SEQ
 first=VAR / declare a variable with its type: INT x:
+wanted=fifth / a type has four sizes at most, and a name four subscripts
 met=[ after=\"s\" / a string takes no subscript: name it first by VAL s IS \"abc\":
 wanted=expression met=[ / this profile of occam 2 has no lists of values in brackets: assign the components one by one, or use a string for bytes
 met=IS / this profile of occam 2 has no abbreviations of variables: use the variable itself, or name a value by VAL x IS y:
@@ -43,37 +44,38 @@ met=& over / write AND for both
 before=+ met=+ / write x := x + 1 to add one
 met=+ next== / write x := x + 1 to add one
 met=MOD / write \\ or REM for the remainder
-in=choice met=:= / write = to compare, and := to assign
-wanted=named.process met== / write := to assign, and = to compare
+over met=:= / write = to compare, and := to assign
+wanted=action met== / write := to assign, and = to compare
 wanted=placed met== / write := to assign, and = to compare
 first=FOR / write a loop as SEQ i = 0 FOR 10, and its body below, two spaces deeper
 first=WHILE met=DO / leave DO out: the body of a WHILE stands in the next line, two spaces deeper
-in=arm first=SEQ / an arm begins with a guard, such as c ? x: write that first, and the SEQ below it
-in=arm first=PAR / an arm begins with a guard, such as c ? x: write that first, and the PAR below it
+wanted=arm first=SEQ / an arm begins with a guard, such as c ? x: write that first, and the SEQ below it
+wanted=arm first=PAR / an arm begins with a guard, such as c ? x: write that first, and the PAR below it
 first=PROC ends met=: / leave this colon out: the one that ends a PROC stands below its body, in a line of its own
 ends met=( after=name / a PROC has no value: let it set a formal, and call it in a line of its own: f (3, x)
-in=choice met=ELSE / write TRUE for the last choice of an IF; ELSE is for CASE alone
+wanted=choice met=ELSE / write TRUE for the last choice of an IF; ELSE is for CASE alone
 first=IF / write IF alone, each condition in a line below it, and its process below that
-in=arm met=SKIP / write TRUE & SKIP for a guard that is always ready
-wanted=guarded met=! / a guard is an input: an output cannot be one
-wanted=guarded / a guard is an input, or a condition with & and an input or SKIP: x > 0 & c ? y
+wanted=arm met=SKIP / write TRUE & SKIP for a guard that is always ready
+wanted=guard met=! / a guard is an input: an output cannot be one
+wanted=guard / a guard is an input, or a condition with & and an input or SKIP: x > 0 & c ? y
 wanted=FOR / a replicator has a base and a count, not a last value: i = 0 FOR 10
 wanted=top met=: / leave this colon out: each PROC, and each PROTOCOL with tags, ends with one
 wanted=top / write processes within a PROC, two spaces deeper than its first line
-wanted=named.process met= / write brackets behind the name in a call, also if they are empty: f ()
-wanted=named.process / an assignment is x := y, an input is c ? x, an output is c ! x, a call is f (x)
+wanted=action met= / write brackets behind the name in a call, also if they are empty: f ()
+wanted=action / an assignment is x := y, an input is c ? x, an output is c ! x, a call is f (x)
 wanted=) met= / close the bracket: write `)`
 ends met=) / leave this bracket out: none is open here
 over met=: / leave the colon out: only declarations end with one
-wanted=more.names met=[ / write the size of an array before its type: [10]INT a:
-wanted=more.names met= / end the declaration with a colon
-wanted=more.names met=:= / a declaration gives no value: assign it in a SEQ below
+wanted=names met=[ / write the size of an array before its type: [10]INT a:
+wanted=names met= / end the declaration with a colon
+wanted=names met=:= / a declaration gives no value: assign it in a SEQ below
 wanted=: met= / end the declaration with a colon
-wanted=more.items met= / end the PROTOCOL with a colon
+wanted=parts met= / end the PROTOCOL with a colon
 wanted=IS met== / write IS to name a value: VAL INT n IS 3:
+met=:: after=INT / a counted array is the type of the count, two colons, and the array: INT::[]BYTE
 wanted=OF / write OF behind CHAN: CHAN OF BYTE c:
-wanted=more.formals met=? / this profile of occam 2 has no direction marks: leave ? out
-wanted=more.formals met=! / this profile of occam 2 has no direction marks: leave ! out
+wanted=formals met=? / this profile of occam 2 has no direction marks: leave ? out
+wanted=formals met=! / this profile of occam 2 has no direction marks: leave ! out
 wanted=expression met=] / give the array its size: [10]BYTE s:
 wanted=operand like=- / put brackets round a sign behind an operator: 3 * (-1)
 wanted=operand like=MOSTPOS / put brackets round it behind an operator: p <> (MOSTPOS INT)
@@ -90,8 +92,15 @@ over joins / operators have no precedence: write (a + b) * c or a + (b * c)";
 pub(crate) struct Met<'a> {
     pub(crate) line: usize,
     pub(crate) words: &'a [Word<'a>],
-    pub(crate) start: &'static str,
     pub(crate) leaving: Leaving,
+}
+
+/// The class of the words that a word of the table stands for.
+fn class_in(spelling: &str) -> Option<Class> {
+    match front_of(spelling.as_bytes()).class {
+        Some(Class::Name) if spelling != "name" => None,
+        class => class,
+    }
 }
 
 /// Whether the word is an operator with two operands.
@@ -127,9 +136,8 @@ impl Met<'_> {
         };
         let class = class_at(self.words, place);
         match kind {
-            [b'i', ..] => self.start == spelling,
-            [b'w', ..] => leaving.wanted == spelling,
-            [b'e', ..] => leaving.wanted.is_empty(),
+            [b'w', ..] => leaving.wanted.0 == spelling,
+            [b'e', ..] => leaving.wanted.1.is_empty(),
             [b'o', ..] => !leaving.over.is_empty(),
             [b'j', ..] => is_operator(class),
             [b's', ..] => word_from(self.words, 0, spelling.as_bytes()) < self.words.len(),
@@ -161,7 +169,7 @@ impl Met<'_> {
         let met = class_at(words, at);
         at > 2
             && !over.is_empty()
-            && !(over == b"whole".as_slice() && matches!(met, Class::And | Class::Or))
+            && !(over == "a whole expression" && matches!(met, Class::And | Class::Or))
             && is_operator(met)
             && is_single(class_at(words, at - 3))
             && is_operator(class_at(words, at - 2))
@@ -189,20 +197,14 @@ impl Met<'_> {
     /// What is wrong: the word that is met, and what may stand in its place. Behind the last word none is.
     fn wrong(&self) -> (&'static str, &'static str) {
         let leaving = self.leaving;
-        let is_over = leaving.wanted.is_empty();
-        let said = said_of(leaving.wanted.as_bytes());
-        let wanted = if is_over {
-            "more"
-        } else if said.is_empty() {
-            "another word"
-        } else {
-            said
-        };
+        let wanted = leaving.wanted.1;
+        let is_over = wanted.is_empty();
         match class_at(self.words, leaving.at) {
             Class::End => ("the line ends where @2 must stand", wanted),
             met if !leaving.over.is_empty() && (is_over || is_operator(met)) => {
-                ("`@1` after @2", said_of(leaving.over))
+                ("`@1` after @2", leaving.over)
             }
+            _ if leaving.wanted.0 == "fifth" => ("a fifth size or subscript", ""),
             _ if is_over => ("`@1` where the line must end", ""),
             _ => ("`@1` where @2 must stand", wanted),
         }
@@ -216,7 +218,7 @@ impl Met<'_> {
         }
         let hint = self.hint();
         if hint.is_empty()
-            && self.leaving.wanted == "new.name"
+            && self.leaving.wanted.0 == "new.name"
             && class_of(bytes_at(self.words, at)) != Class::Name
         {
             return (
@@ -224,6 +226,9 @@ impl Met<'_> {
                 Nothing,
                 Nothing,
             );
+        }
+        if hint.is_empty() && self.leaving.wanted.0 == "end" {
+            return (LAST_COLON, Nothing, Nothing);
         }
         if hint.starts_with("operators have") && self.joins_single_operands() {
             return (
@@ -256,6 +261,10 @@ impl Met<'_> {
         }
     }
 }
+
+/// How a PROC and a PROTOCOL are ended.
+pub(crate) const LAST_COLON: &str =
+    "end a PROC, and a PROTOCOL with tags, with a colon in a line of its own, under its first letter";
 
 /// What to do about a reserved word in small letters, which is the third piece.
 pub(crate) const IN_CAPITALS: &str = "write reserved words in capitals: @3";

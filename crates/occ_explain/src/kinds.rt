@@ -9,7 +9,7 @@ use crate::scope::{Declared, Kind, declaration_of, formal_at, formal_count, inde
 use crate::sentence::{Nothing, Piece, Told};
 use crate::shapes::number_of;
 use crate::types::operand_begin;
-use crate::walk::{bytes_at, class_at};
+use crate::words::{bytes_at, class_at};
 
 /// What a name has to be at its place.
 #[derive(Clone, Copy)]

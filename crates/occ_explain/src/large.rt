@@ -7,7 +7,7 @@ use crate::scan::{Text, Word};
 use crate::scope::{Kind, behind_bracket, declaration_of, index_at, spec_at};
 use crate::sentence::{Nothing, Piece, Told};
 use crate::shapes::number_of;
-use crate::walk::{bytes_at, class_at};
+use crate::words::{bytes_at, class_at};
 use std::alloc::{AllocError, Global};
 
 /// What is counted: at least so many, and the line that adds most of them.

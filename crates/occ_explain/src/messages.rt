@@ -11,7 +11,7 @@ use crate::shapes::{Shape, are_alike, shape_of};
 use crate::types::{
     Primitive, Typed, expression_end, operand_begin, operand_end, spelled_type, typed_at,
 };
-use crate::walk::{bytes_at, class_at};
+use crate::words::{bytes_at, class_at};
 
 /// A message: the line that sends or takes it, where its first item stands, and the channel.
 #[derive(Clone, Copy)]

@@ -12,7 +12,7 @@ use crate::types::{
     Primitive, Type, Typed, called, expression_end, operand_begin, operand_end, spelled_type,
     type_of, typed_at,
 };
-use crate::walk::{bytes_at, class_at};
+use crate::words::{bytes_at, class_at};
 
 /// Which single values may stand somewhere.
 #[derive(Clone, Copy, PartialEq)]

@@ -9,7 +9,7 @@ use crate::scope::{declares, formal_count, formal_of};
 use crate::sentence::{Nothing, Piece, Told};
 use crate::types::{operand_begin, operand_end};
 use crate::uses::is_in_row;
-use crate::walk::{bytes_at, class_at, word_from};
+use crate::words::{bytes_at, class_at, word_from};
 
 /// A name without subscripts.
 pub(crate) fn base(name: &[u8]) -> &[u8] {

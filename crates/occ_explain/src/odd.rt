@@ -1,10 +1,9 @@
 //! Bytes and literals that stand for nothing.
 
 use crate::class::Class;
-use crate::grammar::cut;
 use crate::scan::{Text, Word};
 use crate::sentence::{Nothing, Piece, Told};
-use crate::walk::{bytes_at, class_at};
+use crate::words::{bytes_at, class_at};
 
 /// What a byte or a character that begins no word is called, and what is written in its place.
 static BYTES: &str = "\
@@ -29,8 +28,8 @@ _ `_` / a name has letters, digits and dots: write my.var
 /// What these bytes are called, and what is written in their place; nothing where they have no name of their own.
 fn called(bytes: &[u8]) -> (&'static str, &'static str) {
     for row in BYTES.lines() {
-        let (begin, behind) = cut(row);
-        if bytes.starts_with(begin.as_bytes())
+        if let Some((begin, behind)) = row.split_once(' ')
+            && bytes.starts_with(begin.as_bytes())
             && let Some((called, hint)) = behind.split_once(" / ")
         {
             return (called, hint);

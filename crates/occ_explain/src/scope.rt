@@ -2,7 +2,7 @@
 
 use crate::class::Class;
 use crate::scan::{Text, Word};
-use crate::walk::{bytes_at, class_at};
+use crate::words::{bytes_at, class_at};
 
 /// What a name stands for.
 #[derive(Clone, Copy, PartialEq)]

@@ -4,7 +4,7 @@ use crate::class::Class;
 use crate::scan::{Text, Word};
 use crate::scope::declaration_of;
 use crate::types::{Typed, expression_end};
-use crate::walk::bytes_at;
+use crate::words::bytes_at;
 
 /// How a type is written: as it is called, as an array of so many letters, or as the words of a declaration, which stand in a line
 /// from one place up to another.

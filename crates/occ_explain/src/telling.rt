@@ -7,7 +7,7 @@ use crate::scope::{Declared, Kind, declaration_of};
 use crate::sentence::{Piece, Told};
 use crate::shapes::{Shape, is_beside, shape_of};
 use crate::types::{Typed, begins_int, called};
-use crate::walk::{bytes_at, word_from};
+use crate::words::{bytes_at, word_from};
 use std::alloc::{AllocError, Global};
 
 /// The most bytes of a word that are told.

@@ -3,7 +3,7 @@
 use crate::class::Class;
 use crate::scan::{Text, Word};
 use crate::scope::{Kind, behind_bracket, behind_sizes, declaration_of};
-use crate::walk::{bytes_at, class_at};
+use crate::words::{bytes_at, class_at};
 
 #[derive(Clone, Copy, PartialEq)]
 pub(crate) enum Primitive {

@@ -5,7 +5,7 @@ use crate::names::base;
 use crate::scan::{Text, Word};
 use crate::scope::{Kind, declaration_of};
 use crate::telling::{Out, told};
-use crate::walk::{bytes_at, class_at, word_from};
+use crate::words::{bytes_at, class_at, word_from};
 
 /// The PAR round a line, and the branch of it that the line stands in; the innermost first.
 fn branch_of(text: &Text<'_>, index: usize) -> Option<(usize, usize)> {

@@ -6,22 +6,30 @@ ghost use Rattle.occ_explaining.specs.Explaining.{TellsFault, number_and_line, n
 use crate::files::{Files, place_told};
 use occ_check::fault::CheckFault;
 use occ_code::CodeFault;
-use occ_explain::{Refusal, explain, explained};
+use occ_explain::{Reader, Refusal, explain, explained};
 use occ_play::PlayFault;
 use occ_text::TextFault;
 use occ_tree_grammar::ParseFault;
 use occ_usage::UsageFault;
 use std::alloc::{AllocError, Global};
 
-/// A refusal without a name.
-fn nameless(number: u32, line: u32) -> Option<Refusal<'static>>
+/// A refusal without a name, with what the reader tells of it.
+fn read(number: u32, line: u32, reader: Reader) -> Option<Refusal<'static>>
     ensures { option_map numbered_of result ≡ Some (number_and_line number line) }
 {
     Some(Refusal {
         number,
         line,
+        reader,
         name: b"",
     })
+}
+
+/// A refusal without a name.
+fn nameless(number: u32, line: u32) -> Option<Refusal<'static>>
+    ensures { option_map numbered_of result ≡ Some (number_and_line number line) }
+{
+    read(number, line, Reader::Nothing)
 }
 
 fn of_text(fault: &TextFault) -> Option<Refusal<'static>>
@@ -43,10 +51,10 @@ fn of_parse(fault: &ParseFault) -> Option<Refusal<'static>>
     ensures { option_map numbered_of result ≡ refusal_in (PlayFault.Parse fault.now) }
 {
     match fault {
-        ParseFault::Unexpected { line } => nameless(20, *line),
-        ParseFault::Level { line } => nameless(21, *line),
-        ParseFault::Missing { line } => nameless(22, *line),
-        ParseFault::TooDeep { line } => nameless(23, *line),
+        ParseFault::Unexpected(line, stop) => read(20, *line, Reader::Stop(*stop)),
+        ParseFault::Level(line, level) => read(21, *line, Reader::Level(*level)),
+        ParseFault::Missing(line, level) => read(22, *line, Reader::Level(*level)),
+        ParseFault::TooDeep(line, stop) => read(23, *line, Reader::Stop(*stop)),
         ParseFault::Memory => None,
     }
 }
@@ -58,6 +66,7 @@ fn named(number: u32, line: u32, name: &String) -> Option<Refusal<'_>>
     Some(Refusal {
         number,
         line,
+        reader: Reader::Nothing,
         name: name.as_bytes(),
     })
 }

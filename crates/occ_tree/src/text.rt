@@ -59,7 +59,7 @@ fn program(alloc: Global, last: u32, lines: &[Line]) -> Result<Program, ParseFau
     let (items, rest) = items(alloc, last, lines)?;
     match rest {
         [] => Ok(Program { items }),
-        [first, ..] => Err(ParseFault::Level { line: first.number }),
+        [first, ..] => Err(ParseFault::Level(first.number, 0)),
     }
 }
 

@@ -11,6 +11,8 @@ mod fault;
 pub mod laws;
 pub mod limits;
 pub mod lines;
+mod stops;
 pub mod tree;
 
 pub use fault::ParseFault;
+pub use stops::{Stop, Wanted};

@@ -14,10 +14,10 @@ use Rattle.occ_tree_reader.specs.Opened.{begun}
 -- what follows a reading that fails
 pub fails_then : (e : ParseFault) {A B : Type 0} (r : Option A) (f : A → Option B) → Fails e r → Fails e (r >>= f)
 fails_then Memory r f h = tt
-fails_then (Unexpected line) r f h = rw h refl
-fails_then (Level line) r f h = rw h refl
-fails_then (Missing line) r f h = rw h refl
-fails_then (TooDeep line) r f h = rw h refl
+fails_then (Unexpected line stop) r f h = rw h refl
+fails_then (Level line level) r f h = rw h refl
+fails_then (Missing line level) r f h = rw h refl
+fails_then (TooDeep line stop) r f h = rw h refl
 
 -- ---- the declarations before a node
 

@@ -46,10 +46,10 @@ fails {W} {A} {next} {read} {front} {count} {i} {ws} {total} {after} so_far lt j
 pub ends : (e : ParseFault) {W A : Type 0} {next : List W → Option (List W)} {read : Reader W A} {front : List A} {count i : ℕ} {ws : List W} {total : Option (List A × List W)} {after : List W}
     → SoFar W A next read front count i ws total → i < count → Some after ≡ next ws → Fails e (read after) → Fails e total
 ends Memory so_far lt joined h = tt
-ends (Unexpected line) so_far lt joined h = fails so_far lt joined h
-ends (Level line) so_far lt joined h = fails so_far lt joined h
-ends (Missing line) so_far lt joined h = fails so_far lt joined h
-ends (TooDeep line) so_far lt joined h = fails so_far lt joined h
+ends (Unexpected line stop) so_far lt joined h = fails so_far lt joined h
+ends (Level line level) so_far lt joined h = fails so_far lt joined h
+ends (Missing line level) so_far lt joined h = fails so_far lt joined h
+ends (TooDeep line stop) so_far lt joined h = fails so_far lt joined h
 
 pub is_full : {W A : Type 0} {next : List W → Option (List W)} {read : Reader W A} {front : List A} {count i : ℕ} {ws : List W} {total : Option (List A × List W)}
     → SoFar W A next read front count i ws total → count ≤ i → total ≡ Some (front, ws)

@@ -42,15 +42,15 @@ next_tags b (suc n) level l v lines ne = let k : suc n - 1 ≡ n = omega arith i
 -- every fault is one where there is nothing
 pub fails_none : {Y : Type 0} (e : ParseFault) (read : Option Y) → read ≡ None → Fails e read
 fails_none Memory read h = tt
-fails_none (Unexpected line) read h = h
-fails_none (Level line) read h = h
-fails_none (Missing line) read h = h
-fails_none (TooDeep line) read h = h
+fails_none (Unexpected line stop) read h = h
+fails_none (Level line level) read h = h
+fails_none (Missing line level) read h = h
+fails_none (TooDeep line stop) read h = h
 
 -- what stands a level deeper has the fault, and so has the whole
 pub fails_below : (e : ParseFault) {A B C : Type 0} (r : Option A) (f : A → Option B) (g : B → Option C) → Fails e r → Fails e ((r >>= f) >>= g)
 fails_below Memory r f g h = tt
-fails_below (Unexpected line) r f g h = rw h refl
-fails_below (Level line) r f g h = rw h refl
-fails_below (Missing line) r f g h = rw h refl
-fails_below (TooDeep line) r f g h = rw h refl
+fails_below (Unexpected line stop) r f g h = rw h refl
+fails_below (Level line level) r f g h = rw h refl
+fails_below (Missing line level) r f g h = rw h refl
+fails_below (TooDeep line stop) r f g h = rw h refl

@@ -12,15 +12,15 @@ ghost use Rattle.occ_tree_grammar.specs.Limits.{brackets};
 use crate::expressions::read::{expr, indices};
 use crate::expressions::symbol::close;
 use crate::list::further;
-use crate::word::for_count;
+use crate::word::{for_count, stop_behind};
 use occ_held::letters::Letters;
 use occ_text::{Key, Sym, Token};
-use occ_tree_grammar::ParseFault;
 use occ_tree_grammar::limits::MOST_LEVELS;
 use occ_tree_grammar::lines::head::Received;
 use occ_tree_grammar::lines::separator::Separator;
 use occ_tree_grammar::tree::expr::Expr;
 use occ_tree_grammar::tree::line::{Input, OneOrMore, Out, Replicator, Target, Var};
+use occ_tree_grammar::{ParseFault, Stop, Wanted};
 use std::alloc::Global;
 
 /// An expression that stands in no bracket.
@@ -55,7 +55,7 @@ pub fn var(alloc: Global, line: u32, tokens: &[Token]) -> Result<(Var, &[Token])
 {
     match tokens {
         [Token::Name(name), rest @ ..] => var_behind(alloc, line, name, rest),
-        _ => Err(ParseFault::Unexpected { line }),
+        _ => Err(ParseFault::Unexpected(line, Stop::before(tokens, Wanted::Variable))),
     }
 }
 
@@ -93,11 +93,14 @@ fn items(alloc: Global, line: u32, channel: Var, tokens: &[Token]) -> Result<Rec
     ensures { Gives received_of result
         (targets_whole brackets (var_of channel) (words tokens.now)) }
 {
+    if let [Token::Key(Key::Case), rest @ ..] = tokens {
+        return Err(ParseFault::Unexpected(line, Stop::before(rest, Wanted::End)));
+    }
     let (first, rest) = target(alloc, line, tokens)?;
     let (others, rest) = further::<Target>(alloc, Separator::Semicolon, line, rest)?;
     match rest {
         [] => { Ok(Received::Input(Input::Items(channel, OneOrMore { first, others }))) }
-        _ => Err(ParseFault::Unexpected { line }),
+        _ => Err(ParseFault::Unexpected(line, Stop::before(rest, Wanted::End))),
     }
 }
 
@@ -118,7 +121,7 @@ pub fn behind_question(
             let tag = tag.copy()?;
             match rest {
                 [] => Ok(Received::Input(Input::Tagged(channel, tag, into))),
-                _ => Err(ParseFault::Unexpected { line }),
+                _ => Err(ParseFault::Unexpected(line, Stop::before(rest, Wanted::End))),
             }
         }
         _ => items(alloc, line, channel, tokens),
@@ -137,7 +140,7 @@ fn only_replicator(
 {
     match rest {
         [] => Ok(Some(Box::new(alloc, replicator)?)),
-        _ => Err(ParseFault::Unexpected { line }),
+        _ => Err(ParseFault::Unexpected(line, Stop::before(rest, Wanted::ExpressionEnd))),
     }
 }
 
@@ -159,7 +162,7 @@ pub fn replicator(
             let name = name.copy()?;
             only_replicator(alloc, line, Replicator { name, base, count }, rest)
         }
-        _ => Err(ParseFault::Unexpected { line }),
+        _ => Err(ParseFault::Unexpected(line, stop_behind(Wanted::Equal, Wanted::End, tokens))),
     }
 }
 
@@ -177,7 +180,7 @@ pub fn actuals(
         _ => {
             let (first, rest) = expression(alloc, line, tokens)?;
             let (others, rest) = further::<Expr>(alloc, Separator::Comma, line, rest)?;
-            let rest = close(line, rest)?;
+            let rest = close(line, Wanted::Actuals, rest)?;
             Ok((Some(OneOrMore { first, others }), rest))
         }
     }

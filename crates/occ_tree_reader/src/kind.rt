@@ -12,11 +12,11 @@ use crate::expressions::symbol::{close, open_bracket, prim};
 use crate::list::further;
 use crate::word::name;
 use occ_text::{Key, Sym, Token};
-use occ_tree_grammar::ParseFault;
 use occ_tree_grammar::limits::MOST_LEVELS;
 use occ_tree_grammar::lines::separator::Separator;
 use occ_tree_grammar::tree::expr::{Expr, Prim};
 use occ_tree_grammar::tree::line::{Carried, Formal, Formals, Part, Size, Spec, ValueType};
+use occ_tree_grammar::{ParseFault, Wanted};
 use std::alloc::Global;
 
 /// The sizes of a declared type.
@@ -46,7 +46,7 @@ fn part_behind(
             Token::Sym(Sym::CloseBracket),
             rest @ ..,
         ] if sizes.is_empty() => {
-            let (components, rest) = prim(line, rest)?;
+            let (components, rest) = prim(line, Wanted::Primitive, rest)?;
             Ok((Part::Counted(of, components), rest))
         }
         _ => Ok((Part::Single(sizes, of), tokens)),
@@ -59,7 +59,7 @@ pub fn part(alloc: Global, line: u32, tokens: &[Token]) -> Result<(Part, &[Token
     ensures { ReadsWords part_of result (part_at brackets) tokens.now }
 {
     let (sizes, rest) = declared_sizes(alloc, line, tokens)?;
-    let (of, rest) = prim(line, rest)?;
+    let (of, rest) = prim(line, Wanted::Part, rest)?;
     part_behind(line, sizes, of, rest)
 }
 
@@ -120,7 +120,7 @@ pub fn value_type(
     ensures { ReadsWords value_type_of result (value_type_at brackets) tokens.now }
 {
     let (sizes, rest) = sizes(alloc, line, tokens)?;
-    let (of, rest) = prim(line, rest)?;
+    let (of, rest) = prim(line, Wanted::ValueType, rest)?;
     Ok((ValueType { sizes, of }, rest))
 }
 
@@ -138,7 +138,7 @@ fn spec_behind(
             Ok((Spec::Channel(sizes, carried), rest))
         }
         _ => {
-            let (of, rest) = prim(line, tokens)?;
+            let (of, rest) = prim(line, Wanted::Formal, tokens)?;
             Ok((Spec::Variable(ValueType { sizes, of }), rest))
         }
     }
@@ -200,7 +200,7 @@ pub fn formals(
             let (spec, rest) = spec(alloc, line, tokens)?;
             let (name, rest) = name(line, rest)?;
             let (others, rest) = further::<Formal>(alloc, Separator::Comma, line, rest)?;
-            let rest = close(line, rest)?;
+            let rest = close(line, Wanted::Formals, rest)?;
             let formals = Box::new(alloc, Formals { spec, name, others })?;
             Ok((Some(formals), rest))
         }

@@ -15,14 +15,14 @@ use crate::expressions::symbol::prim;
 use crate::item::expression;
 use crate::kind::{carried, declared_sizes, formals, part, value_type};
 use crate::list::further;
-use crate::word::{colon, is, name};
+use crate::word::{colon, is, name, stop_behind};
 use occ_held::letters::Letters;
 use occ_text::{Key, Sym, Token};
-use occ_tree_grammar::ParseFault;
 use occ_tree_grammar::lines::head::{DeclHead, TagHead};
 use occ_tree_grammar::lines::separator::Separator;
 use occ_tree_grammar::tree::expr::Expr;
 use occ_tree_grammar::tree::line::{OneOrMore, Part, Sort, ValueType};
+use occ_tree_grammar::{ParseFault, Stop, Wanted};
 use std::alloc::Global;
 
 /// The names and what they are declared as, where nothing follows them.
@@ -38,7 +38,7 @@ fn only_names(
 {
     match rest {
         [] => Ok(DeclHead::Names(sizes, Box::new(alloc, sort)?, all)),
-        _ => Err(ParseFault::Unexpected { line }),
+        _ => Err(ParseFault::Unexpected(line, Stop::before(rest, Wanted::End))),
     }
 }
 
@@ -55,7 +55,7 @@ fn only_value(
 {
     match rest {
         [] => Ok(DeclHead::Value(of, name, Box::new(alloc, value)?)),
-        _ => Err(ParseFault::Unexpected { line }),
+        _ => Err(ParseFault::Unexpected(line, Stop::before(rest, Wanted::End))),
     }
 }
 
@@ -71,7 +71,7 @@ fn only_parts(
 {
     match rest {
         [] => Ok(DeclHead::Parts(name, Box::new(alloc, all)?)),
-        _ => Err(ParseFault::Unexpected { line }),
+        _ => Err(ParseFault::Unexpected(line, Stop::before(rest, Wanted::End))),
     }
 }
 
@@ -88,7 +88,7 @@ fn declared_names(
 {
     let (first, rest) = name(line, tokens)?;
     let (others, rest) = further::<Letters>(alloc, Separator::Comma, line, rest)?;
-    let rest = colon(line, rest)?;
+    let rest = colon(line, Wanted::Names, rest)?;
     only_names(alloc, line, sizes, sort, OneOrMore { first, others }, rest)
 }
 
@@ -107,7 +107,7 @@ fn behind_sizes(
             declared_names(alloc, line, sizes, Sort::Channel(carried), rest)
         }
         _ => {
-            let (of, rest) = prim(line, tokens)?;
+            let (of, rest) = prim(line, Wanted::Declared, tokens)?;
             declared_names(alloc, line, sizes, Sort::Data(of), rest)
         }
     }
@@ -125,7 +125,7 @@ fn named_value(
     let (name, rest) = name(line, tokens)?;
     let rest = is(line, rest)?;
     let (value, rest) = expression(alloc, line, rest)?;
-    let rest = colon(line, rest)?;
+    let rest = colon(line, Wanted::Colon, rest)?;
     only_value(alloc, line, of, name, value, rest)
 }
 
@@ -151,11 +151,11 @@ fn behind_protocol(alloc: Global, line: u32, tokens: &[Token]) -> Result<DeclHea
         [Token::Name(name), Token::Key(Key::Is), rest @ ..] => {
             let (first, rest) = part(alloc, line, rest)?;
             let (others, rest) = further::<Part>(alloc, Separator::Semicolon, line, rest)?;
-            let rest = colon(line, rest)?;
+            let rest = colon(line, Wanted::Parts, rest)?;
             let name = name.copy()?;
             only_parts(alloc, line, name, OneOrMore { first, others }, rest)
         }
-        _ => Err(ParseFault::Unexpected { line }),
+        _ => Err(ParseFault::Unexpected(line, stop_behind(Wanted::End, Wanted::NewName, tokens))),
     }
 }
 
@@ -169,10 +169,13 @@ fn behind_proc(alloc: Global, line: u32, tokens: &[Token]) -> Result<DeclHead, P
             let name = name.copy()?;
             match rest {
                 [] => Ok(DeclHead::Proc(name, formals)),
-                _ => Err(ParseFault::Unexpected { line }),
+                _ => Err(ParseFault::Unexpected(line, Stop::before(rest, Wanted::End))),
             }
         }
-        _ => Err(ParseFault::Unexpected { line }),
+        _ => Err(ParseFault::Unexpected(
+            line,
+            stop_behind(Wanted::OpenParen, Wanted::NewName, tokens),
+        )),
     }
 }
 
@@ -196,6 +199,19 @@ pub fn decl_head(alloc: Global, line: u32, tokens: &[Token]) -> Result<DeclHead,
     }
 }
 
+/// Where a line with a wrong beginning leaves the grammar. One that begins with a type is a declaration without its colon.
+pub(crate) fn stop_of_line(alloc: Global, line: u32, tokens: &[Token]) -> Stop {
+    match tokens {
+        [Token::Key(Key::Bool | Key::Byte | Key::Int), ..] => {
+            match decl_head(alloc, line, tokens) {
+                Err(ParseFault::Unexpected(_, stop)) => stop,
+                _ => Stop::before(tokens, Wanted::Begin),
+            }
+        }
+        _ => Stop::before(tokens, Wanted::Begin),
+    }
+}
+
 /// A line of a protocol of variants.
 #[tactic(auto, unfolding(occ_tree_grammar::specs::Lines::HeadReading::tag_head_at))]
 pub fn tag_head(alloc: Global, line: u32, tokens: &[Token]) -> Result<TagHead, ParseFault>
@@ -207,10 +223,10 @@ pub fn tag_head(alloc: Global, line: u32, tokens: &[Token]) -> Result<TagHead, P
             let tag = tag.copy()?;
             match rest {
                 [] => Ok(TagHead { tag, parts }),
-                _ => Err(ParseFault::Unexpected { line }),
+                _ => Err(ParseFault::Unexpected(line, Stop::before(rest, Wanted::End))),
             }
         }
-        _ => Err(ParseFault::Unexpected { line }),
+        _ => Err(ParseFault::Unexpected(line, Stop::before(tokens, Wanted::Begin))),
     }
 }
 

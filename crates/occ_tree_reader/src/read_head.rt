@@ -15,17 +15,26 @@ ghost use Rattle.occ_tree_reader.specs.Reads.{ReadsProcessHead, ReadsChoiceHead,
 
 use crate::item::{actuals, behind_question, expression, out, replicator, var, var_behind};
 use crate::list::further;
+use crate::read_decl::stop_of_line;
 use crate::word::{assign, question};
 use occ_held::letters::Letters;
 use occ_text::{Key, Sym, Token};
-use occ_tree_grammar::ParseFault;
 use occ_tree_grammar::lines::head::{
     ArmHead, ChoiceHead, OptionHead, ProcessHead, Received, VariantHead,
 };
 use occ_tree_grammar::lines::separator::Separator;
 use occ_tree_grammar::tree::expr::Expr;
 use occ_tree_grammar::tree::line::{Action, Guard, OneOrMore, Out, Target, Var, VariantGuard};
+use occ_tree_grammar::{ParseFault, Stop, Wanted};
 use std::alloc::Global;
+
+/// Where a line that goes on behind this action leaves the grammar.
+fn stop_behind_action(action: &Action, rest: &[Token]) -> Stop {
+    match action {
+        Action::Assign(_, _) | Action::Output(_, _) => Stop::before(rest, Wanted::ExpressionEnd),
+        _ => Stop::before(rest, Wanted::End),
+    }
+}
 
 /// The action, where nothing follows it.
 fn only_action(
@@ -38,7 +47,7 @@ fn only_action(
 {
     match rest {
         [] => Ok(ProcessHead::Action(Box::new(alloc, action)?)),
-        _ => Err(ParseFault::Unexpected { line }),
+        _ => Err(ParseFault::Unexpected(line, stop_behind_action(&action, rest))),
     }
 }
 
@@ -152,7 +161,7 @@ fn behind_case(alloc: Global, line: u32, tokens: &[Token]) -> Result<ProcessHead
     let (value, rest) = expression(alloc, line, tokens)?;
     match rest {
         [] => Ok(ProcessHead::Case(Box::new(alloc, value)?)),
-        _ => Err(ParseFault::Unexpected { line }),
+        _ => Err(ParseFault::Unexpected(line, Stop::before(rest, Wanted::ExpressionEnd))),
     }
 }
 
@@ -165,7 +174,15 @@ fn behind_while(alloc: Global, line: u32, tokens: &[Token]) -> Result<ProcessHea
     let (condition, rest) = expression(alloc, line, tokens)?;
     match rest {
         [] => Ok(ProcessHead::While(Box::new(alloc, condition)?)),
-        _ => Err(ParseFault::Unexpected { line }),
+        _ => Err(ParseFault::Unexpected(line, Stop::before(rest, Wanted::ExpressionEnd))),
+    }
+}
+
+/// Where a line that begins no process leaves the grammar.
+fn stop_of_process(alloc: Global, line: u32, tokens: &[Token]) -> Stop {
+    match tokens {
+        [Token::Key(Key::Pri), rest @ ..] => Stop::before(rest, Wanted::Alt),
+        _ => stop_of_line(alloc, line, tokens),
     }
 }
 
@@ -193,7 +210,7 @@ pub fn process_head(alloc: Global, line: u32, tokens: &[Token]) -> Result<Proces
         [Token::Key(Key::Case), rest @ ..] => behind_case(alloc, line, rest),
         [Token::Key(Key::While), rest @ ..] => behind_while(alloc, line, rest),
         [Token::Name(name), rest @ ..] => behind_name(alloc, line, name, rest),
-        _ => Err(ParseFault::Unexpected { line }),
+        _ => Err(ParseFault::Unexpected(line, stop_of_process(alloc, line, tokens))),
     }
 }
 
@@ -208,7 +225,7 @@ fn only_condition(
 {
     match rest {
         [] => Ok(ChoiceHead::When(Box::new(alloc, condition)?)),
-        _ => Err(ParseFault::Unexpected { line }),
+        _ => Err(ParseFault::Unexpected(line, Stop::before(rest, Wanted::ExpressionEnd))),
     }
 }
 
@@ -237,7 +254,7 @@ fn only_values(
 {
     match rest {
         [] => Ok(OptionHead::Values(Box::new(alloc, values)?)),
-        _ => Err(ParseFault::Unexpected { line }),
+        _ => Err(ParseFault::Unexpected(line, Stop::before(rest, Wanted::ExpressionEnd))),
     }
 }
 
@@ -248,7 +265,9 @@ pub fn option_head(alloc: Global, line: u32, tokens: &[Token]) -> Result<OptionH
 {
     match tokens {
         [Token::Key(Key::Else)] => Ok(OptionHead::Else),
-        [Token::Key(Key::Else), ..] => Err(ParseFault::Unexpected { line }),
+        [Token::Key(Key::Else), rest @ ..] => {
+            Err(ParseFault::Unexpected(line, Stop::before(rest, Wanted::End)))
+        }
         _ => {
             let (first, rest) = expression(alloc, line, tokens)?;
             let (others, rest) = further::<Expr>(alloc, Separator::Comma, line, rest)?;
@@ -297,7 +316,7 @@ fn only_skip(
 {
     match rest {
         [] => Ok(ArmHead::Guarded(Box::new(alloc, Guard::Skip(condition))?)),
-        _ => Err(ParseFault::Unexpected { line }),
+        _ => Err(ParseFault::Unexpected(line, Stop::before(rest, Wanted::End))),
     }
 }
 
@@ -338,7 +357,11 @@ fn behind_channel(
     ensures { ReadsArmHead result (channel_first brackets (option_map var_of channel)) tokens.now }
 {
     let Some(channel) = channel else {
-        return Err(ParseFault::Unexpected { line });
+        let stop = Stop {
+            left: tokens.len().saturating_add(1),
+            wanted: Wanted::Ampersand,
+        };
+        return Err(ParseFault::Unexpected(line, stop));
     };
     let received = behind_question(alloc, line, channel, tokens)?;
     received_arm(alloc, None, received)
@@ -360,7 +383,7 @@ fn behind_condition(
             behind_channel(alloc, line, channel, rest)
         }
         [Token::Sym(Sym::Ampersand), rest @ ..] => { behind_and(alloc, line, condition, rest) }
-        _ => Err(ParseFault::Unexpected { line }),
+        _ => Err(ParseFault::Unexpected(line, Stop::before(tokens, Wanted::Guard))),
     }
 }
 
@@ -370,7 +393,7 @@ fn behind_pri(alloc: Global, line: u32, tokens: &[Token]) -> Result<ArmHead, Par
 {
     match tokens {
         [Token::Key(Key::Alt), rest @ ..] => Ok(ArmHead::Alt(true, replicator(alloc, line, rest)?)),
-        _ => Err(ParseFault::Unexpected { line }),
+        _ => Err(ParseFault::Unexpected(line, Stop::before(tokens, Wanted::Alt))),
     }
 }
 
@@ -407,9 +430,9 @@ pub fn variant_head(alloc: Global, line: u32, tokens: &[Token]) -> Result<Varian
             let tag = tag.copy()?;
             match rest {
                 [] => Ok(VariantHead { tag, targets }),
-                _ => Err(ParseFault::Unexpected { line }),
+                _ => Err(ParseFault::Unexpected(line, Stop::before(rest, Wanted::End))),
             }
         }
-        _ => Err(ParseFault::Unexpected { line }),
+        _ => Err(ParseFault::Unexpected(line, stop_of_line(alloc, line, tokens))),
     }
 }

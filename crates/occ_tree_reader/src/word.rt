@@ -7,8 +7,8 @@ ghost use Rattle.occ_tree_grammar.specs.Lines.Reading.{after_separator, name_at,
 
 use occ_held::letters::Letters;
 use occ_text::{Key, Sym, Token};
-use occ_tree_grammar::ParseFault;
 use occ_tree_grammar::lines::separator::Separator;
+use occ_tree_grammar::{ParseFault, Stop, Wanted};
 
 /// The words after the separator, where it stands.
 pub fn separated(by: Separator, tokens: &[Token]) -> Option<&[Token]>
@@ -27,7 +27,15 @@ pub fn name(line: u32, tokens: &[Token]) -> Result<(Letters, &[Token]), ParseFau
 {
     match tokens {
         [Token::Name(name), rest @ ..] => Ok((name.copy()?, rest)),
-        _ => Err(ParseFault::Unexpected { line }),
+        _ => Err(ParseFault::Unexpected(line, Stop::before(tokens, Wanted::NewName))),
+    }
+}
+
+/// Where a line leaves the grammar in which a name has to stand here, and `behind` after it.
+pub(crate) fn stop_behind(behind: Wanted, name: Wanted, tokens: &[Token]) -> Stop {
+    match tokens {
+        [Token::Name(_), rest @ ..] => Stop::before(rest, behind),
+        _ => Stop::before(tokens, name),
     }
 }
 
@@ -36,7 +44,7 @@ pub fn assign(line: u32, tokens: &[Token]) -> Result<&[Token], ParseFault>
 {
     match tokens {
         [Token::Sym(Sym::Assign), rest @ ..] => Ok(rest),
-        _ => Err(ParseFault::Unexpected { line }),
+        _ => Err(ParseFault::Unexpected(line, Stop::before(tokens, Wanted::Action))),
     }
 }
 
@@ -45,7 +53,7 @@ pub fn question(line: u32, tokens: &[Token]) -> Result<&[Token], ParseFault>
 {
     match tokens {
         [Token::Sym(Sym::Question), rest @ ..] => Ok(rest),
-        _ => Err(ParseFault::Unexpected { line }),
+        _ => Err(ParseFault::Unexpected(line, Stop::before(tokens, Wanted::Question))),
     }
 }
 
@@ -54,7 +62,7 @@ pub fn for_count(line: u32, tokens: &[Token]) -> Result<&[Token], ParseFault>
 {
     match tokens {
         [Token::Key(Key::For), rest @ ..] => Ok(rest),
-        _ => Err(ParseFault::Unexpected { line }),
+        _ => Err(ParseFault::Unexpected(line, Stop::before(tokens, Wanted::For))),
     }
 }
 
@@ -63,15 +71,15 @@ pub fn is(line: u32, tokens: &[Token]) -> Result<&[Token], ParseFault>
 {
     match tokens {
         [Token::Key(Key::Is), rest @ ..] => Ok(rest),
-        _ => Err(ParseFault::Unexpected { line }),
+        _ => Err(ParseFault::Unexpected(line, Stop::before(tokens, Wanted::Is))),
     }
 }
 
-pub fn colon(line: u32, tokens: &[Token]) -> Result<&[Token], ParseFault>
+pub fn colon(line: u32, wanted: Wanted, tokens: &[Token]) -> Result<&[Token], ParseFault>
     ensures { StepsOver result after_colon tokens.now }
 {
     match tokens {
         [Token::Sym(Sym::Colon), rest @ ..] => Ok(rest),
-        _ => Err(ParseFault::Unexpected { line }),
+        _ => Err(ParseFault::Unexpected(line, Stop::before(tokens, wanted))),
     }
 }

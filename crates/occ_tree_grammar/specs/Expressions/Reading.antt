@@ -23,10 +23,10 @@ use Rattle.occ_tree_grammar.specs.Expressions.Shown.{dimensions}
 -- a fault where reading gives nothing, unless memory ran out
 abbrev pub Fails : {Y : Type 0} → ParseFault → Option Y → Type 0
 Fails Memory read = Unit {0}
-Fails (Unexpected line) read = read ≡ None
-Fails (Level line) read = read ≡ None
-Fails (Missing line) read = read ≡ None
-Fails (TooDeep line) read = read ≡ None
+Fails (Unexpected line stop) read = read ≡ None
+Fails (Level line level) read = read ≡ None
+Fails (Missing line level) read = read ≡ None
+Fails (TooDeep line stop) read = read ≡ None
 
 -- what a function returned, seen by view, is what reading gives, unless memory ran out
 abbrev pub Gives : {X Y : Type 0} → (X → Y) → Result X ParseFault → Option Y → Type 0

@@ -5,6 +5,7 @@ ghost use Rattle.occ_tree_grammar.specs.Processes.Reading.{as_item};
 ghost use Rattle.occ_tree_grammar.specs.Processes.Views.{decl_of, item_of};
 
 use crate::fault::ParseFault;
+use crate::stops::{Stop, Wanted};
 use crate::tree::expr::Expr;
 use crate::tree::line::{
     Action, Formals, Guard, OneOrMore, Part, Replicator, Sort, Target, ValueType, Var, VariantGuard,
@@ -185,7 +186,13 @@ impl Decl {
     {
         match self {
             Decl::Item(item) => Ok(item),
-            Decl::Names(line, _, _, _) => Err(ParseFault::Unexpected { line }),
+            Decl::Names(line, _, _, _) => Err(ParseFault::Unexpected(
+                line,
+                Stop {
+                    left: usize::MAX,
+                    wanted: Wanted::Begin,
+                },
+            )),
         }
     }
 }

@@ -8,9 +8,9 @@ ghost use Rattle.occ_tree_grammar.specs.Expressions.Reading.{type_mark_at, index
 
 use crate::expressions::symbol::{close, close_bracket, int, joined, open_bracket, prim};
 use occ_text::{Key, Sym, Token};
-use occ_tree_grammar::ParseFault;
 use occ_tree_grammar::expressions::start::{Link, Start, link_to, start_with};
 use occ_tree_grammar::tree::expr::{Expr, Literal, Logic, Operand, Prim};
+use occ_tree_grammar::{ParseFault, Stop, Wanted};
 use std::alloc::Global;
 
 /// How many subscripts a name may have, and how many sizes a type.
@@ -22,8 +22,8 @@ fn type_mark(line: u32, tokens: &[Token]) -> Result<(Option<Prim>, &[Token]), Pa
 {
     match tokens {
         [Token::Sym(Sym::OpenParen), rest @ ..] => {
-            let (prim, rest) = prim(line, rest)?;
-            let rest = close(line, rest)?;
+            let (prim, rest) = prim(line, Wanted::Primitive, rest)?;
+            let rest = close(line, Wanted::CloseParen, rest)?;
             Ok((Some(prim), rest))
         }
         rest => Ok((None, rest)),
@@ -102,11 +102,11 @@ fn operand(
         [Token::Key(Key::False), rest @ ..] => Ok((Operand::Truth(false), rest)),
         [Token::Sym(Sym::OpenParen), rest @ ..] => {
             let (inside, rest) = expr(alloc, left, line, rest)?;
-            let rest = close(line, rest)?;
+            let rest = close(line, Wanted::CloseParen, rest)?;
             let inside = Box::new(alloc, inside)?;
             Ok((Operand::Parens(inside), rest))
         }
-        _ => Err(ParseFault::Unexpected { line }),
+        _ => Err(ParseFault::Unexpected(line, Stop::before(tokens, Wanted::Operand))),
     }
 }
 
@@ -146,7 +146,7 @@ pub fn expr(
     ensures { ReadsWords expression_of result (expression_at left) tokens.now }
 {
     if left == 0 {
-        return Err(ParseFault::TooDeep { line });
+        return Err(ParseFault::TooDeep(line, Stop::before(tokens, Wanted::Operand)));
     }
     inside(alloc, left - 1, line, tokens)
 }
@@ -162,7 +162,7 @@ fn inside(
     ensures { ReadsWords expression_of result (expression_with (expression_at left)) tokens.now }
 {
     let [first, after @ ..] = tokens else {
-        return Err(ParseFault::Unexpected { line });
+        return Err(ParseFault::Unexpected(line, Stop::before(tokens, Wanted::Operand)));
     };
     match start_with(first) {
         Start::Monadic(sign) => {

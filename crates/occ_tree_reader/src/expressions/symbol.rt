@@ -6,8 +6,8 @@ ghost use Rattle.occ_tree_grammar.specs.Fronts.{ReadsWords, StepsOver, words_fou
 ghost use Rattle.occ_tree_grammar.specs.Expressions.Reading.{after_open_bracket, after_close, after_close_bracket, after_int, prim_at, after_logic};
 
 use occ_text::{Key, Sym, Token};
-use occ_tree_grammar::ParseFault;
 use occ_tree_grammar::tree::expr::{Logic, Prim};
+use occ_tree_grammar::{ParseFault, Stop, Wanted};
 
 pub fn open_bracket(tokens: &[Token]) -> Option<&[Token]>
     ensures { words_found result ≡ after_open_bracket (words tokens.now) }
@@ -18,12 +18,13 @@ pub fn open_bracket(tokens: &[Token]) -> Option<&[Token]>
     }
 }
 
-pub fn close(line: u32, tokens: &[Token]) -> Result<&[Token], ParseFault>
+/// The bracket that closes. `wanted` says what else may stand there.
+pub fn close(line: u32, wanted: Wanted, tokens: &[Token]) -> Result<&[Token], ParseFault>
     ensures { StepsOver result after_close tokens.now }
 {
     match tokens {
         [Token::Sym(Sym::CloseParen), rest @ ..] => Ok(rest),
-        _ => Err(ParseFault::Unexpected { line }),
+        _ => Err(ParseFault::Unexpected(line, Stop::before(tokens, wanted))),
     }
 }
 
@@ -32,7 +33,7 @@ pub fn close_bracket(line: u32, tokens: &[Token]) -> Result<&[Token], ParseFault
 {
     match tokens {
         [Token::Sym(Sym::CloseBracket), rest @ ..] => Ok(rest),
-        _ => Err(ParseFault::Unexpected { line }),
+        _ => Err(ParseFault::Unexpected(line, Stop::before(tokens, Wanted::CloseBracket))),
     }
 }
 
@@ -41,19 +42,28 @@ pub fn int(line: u32, tokens: &[Token]) -> Result<&[Token], ParseFault>
 {
     match tokens {
         [Token::Key(Key::Int), rest @ ..] => Ok(rest),
-        _ => Err(ParseFault::Unexpected { line }),
+        _ => Err(ParseFault::Unexpected(line, Stop::before(tokens, Wanted::Int))),
     }
 }
 
-/// A primitive type.
-pub fn prim(line: u32, tokens: &[Token]) -> Result<(Prim, &[Token]), ParseFault>
+/// Where a line without a type here leaves the grammar. A channel needs `OF` behind `CHAN`.
+fn stop_of_type(wanted: Wanted, tokens: &[Token]) -> Stop {
+    let takes_channel = matches!(wanted, Wanted::Declared | Wanted::Formal);
+    match tokens {
+        [Token::Key(Key::Chan), rest @ ..] if takes_channel => Stop::before(rest, Wanted::Of),
+        _ => Stop::before(tokens, wanted),
+    }
+}
+
+/// A primitive type, where `wanted` has to stand.
+pub fn prim(line: u32, wanted: Wanted, tokens: &[Token]) -> Result<(Prim, &[Token]), ParseFault>
     ensures { ReadsWords (λ p. p) result prim_at tokens.now }
 {
     match tokens {
         [Token::Key(Key::Bool), rest @ ..] => Ok((Prim::Bool, rest)),
         [Token::Key(Key::Byte), rest @ ..] => Ok((Prim::Byte, rest)),
         [Token::Key(Key::Int), rest @ ..] => Ok((Prim::Int, rest)),
-        _ => Err(ParseFault::Unexpected { line }),
+        _ => Err(ParseFault::Unexpected(line, stop_of_type(wanted, tokens))),
     }
 }
 

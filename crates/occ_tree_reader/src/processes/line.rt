@@ -8,7 +8,7 @@ ghost use Rattle.occ_tree_grammar.specs.Processes.Reading.{at_level, at_decl, li
 
 use crate::read_decl::begins_declaration;
 use occ_text::{Key, Line, Sym, Token};
-use occ_tree_grammar::ParseFault;
+use occ_tree_grammar::{ParseFault, Stop, Wanted};
 
 /// The lines, where the first is at this level.
 pub fn lines_at(level: u32, lines: &[Line]) -> Option<&[Line]>
@@ -42,9 +42,25 @@ pub fn line_of(last: u32, level: u32, lines: &[Line]) -> Result<(&Line, &[Line])
         (λ l. (l.now.number, words l.now.words.items)) result (line_at level) lines.now }
 {
     match lines {
-        [] => Err(ParseFault::Missing { line: last }),
+        [] => Err(ParseFault::Missing(last, level)),
         [first, rest @ ..] if first.level == level => Ok((first, rest)),
-        [first, ..] => Err(ParseFault::Level { line: first.number }),
+        [first, ..] => Err(ParseFault::Level(first.number, level)),
+    }
+}
+
+/// Where a line that has to be `CASE` alone leaves the grammar.
+fn stop_of_case(tokens: &[Token]) -> Stop {
+    match tokens {
+        [Token::Key(Key::Case), rest @ ..] => Stop::before(rest, Wanted::End),
+        _ => Stop::before(tokens, Wanted::Begin),
+    }
+}
+
+/// Where a line that has to be a colon alone leaves the grammar.
+fn stop_of_colon(tokens: &[Token]) -> Stop {
+    match tokens {
+        [Token::Sym(Sym::Colon), rest @ ..] => Stop::before(rest, Wanted::End),
+        _ => Stop::before(tokens, Wanted::LastColon),
     }
 }
 
@@ -53,7 +69,7 @@ fn only_case(line: u32, tokens: &[Token]) -> Result<(), ParseFault>
 {
     match tokens {
         [Token::Key(Key::Case)] => Ok(()),
-        _ => Err(ParseFault::Unexpected { line }),
+        _ => Err(ParseFault::Unexpected(line, stop_of_case(tokens))),
     }
 }
 
@@ -62,7 +78,7 @@ fn only_colon(line: u32, tokens: &[Token]) -> Result<(), ParseFault>
 {
     match tokens {
         [Token::Sym(Sym::Colon)] => Ok(()),
-        _ => Err(ParseFault::Unexpected { line }),
+        _ => Err(ParseFault::Unexpected(line, stop_of_colon(tokens))),
     }
 }
 
@@ -89,7 +105,9 @@ pub fn end_line(last: u32, level: u32, lines: &[Line]) -> Result<(u32, &[Line]),
 /// Why no line may stand at this level, where no more levels may be open.
 pub fn too_deep(last: u32, level: u32, lines: &[Line]) -> ParseFault {
     match line_of(last, level, lines) {
-        Ok((first, _)) => ParseFault::TooDeep { line: first.number },
+        Ok((first, _)) => {
+            ParseFault::TooDeep(first.number, Stop::before(&first.words, Wanted::Begin))
+        }
         Err(fault) => fault,
     }
 }
