@@ -69,8 +69,8 @@ settle_offer-requires c =
     let mid = mid_behind p kb c.compiled.ensures bytes n place number after r.behind.last s r.behind.turn n tasks s.net s.holds refl refl refl refl refl refl refl refl in
     (p, record { keyboard = kb; after = after; net = s.net; mid = mid; waits = waits })
 
-pub settle_offer-in-OffersOne-requires : goal.settle_offer-in-OffersOne-requires
-settle_offer-in-OffersOne-requires c =
+pub settle_offer-requires-in-OffersOne : goal.settle_offer-requires-in-OffersOne
+settle_offer-requires-in-OffersOne c =
     let p = c.args.code.now in
     let kb = c.args.keyboard.now in
     let n = c.args.self.now in
