@@ -25,7 +25,6 @@ use Rattle.occ_net_tables.specs.Ready.{put_in}
 use Rattle.occ_net_tables.specs.Keys.{set_all}
 use Rattle.occ_term.specs.declared.fault.Fault.{Fault}
 use Rattle.occ_net_tables.specs.Room.{first_frame, first_frames}
-use Rattle.occ_term.specs.Messages.{message}
 
 -- a turn of the network: whatever state it held, it holds the next one
 pub record TurnsTo (p : Program) (keyboard : List ℕ) (choice : Choice) (net : Net) (new : Tables) : Type 0 where

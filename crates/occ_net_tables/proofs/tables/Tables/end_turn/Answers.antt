@@ -1,5 +1,4 @@
 use Rattle.std.proofs.Common.{◌≡◌, ◌∙◌, ap, arith, of_z, refl, rules, subst, sym, to_z, w64}
-use Rattle.occ_term.specs.Messages.{message}
 use Rattle.occ_machine.specs.SameStop.{ready_with}
 use Rattle.occ_machine.specs.declared.task.Task.{Task}
 use Rattle.occ_machine.specs.declared.task.Wait.TheVariants as W
