@@ -1,6 +1,6 @@
 -- A turn that has come to its stop, before anything happens behind it; and whether it looks past the keyboard's bytes.
 -- Manual: nothing; this is (own).
-use Rattle.std.specs.Prelude.{IsTrue, List, Some, [], length, slice_set, ℕ, ◌%◌, ◌≡◌}
+use Rattle.std.specs.Prelude.{IsTrue, List, Some, length, slice_set, ℕ, ◌%◌, ◌≡◌}
 use Rattle.occ_machine.specs.Compiled.{Program}
 use Rattle.occ_machine.specs.SameStop.{ready_with}
 use Rattle.occ_machine.specs.declared.task.Task.{Task}

@@ -25,10 +25,6 @@ use Rattle.occ_net_tables.specs.Ready.{put_in}
 use Rattle.occ_net_tables.specs.Keys.{set_all}
 use Rattle.occ_term.specs.declared.fault.Fault.{Fault}
 use Rattle.occ_net_tables.specs.Room.{first_frame, first_frames}
-use Rattle.occ_term.specs.Messages.{message}
-use Rattle.occ_proc.specs.declared.scratch.Scratch.{Scratch}
-use Rattle.occ_term.specs.declared.primitive.Primitive.{Primitive}
-use Rattle.occ_proc.specs.Turns.{left_message, one_message}
 
 -- a turn of the network: whatever state it held, it holds the next one
 pub record TurnsTo (p : Program) (keyboard : List ℕ) (choice : Choice) (net : Net) (new : Tables) : Type 0 where
@@ -358,19 +354,3 @@ TookOffer old number giver chan a new =
 -- the first fault, where one more is noted
 abbrev pub NotesFirst : Option Fault → Fault → Option Fault → Type 0
 NotesFirst noted fault first = (faults : List Fault) → noted ≡ first_noted faults → first ≡ first_noted (faults ++ fault ∷ [])
-
--- the offer of the items that a turn has left
-abbrev pub offer_left : ℕ → Option ℕ → Scratch → Wait
-offer_left chan tag scratch = Offers chan (message tag (left_message scratch))
-
--- the offer of a message of one value, with no tag
-abbrev pub offer_one : ℕ → Primitive → ℤ → Wait
-offer_one chan type v = Offers chan (one_message type v)
-
--- an end that always takes what is offered took it
-abbrev pub ShowsOne : Tables → (number : ℕ) → End → (chan : ℕ) → Primitive → ℤ → Tables → Type 0
-ShowsOne old number receiver chan type v new = new ≡ with_noted old (communicated chan (Process number) receiver (one_message type v))
-
--- it went to a process that waited for it, whatever the pick
-abbrev pub GaveOne : Tables → (number taker chan : ℕ) → Primitive → ℤ → Tables → Type 0
-GaveOne old number taker chan type v new = (pick : ℕ) → GaveTo old number taker chan pick (one_message type v) new

@@ -1,10 +1,9 @@
 //! The ends of a channel: who always takes what is offered there, what is offered, and what a process stands at that took it.
-ghost use Rattle.std.specs.Prelude.{◌≡◌, ◌<◌, IfOk, IfSome, Some, length, slice_get, ℕ};
+ghost use Rattle.std.specs.Prelude.{◌≡◌, ◌<◌, IfOk, Some, length, slice_get, ℕ};
 ghost use Rattle.occ_net_replay.specs.Replay.{byte_message};
 ghost use Rattle.occ_net_tables.specs.Choosing.{input_arm, keyboard_at};
 ghost use Rattle.occ_net_tables.specs.Settling.{IsOffering, byte_on, outer_taker};
 ghost use Rattle.occ_net_tables.specs.Tasks.{IsOffered};
-ghost use Rattle.occ_proc.specs.Turns.{one_message};
 
 use occ_machine::{Arm, Indices, Task, Wait};
 use occ_term::{ERROR, End, KEYBOARD, Message, Part, Parts, Primitive, SCREEN};
@@ -67,19 +66,6 @@ pub(crate) fn offered(tasks: &[Option<Task>], giver: u32) -> &Message
             _ => unreachable!(),
         },
         None => unreachable!(),
-    }
-}
-
-/// The value that the process offers, where its message is one value with no tag.
-#[inline(always)]
-pub(crate) fn offered_one(tasks: &[Option<Task>], giver: u32) -> Option<(Primitive, i64)>
-    requires { (chan : ℕ) × IsOffering tasks.now giver chan }
-    ensures { IfSome result (λ one. IsOffered tasks.now giver (one_message one.0 one.1)) }
-{
-    let message = offered(tasks, giver);
-    match (message.tag, message.items.as_slice()) {
-        (None, [Part::One(primitive, value)]) => Some((*primitive, *value)),
-        _ => None,
     }
 }
 

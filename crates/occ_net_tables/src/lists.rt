@@ -89,25 +89,6 @@ impl Lists {
         self.push_parts(head, parts)
     }
 
-    /// The same of a communication of a single value.
-    #[inline(always)]
-    pub(crate) fn push_one(
-        &mut self,
-        head: Head,
-        primitive: Primitive,
-        value: i64,
-    ) -> Result<(), AllocError>
-        ensures pushed { OnOk result
-            (Appends self.old head (Part.One primitive value ∷ []) self.new) }
-        ensures same { OnErr result (HoldSame self.old self.new) }
-    {
-        if self.has_room_for_value() {
-            self.put_value(head, primitive, value);
-            return Ok(());
-        }
-        self.push_parts(head, &[Part::One(primitive, value)])
-    }
-
     /// The same, whatever the items are.
     #[inline(never)]
     fn push_parts(&mut self, head: Head, parts: &[Part]) -> Result<(), AllocError>

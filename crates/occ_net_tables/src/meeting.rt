@@ -1,7 +1,6 @@
 //! Offers and inputs: the two ends of a channel meet, or one waits for the other.
 ghost use Rattle.std.specs.Prelude.{◌≡◌, ◌≢◌, ◌+◌, ◌<◌, ◌^◌, [], IfErr, None, OnErr, OnOk, Option, Some, remove, vec_capacity, vec_len, ℕ};
 ghost use Rattle.occ_term.specs.declared.fault.Fault.{Fault};
-ghost use Rattle.occ_proc.specs.Turns.{one_message};
 ghost use Rattle.occ_machine.specs.SameStop.{IsRising};
 ghost use Rattle.occ_machine.specs.declared.task.Arm.{Arm};
 ghost use Rattle.occ_machine.specs.declared.task.Task.{Task};
@@ -9,12 +8,11 @@ ghost use Rattle.occ_net_tables.specs.Choosing.{input_arm};
 ghost use Rattle.occ_net_tables.specs.Keys.{entry_in};
 ghost use Rattle.occ_net_tables.specs.Light.{StandsLight};
 ghost use Rattle.occ_net_tables.specs.Room.{HasRoom};
-ghost use Rattle.occ_net_tables.specs.Settling.{GaveOne, HandsTo, HasSomeMid, IsAwaiting, IsOffering, IsTaking, IsTakingBy, LeavesChannels, NotesFirst, SettlesAnyhow, SettlesBy, SettlesOn, SettlesWith, ShowsOne, TookByte, TookOffer, offer_one, outer_taker};
-ghost use Rattle.occ_net_tables.specs.Tasks.{IsOffered, WaitSet};
+ghost use Rattle.occ_net_tables.specs.Settling.{HandsTo, HasSomeMid, IsAwaiting, IsOffering, IsTaking, IsTakingBy, LeavesChannels, NotesFirst, SettlesAnyhow, SettlesBy, SettlesOn, SettlesWith, TookByte, TookOffer, outer_taker};
+ghost use Rattle.occ_net_tables.specs.Tasks.{WaitSet};
 
 use crate::channel_ends::{
-    copied_arm, input_arm, keyboard_channel, next_byte, offered, offered_one, one_byte, reader,
-    took,
+    copied_arm, input_arm, keyboard_channel, next_byte, offered, one_byte, reader, took,
 };
 use crate::choosing::{choose_arm, set_arms};
 use crate::entries::{entry, set_entry};
@@ -22,8 +20,7 @@ use crate::ready::{insert, take_out};
 use crate::tables::Tables;
 use crate::tasks::{awaited, set_wait, take_offered, take_wait};
 use occ_machine::{Arm, Task, Wait};
-use occ_proc::one_message;
-use occ_term::{End, Fault, KEYBOARD, Message, Primitive};
+use occ_term::{End, Fault, KEYBOARD, Message};
 use sqlite_items::Items;
 use std::alloc::{AllocError, Global};
 
@@ -96,6 +93,7 @@ impl Tables {
     }
 
     /// The message goes to a process that waits for one on this channel, and which may go on.
+    #[inline(always)]
     fn hand_over(&mut self, taker: u32, chan: u32, message: Message, pick: u32)
         requires takes { IsTaking self.old.tasks.items taker chan pick }
         requires rising { IsRising self.old.ready.items }
@@ -162,54 +160,6 @@ impl Tables {
         ensures ok { OnOk result (TookOffer self.old number giver chan arm self.new) }
         ensures err { OnErr result (self.new ≡ self.old) }
     {
-        match offered_one(&self.tasks, giver) {
-            Some((primitive, value)) => self.take_one(number, giver, chan, arm, primitive, value),
-            None => self.take_whole(number, giver, chan, arm),
-        }
-    }
-
-    /// The same where that message is one value, with no tag.
-    #[inline(always)]
-    fn take_one(
-        &mut self,
-        number: u32,
-        giver: u32,
-        chan: u32,
-        arm: Arm,
-        primitive: Primitive,
-        value: i64,
-    ) -> Result<(), AllocError>
-        requires there { StandsLight self.old.tasks.items number }
-        requires offers { IsOffering self.old.tasks.items giver chan }
-        requires one { IsOffered self.old.tasks.items giver (one_message primitive value) }
-        requires apart { number ≢ giver }
-        requires rising { IsRising self.old.ready.items }
-        requires room { HasRoom self.old 1 }
-        ensures ok { OnOk result (TookOffer self.old number giver chan arm self.new) }
-        ensures err { OnErr result (self.new ≡ self.old) }
-    {
-        let (sender, receiver) = (End::Process(giver), End::Process(number));
-        self.trace
-            .push_one(chan, sender, receiver, primitive, value)?;
-        let _offered = take_offered(&mut self.tasks, giver);
-        set_entry(&mut self.offering, chan, None);
-        let message = one_message(primitive, value);
-        set_wait(&mut self.tasks, number, took(arm, Some(message)));
-        insert(&mut self.ready, giver);
-        Ok(())
-    }
-
-    /// The same of any message.
-    #[inline(never)]
-    fn take_whole(&mut self, number: u32, giver: u32, chan: u32, arm: Arm) -> Result<(), AllocError>
-        requires there { StandsLight self.old.tasks.items number }
-        requires offers { IsOffering self.old.tasks.items giver chan }
-        requires apart { number ≢ giver }
-        requires rising { IsRising self.old.ready.items }
-        requires room { HasRoom self.old 1 }
-        ensures ok { OnOk result (TookOffer self.old number giver chan arm self.new) }
-        ensures err { OnErr result (self.new ≡ self.old) }
-    {
         let (sender, receiver) = (End::Process(giver), End::Process(number));
         self.trace
             .push(chan, sender, receiver, offered(&self.tasks, giver))?;
@@ -221,6 +171,7 @@ impl Tables {
     }
 
     /// What the process offers is taken, or it waits until it is.
+    #[inline(always)]
     pub(crate) fn offer(
         &mut self,
         place: usize,
@@ -255,7 +206,7 @@ impl Tables {
     }
 
     /// The same where nothing is handed back: after a refused growth the network is not to be used.
-    #[inline(never)]
+    #[inline(always)]
     pub(crate) fn offer_made(
         &mut self,
         place: usize,
@@ -273,77 +224,6 @@ impl Tables {
             Ok(()) => Ok(()),
             Err((_, refused)) => Err(refused),
         }
-    }
-
-    /// The same of a message of one value, with no tag.
-    #[inline(always)]
-    pub(crate) fn offer_one(
-        &mut self,
-        place: usize,
-        number: u32,
-        chan: u32,
-        primitive: Primitive,
-        value: i64,
-        pick: u32,
-    ) -> Result<(), AllocError>
-        requires mid { HasSomeMid self.old number place (offer_one chan primitive value) }
-        requires room { HasRoom self.old 1 }
-        ensures { OnOk result
-            (SettlesBy pick number place (offer_one chan primitive value) self.old self.new) }
-    {
-        if let Some(receiver) = reader(chan) {
-            return self.show_one(number, receiver, chan, primitive, value);
-        }
-        let Some(taker) = entry(&self.awaiting, chan) else {
-            self.keep_offering(place, number, chan, one_message(primitive, value));
-            return Ok(());
-        };
-        let Some(_own) = awaited(&self.tasks, taker) else {
-            return self.offer_made(place, number, chan, one_message(primitive, value), pick);
-        };
-        self.give_one(number, taker, chan, primitive, value)
-    }
-
-    /// One value goes to an end that always takes it.
-    #[inline(never)]
-    fn show_one(
-        &mut self,
-        number: u32,
-        receiver: End,
-        chan: u32,
-        primitive: Primitive,
-        value: i64,
-    ) -> Result<(), AllocError>
-        ensures { OnOk result (ShowsOne self.old number receiver chan primitive value self.new) }
-    {
-        let sender = End::Process(number);
-        self.trace
-            .push_one(chan, sender, receiver, primitive, value)?;
-        Ok(())
-    }
-
-    /// One value goes to a process that awaits a message on this channel alone. It does so too where its communication can't be
-    /// noted: after a refused growth the network is not to be used.
-    #[inline(always)]
-    fn give_one(
-        &mut self,
-        number: u32,
-        taker: u32,
-        chan: u32,
-        primitive: Primitive,
-        value: i64,
-    ) -> Result<(), AllocError>
-        requires awaits { IsAwaiting self.old.tasks.items taker chan }
-        requires rising { IsRising self.old.ready.items }
-        requires room { HasRoom self.old 1 }
-        ensures { OnOk result (GaveOne self.old number taker chan primitive value self.new) }
-    {
-        let (sender, receiver) = (End::Process(number), End::Process(taker));
-        let noted = self
-            .trace
-            .push_one(chan, sender, receiver, primitive, value);
-        self.hand_to_input(taker, chan, one_message(primitive, value));
-        noted
     }
 
     /// The process takes a message that is there, or it waits for one.

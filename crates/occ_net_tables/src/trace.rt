@@ -1,7 +1,6 @@
 //! The trace of a run.
 ghost use Rattle.std.specs.Prelude.{◌≡◌, ◌↔◌, ◌<◌, ◌^◌, [], IfOk, IsTrue, List, OnErr, OnOk, length};
 ghost use Rattle.occ_term.specs.declared.communication.Communication.{Communication};
-ghost use Rattle.occ_proc.specs.Turns.{one_message};
 ghost use Rattle.occ_net_tables.specs.TracePlaces.{StandBehind, place_behind};
 ghost use Rattle.occ_net_tables.specs.Views.{Pushes};
 
@@ -10,7 +9,7 @@ use crate::news::{Mark, News};
 use crate::pieces::Pieces;
 use crate::shapes::Head;
 use crate::trace_entries::Entries;
-use occ_term::{End, Message, Primitive};
+use occ_term::{End, Message};
 use std::alloc::{AllocError, Global};
 use std::marker::Model;
 
@@ -141,34 +140,6 @@ impl Trace {
             tag: message.tag,
         };
         self.lists.push(head, message.items.as_slice())?;
-        Ok(())
-    }
-
-    /// The same of a message of one value, with no tag.
-    ///
-    /// # Errors
-    ///
-    /// A refused growth.
-    #[inline(always)]
-    pub fn push_one(
-        &mut self,
-        chan: u32,
-        sender: End,
-        receiver: End,
-        primitive: Primitive,
-        value: i64,
-    ) -> Result<(), AllocError>
-        ensures pushed { OnOk result
-            (Pushes self.old chan sender receiver (one_message primitive value) self.new) }
-        ensures same { OnErr result (self.new ≡ self.old) }
-    {
-        let head = Head {
-            chan,
-            sender,
-            receiver,
-            tag: None,
-        };
-        self.lists.push_one(head, primitive, value)?;
         Ok(())
     }
 }

@@ -4,7 +4,7 @@ ghost use Rattle.occ_choices.specs.Plans.{choices_of};
 ghost use Rattle.occ_net_tables.specs.Halves.{BeginsTurn, CanBegin, IsBegun, SettlesBegun};
 ghost use Rattle.occ_net_tables.specs.Endings.{GoesOn};
 ghost use Rattle.occ_net_tables.specs.Rows.{StandsAlone};
-ghost use Rattle.occ_net_tables.specs.Settling.{HasSomeMid, HasStopped, SettlesBy, SettlesOn, SettlesWait, Standing, TakesTurn, offer_left, offer_one};
+ghost use Rattle.occ_net_tables.specs.Settling.{HasSomeMid, HasStopped, SettlesBy, SettlesOn, SettlesWait, Standing, TakesTurn};
 ghost use Rattle.occ_net_tables.specs.Turning.{TakesRowOf};
 
 use crate::ready::place_among;
@@ -13,8 +13,8 @@ use crate::tasks::{advance_task, advance_task_row, take_wait};
 use occ_choices::Plan;
 use occ_machine::{Code, Wait};
 use occ_net_replay::Choice;
-use occ_proc::{Scratch, TurnEnd};
-use occ_term::Primitive;
+use occ_proc::{Scratch, TurnEnd, one_message};
+use occ_term::Message;
 use std::alloc::{AllocError, Global};
 
 /// A turn that has come to its stop, before anything happens behind it.
@@ -134,11 +134,13 @@ impl Tables {
         match end {
             TurnEnd::Ready => Ok(true),
             TurnEnd::Offers(tag, chan) => {
-                self.settle_offer(scratch, place, number, chan, tag, pick)?;
+                let message = scratch.take_message(tag);
+                self.settle_offer(place, number, chan, message, pick)?;
                 Ok(self.several_ready())
             }
             TurnEnd::OffersOne(primitive, value, chan) => {
-                self.settle_one(place, number, chan, primitive, value, pick)?;
+                let message = one_message(primitive, value);
+                self.settle_offer(place, number, chan, message, pick)?;
                 Ok(self.several_ready())
             }
             TurnEnd::Awaits(chan) => {
@@ -160,44 +162,22 @@ impl Tables {
         self.ready.len() > 1
     }
 
-    /// What happens at once where a process offers the message that its turn left, with this tag where it has one.
+    /// What happens at once where a process offers this message after its turn.
     #[inline(never)]
     fn settle_offer(
         &mut self,
-        scratch: &mut Scratch,
         place: usize,
         number: u32,
         chan: u32,
-        tag: Option<u32>,
+        message: Message,
         pick: u32,
     ) -> Result<(), AllocError>
-        requires { HasSomeMid self.old number place (offer_left chan tag scratch.old) }
+        requires { HasSomeMid self.old number place (Wait.Offers chan message) }
         ensures { OnOk result
-            (SettlesBy pick number place (offer_left chan tag scratch.old) self.old self.new) }
+            (SettlesBy pick number place (Wait.Offers chan message) self.old self.new) }
     {
         self.make_room(1)?;
-        let message = scratch.take_message(tag);
         self.offer_made(place, number, chan, message, pick)?;
-        Ok(())
-    }
-
-    /// What happens at once where a process offers a message of one value, with no tag.
-    #[inline(never)]
-    fn settle_one(
-        &mut self,
-        place: usize,
-        number: u32,
-        chan: u32,
-        primitive: Primitive,
-        value: i64,
-        pick: u32,
-    ) -> Result<(), AllocError>
-        requires { HasSomeMid self.old number place (offer_one chan primitive value) }
-        ensures { OnOk result
-            (SettlesBy pick number place (offer_one chan primitive value) self.old self.new) }
-    {
-        self.make_room(1)?;
-        self.offer_one(place, number, chan, primitive, value, pick)?;
         Ok(())
     }
 

@@ -1,5 +1,4 @@
 use Rattle.std.proofs.Common.{◌≡◌, ◌∙◌, ap, arith, of_z, refl, rules, subst, sym, to_z, w64}
-use Rattle.occ_term.specs.Messages.{message}
 use Rattle.occ_machine.specs.SameStop.{ready_with}
 use Rattle.occ_machine.specs.declared.task.Task.{Task}
 use Rattle.occ_machine.specs.declared.task.Wait.TheVariants as W
@@ -62,15 +61,15 @@ settle_offer-requires c =
     let bytes = are_bytes kb (λ k. (c.type_inv.keyboard k).fits) in
     let r = c.requires in
     let after : Task = ready_with r.left (standing_at c.args.begun.end items r.left.wait) in
-    let waits : after.wait ≡ W.Offers c.in-Offers.chan (message c.in-Offers.tag items) = ap (λ e. standing_at e items r.left.wait) c.in-Offers.is in
+    let waits : after.wait ≡ W.Offers c.in-Offers.chan c.take_message-message.result = ap (λ e. standing_at e items r.left.wait) c.in-Offers.is ∙ ap (λ m. W.Offers c.in-Offers.chan m) (sym c.take_message-message.ensures) in
     let ready : r.left.wait ≡ W.Ready = subst (λ e. IsLeftReady e r.left.wait) c.in-Offers.is r.ready in
     let tasks = tasks_left n number r.left r.there ready (standing_at c.args.begun.end items r.left.wait) in
     let s = r.behind.standing in
     let mid = mid_behind p kb c.compiled.ensures bytes n place number after r.behind.last s r.behind.turn n tasks s.net s.holds refl refl refl refl refl refl refl refl in
     (p, record { keyboard = kb; after = after; net = s.net; mid = mid; waits = waits })
 
-pub settle_one-requires : goal.settle_one-requires
-settle_one-requires c =
+pub settle_offer-requires-in-OffersOne : goal.settle_offer-requires-in-OffersOne
+settle_offer-requires-in-OffersOne c =
     let p = c.args.code.now in
     let kb = c.args.keyboard.now in
     let n = c.args.self.now in
@@ -81,7 +80,7 @@ settle_one-requires c =
     let r = c.requires in
     let after : Task = ready_with r.left (standing_at c.args.begun.end items r.left.wait) in
     let held : to_z w64 (of_z w64 c.in-OffersOne.value) ≡ c.in-OffersOne.value = search rules in
-    let waits : after.wait ≡ W.Offers c.in-OffersOne.chan (one_message c.in-OffersOne.primitive (to_z w64 (of_z w64 c.in-OffersOne.value))) = ap (λ e. standing_at e items r.left.wait) c.in-OffersOne.is ∙ ap (λ v. W.Offers c.in-OffersOne.chan (one_message c.in-OffersOne.primitive v)) (sym held) in
+    let waits : after.wait ≡ W.Offers c.in-OffersOne.chan c.one_message-message.result = ap (λ e. standing_at e items r.left.wait) c.in-OffersOne.is ∙ ap (λ m. W.Offers c.in-OffersOne.chan m) (sym (c.one_message-message.ensures ∙ ap (one_message c.in-OffersOne.primitive) held)) in
     let ready : r.left.wait ≡ W.Ready = subst (λ e. IsLeftReady e r.left.wait) c.in-OffersOne.is r.ready in
     let tasks = tasks_left n number r.left r.there ready (standing_at c.args.begun.end items r.left.wait) in
     let s = r.behind.standing in
@@ -145,15 +144,15 @@ returns-in_ok-settle_offer-in-Offers-clause-turn c =
     λ left there last net choice s t h own pick.
     let same : r.left ≡ left = task_once n.tasks.items number r.there there in
     let after : Task = ready_with left (standing_at c.args.begun.end items left.wait) in
-    let waits : after.wait ≡ W.Offers c.in-Offers.chan (message c.in-Offers.tag items) = ap (λ e. standing_at e items left.wait) c.in-Offers.is in
+    let waits : after.wait ≡ W.Offers c.in-Offers.chan c.take_message-message.result = ap (λ e. standing_at e items left.wait) c.in-Offers.is ∙ ap (λ m. W.Offers c.in-Offers.chan m) (sym c.take_message-message.ensures) in
     let ready : left.wait ≡ W.Ready = subst (λ (z : Task). z.wait ≡ W.Ready) same (subst (λ e. IsLeftReady e r.left.wait) c.in-Offers.is r.ready) in
     let tasks = tasks_left n number left there ready (standing_at c.args.begun.end items left.wait) in
     let mid = mid_behind p kb c.compiled.ensures bytes n place number after last s t n tasks net h refl refl refl refl refl refl refl refl in
     turns_behind p kb c.compiled.ensures bytes n place number after last s t n tasks net h choice (own_place n place number choice.which t.at own) _
     (subst (λ k. SettlesTo p kb k number after net c.settle_offer.new.self) pick (c.in_ok-settle_offer-in-Offers.ensures p kb after net mid waits))
 
-pub returns-in_ok-settle_one-in-OffersOne-clause-turn : goal.returns-in_ok-settle_one-in-OffersOne-clause-turn
-returns-in_ok-settle_one-in-OffersOne-clause-turn c =
+pub returns-in_ok-settle_offer-in-OffersOne-clause-turn : goal.returns-in_ok-settle_offer-in-OffersOne-clause-turn
+returns-in_ok-settle_offer-in-OffersOne-clause-turn c =
     let p = c.args.code.now in
     let kb = c.args.keyboard.now in
     let n = c.args.self.now in
@@ -166,12 +165,12 @@ returns-in_ok-settle_one-in-OffersOne-clause-turn c =
     let same : r.left ≡ left = task_once n.tasks.items number r.there there in
     let after : Task = ready_with left (standing_at c.args.begun.end items left.wait) in
     let held : to_z w64 (of_z w64 c.in-OffersOne.value) ≡ c.in-OffersOne.value = search rules in
-    let waits : after.wait ≡ W.Offers c.in-OffersOne.chan (one_message c.in-OffersOne.primitive (to_z w64 (of_z w64 c.in-OffersOne.value))) = ap (λ e. standing_at e items left.wait) c.in-OffersOne.is ∙ ap (λ v. W.Offers c.in-OffersOne.chan (one_message c.in-OffersOne.primitive v)) (sym held) in
+    let waits : after.wait ≡ W.Offers c.in-OffersOne.chan c.one_message-message.result = ap (λ e. standing_at e items left.wait) c.in-OffersOne.is ∙ ap (λ m. W.Offers c.in-OffersOne.chan m) (sym (c.one_message-message.ensures ∙ ap (one_message c.in-OffersOne.primitive) held)) in
     let ready : left.wait ≡ W.Ready = subst (λ (z : Task). z.wait ≡ W.Ready) same (subst (λ e. IsLeftReady e r.left.wait) c.in-OffersOne.is r.ready) in
     let tasks = tasks_left n number left there ready (standing_at c.args.begun.end items left.wait) in
     let mid = mid_behind p kb c.compiled.ensures bytes n place number after last s t n tasks net h refl refl refl refl refl refl refl refl in
     turns_behind p kb c.compiled.ensures bytes n place number after last s t n tasks net h choice (own_place n place number choice.which t.at own) _
-    (subst (λ k. SettlesTo p kb k number after net c.settle_one.new.self) pick (c.in_ok-settle_one-in-OffersOne.ensures p kb after net mid waits))
+    (subst (λ k. SettlesTo p kb k number after net c.settle_offer-in-OffersOne.new.self) pick (c.in_ok-settle_offer-in-OffersOne.ensures p kb after net mid waits))
 
 pub returns-in_ok-settle_offer-in-Offers-clause-going : goal.returns-in_ok-settle_offer-in-Offers-clause-going
 returns-in_ok-settle_offer-in-Offers-clause-going c =
@@ -184,7 +183,7 @@ returns-in_ok-settle_offer-in-Offers-clause-going c =
     let bytes = are_bytes kb (λ k. (c.type_inv.keyboard k).fits) in
     let r = c.requires in
     let after : Task = ready_with r.left (standing_at c.args.begun.end items r.left.wait) in
-    let waits : after.wait ≡ W.Offers c.in-Offers.chan (message c.in-Offers.tag items) = ap (λ e. standing_at e items r.left.wait) c.in-Offers.is in
+    let waits : after.wait ≡ W.Offers c.in-Offers.chan c.take_message-message.result = ap (λ e. standing_at e items r.left.wait) c.in-Offers.is ∙ ap (λ m. W.Offers c.in-Offers.chan m) (sym c.take_message-message.ensures) in
     let ready : r.left.wait ≡ W.Ready = subst (λ e. IsLeftReady e r.left.wait) c.in-Offers.is r.ready in
     let tasks = tasks_left n number r.left r.there ready (standing_at c.args.begun.end items r.left.wait) in
     let s = r.behind.standing in
@@ -193,8 +192,8 @@ returns-in_ok-settle_offer-in-Offers-clause-going c =
     let several = c.several_ready.ensures going in
     goes_where_some p kb (tables_with n number r.behind.last) s c.args.pick number mid.before after mid.has_task (ap is_done waits) (ap noted_at waits) (λ ns e. let q = sym waits ∙ e in cc) _ (c.in_ok-settle_offer-in-Offers.ensures p kb after s.net mid waits) (omega (arith, several))
 
-pub returns-in_ok-settle_one-in-OffersOne-clause-going : goal.returns-in_ok-settle_one-in-OffersOne-clause-going
-returns-in_ok-settle_one-in-OffersOne-clause-going c =
+pub returns-in_ok-settle_offer-in-OffersOne-clause-going : goal.returns-in_ok-settle_offer-in-OffersOne-clause-going
+returns-in_ok-settle_offer-in-OffersOne-clause-going c =
     let p = c.args.code.now in
     let kb = c.args.keyboard.now in
     let n = c.args.self.now in
@@ -205,14 +204,14 @@ returns-in_ok-settle_one-in-OffersOne-clause-going c =
     let r = c.requires in
     let after : Task = ready_with r.left (standing_at c.args.begun.end items r.left.wait) in
     let held : to_z w64 (of_z w64 c.in-OffersOne.value) ≡ c.in-OffersOne.value = search rules in
-    let waits : after.wait ≡ W.Offers c.in-OffersOne.chan (one_message c.in-OffersOne.primitive (to_z w64 (of_z w64 c.in-OffersOne.value))) = ap (λ e. standing_at e items r.left.wait) c.in-OffersOne.is ∙ ap (λ v. W.Offers c.in-OffersOne.chan (one_message c.in-OffersOne.primitive v)) (sym held) in
+    let waits : after.wait ≡ W.Offers c.in-OffersOne.chan c.one_message-message.result = ap (λ e. standing_at e items r.left.wait) c.in-OffersOne.is ∙ ap (λ m. W.Offers c.in-OffersOne.chan m) (sym (c.one_message-message.ensures ∙ ap (one_message c.in-OffersOne.primitive) held)) in
     let ready : r.left.wait ≡ W.Ready = subst (λ e. IsLeftReady e r.left.wait) c.in-OffersOne.is r.ready in
     let tasks = tasks_left n number r.left r.there ready (standing_at c.args.begun.end items r.left.wait) in
     let s = r.behind.standing in
     let mid = mid_behind p kb c.compiled.ensures bytes n place number after r.behind.last s r.behind.turn n tasks s.net s.holds refl refl refl refl refl refl refl refl in
     λ going.
     let several = c.several_ready-in-OffersOne.ensures going in
-    goes_where_some p kb (tables_with n number r.behind.last) s c.args.pick number mid.before after mid.has_task (ap is_done waits) (ap noted_at waits) (λ ns e. let q = sym waits ∙ e in cc) _ (c.in_ok-settle_one-in-OffersOne.ensures p kb after s.net mid waits) (omega (arith, several))
+    goes_where_some p kb (tables_with n number r.behind.last) s c.args.pick number mid.before after mid.has_task (ap is_done waits) (ap noted_at waits) (λ ns e. let q = sym waits ∙ e in cc) _ (c.in_ok-settle_offer-in-OffersOne.ensures p kb after s.net mid waits) (omega (arith, several))
 
 pub returns-in_ok-settle_input-in-Awaits-clause-turn : goal.returns-in_ok-settle_input-in-Awaits-clause-turn
 returns-in_ok-settle_input-in-Awaits-clause-turn c =

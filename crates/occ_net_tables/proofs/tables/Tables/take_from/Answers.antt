@@ -6,7 +6,7 @@ use Rattle.occ_net_replay.specs.Replay.{made_ready}
 use Rattle.occ_net_replay.proofs.Tables.{set_other}
 use Rattle.occ_term.specs.declared.communication.End.TheVariants.{Process}
 use Rattle.occ_net_tables.specs.Settling.{communicated}
-use Rattle.occ_net_tables.proofs.tables.Tables.take_whole.Goals as goal
+use Rattle.occ_net_tables.proofs.tables.Tables.take_from.Goals as goal
 
 pub set_wait-requires : goal.set_wait-requires
 set_wait-requires c =
