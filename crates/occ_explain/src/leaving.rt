@@ -25,13 +25,13 @@ pub(crate) struct Leaving {
 fn first_part(start: Start) -> Part {
     match start {
         Start::Top => ("top", "PROC, PROTOCOL or VAL"),
-        Start::Process => ("process", "a process or a declaration"),
+        Start::Process => ("", "a process or a declaration"),
         Start::Choice => ("choice", "a condition, a declaration or IF"),
         Start::Arm => ("arm", "a guard, a declaration or ALT"),
-        Start::Option => ("option", "a constant, ELSE or a declaration"),
-        Start::Variant => ("variant", "a tag or a declaration"),
-        Start::Cases => ("cases", "CASE"),
-        Start::Tag => ("tag", "a tag"),
+        Start::Option => ("", "a constant, ELSE or a declaration"),
+        Start::Variant => ("", "a tag or a declaration"),
+        Start::Cases => ("", "CASE"),
+        Start::Tag => ("", "a tag"),
     }
 }
 
