@@ -90,7 +90,7 @@ fn write_variable(
 }
 
 /// Whether a place is one of these.
-fn is_among(places: &[usize], place: usize) -> bool
+pub(crate) fn is_among(places: &[usize], place: usize) -> bool
     ensures { result ≡ is_among place places.now }
 {
     let mut rest = places;

@@ -5,12 +5,14 @@
 #![tactic(auto)]
 
 mod agreement;
+mod arms;
 pub mod calls;
 mod ended;
 mod faults;
 mod heads;
 mod kinds;
 mod marks;
+mod parts;
 mod past;
 pub mod places;
 pub mod placing;

@@ -1,14 +1,13 @@
 //! The lines of processes, in bytes.
-ghost use Rattle.std.specs.Prelude.{◌≡◌, OnOk, Some};
+ghost use Rattle.std.specs.Prelude.{◌≡◌, OnOk, Some, option_map, slice_get};
 ghost use Rattle.occ_shown.specs.Answers.{AddsText};
 ghost use Rattle.occ_report.specs.Reports.{standing_line, line_told, name_text, on_line, AddsCalls, AddsLine, AddsLines, AddsOnLine, AddsTaskLine, AddsTaskLines};
 
 use crate::calls::write_calls;
 use crate::faults::write_faulted;
-use crate::source_lines::written_at;
-use crate::standing::{Ends, standing, write_process};
+use crate::standing::{Ends, Spot, standing, write_process};
 use crate::{Places, Stop};
-use occ_machine::{Code, Task, Wait};
+use occ_machine::{Body, Code, Task, Wait};
 use occ_net_tables::Tables;
 use occ_term::{Channel, Unfolded};
 use std::alloc::{AllocError, Global};
@@ -111,25 +110,40 @@ fn write_standing(
     ensures { OnOk result
         (AddsLine channels.now ends.entry told.entry number wait.now stop out.old out.new) }
 {
-    let written = written_at(told.source, stop);
-    let text = standing(alloc, channels, ends, stop, written, wait)?;
+    let spot = Spot {
+        source: told.source,
+        stops: told.places.stops(number),
+        stop,
+    };
+    let text = standing(alloc, channels, ends, spot, wait)?;
     let name = told.places.name(number);
     write_on_line(alloc, out, number, name, standing_line(stop, wait), text)
+}
+
+/// The body of the process with this number.
+fn body_of(code: &Code, number: u32) -> Option<&Body>
+    ensures { option_map (λ b. b.now) result ≡ slice_get code.now.bodies number }
+{
+    match code.body(number as usize) {
+        Some(body) => Some(body),
+        None => None,
+    }
 }
 
 /// The calls within whose PROCs a process stands, of whose stop this is known.
 fn write_called(
     alloc: Global,
     out: &mut Vec<u8>,
-    places: &Places,
+    told: Told<'_>,
     number: u32,
     task: &Task,
     stop: Option<Stop>,
 ) -> Result<(), AllocError>
-    ensures { OnOk result (AddsCalls places.now number task.now stop out.old out.new) }
+    ensures { OnOk result (AddsCalls told.entry number task.now stop out.old out.new) }
 {
-    let (calls, stops) = (places.calls(number), places.stops(number));
-    write_calls(alloc, out, calls, stops, stop, &task.wait, task.pc)
+    let calls = told.places.calls(number);
+    let body = body_of(told.code, number);
+    write_calls(alloc, out, calls, body, stop, &task.wait, task.pc)
 }
 
 /// The line of a process, where it is left, and those below it.
@@ -148,7 +162,7 @@ fn write_task(
     let stop = told.places.stop(number, &task.wait, task.pc);
     write_standing(alloc, out, channels, ends, told, number, &task.wait, stop)?;
     write_faulted(alloc, out, told, number, task)?;
-    write_called(alloc, out, told.places, number, task, stop)
+    write_called(alloc, out, told, number, task, stop)
 }
 
 /// The lines of the process with this number, where it is left.
