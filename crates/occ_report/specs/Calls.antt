@@ -1,6 +1,7 @@
 -- The calls that led to where a process stands.
 -- Manual: nothing; this is (own).
-use Rattle.std.specs.Prelude.{Bool, List, None, Option, Some, [], codes, false, if◌then◌else◌, length, min, nat_le, slice_get, suc, take, true, zero, ℕ, ◌&&◌, ◌+◌, ◌++◌, ◌∷◌, ◌≡◌}
+use Rattle.std.specs.Borrow.{Bor}
+use Rattle.std.specs.Prelude.{Bool, List, None, Option, Some, [], codes, false, if◌then◌else◌, length, min, nat_le, option_map, slice_get, suc, take, true, zero, ℕ, ◌&&◌, ◌+◌, ◌++◌, ◌∷◌, ◌≡◌}
 use Rattle.std.specs.Fmt.{decimal}
 use Rattle.occ_machine.specs.Machine.{Body}
 use Rattle.occ_machine.specs.declared.instr.Instr.{Instr}
@@ -73,13 +74,13 @@ is_last (LoopBack back) = true
 is_last Halt = true
 is_last instruction = false
 
-abbrev pub parts_in : List (Instr ℕ) → ℕ
-parts_in [] = 0
-parts_in (i ∷ others) = (if is_last i then 1 else 0) + parts_in others
+abbrev pub parts_done : List (Instr ℕ) → ℕ
+parts_done [] = 0
+parts_done (i ∷ others) = (if is_last i then 1 else 0) + parts_done others
 
 -- how many parts the code has done before a place
 abbrev pub parts_before : Body → ℕ → ℕ
-parts_before b p = parts_in (take (min p (length b.code)) b.code)
+parts_before b p = parts_done (take (min p (length b.code)) b.code)
 
 -- whether the PROC of a call has this line, and something of its body may be evaluated where so many parts are done
 abbrev pub may_hold : (line done : ℕ) → Call → Bool
@@ -94,18 +95,18 @@ abbrev pub are_among : List ℕ → (all : List ℕ) → Bool
 are_among [] all = true
 are_among (n ∷ ns) all = is_among n all && are_among ns all
 
-abbrev pub last_or : ℕ → List ℕ → ℕ
-last_or n [] = n
-last_or n (m ∷ ms) = last_or m ms
+abbrev pub last_number : ℕ → List ℕ → ℕ
+last_number n [] = n
+last_number n (m ∷ ms) = last_number m ms
 
 -- the last one of these calls, where it stands within the PROCs of all others of them; else 0
-abbrev pub innermost : List Call → List ℕ → ℕ
-innermost calls ns = if are_among ns (outwards (length calls) calls (last_or 0 ns)) then last_or 0 ns else 0
+abbrev pub innermost_call : List Call → List ℕ → ℕ
+innermost_call calls ns = if are_among ns (outwards (length calls) calls (last_number 0 ns)) then last_number 0 ns else 0
 
 -- The innermost call whose PROC has a fault in this line, at this place of the code; 0 where there is none, or more than one may be meant.
 abbrev pub fault_call : List Call → Option Body → (place line : ℕ) → ℕ
 fault_call calls None p line = 0
-fault_call calls (Some b) p line = innermost calls (holders line (parts_before b p) 1 calls)
+fault_call calls (Some b) p line = innermost_call calls (holders line (parts_before b p) 1 calls)
 
 abbrev pub stop_call : Option Stop → ℕ
 stop_call None = 0
@@ -122,6 +123,9 @@ call_within calls body stop (Joins ns) p = stop_call stop
 call_within calls body stop Halted p = stop_call stop
 call_within calls body stop Done p = stop_call stop
 call_within calls body stop (Faulted e) p = fault_call calls body p e.line
+
+abbrev pub body_in : Option (Bor Body) → Option Body
+body_in body = option_map (λ b. b.now) body
 
 abbrev pub calls_text : List Call → Option Body → Option Stop → Wait → ℕ → List ℕ
 calls_text calls body stop w p = lines_of_calls calls (outwards (length calls) calls (call_within calls body stop w p))

@@ -214,6 +214,6 @@ stop_of all n w p = first_of w p (stops_of all n)
 abbrev pub is_arm_of : (alt : Stop) → ℕ → Stop → Bool
 is_arm_of alt n s = is_arm s.kind && nat_eq (s.place + n) (alt.place + 1)
 
-abbrev pub arm_at : List Stop → (alt : Stop) → ℕ → Option Stop
-arm_at [] alt n = None
-arm_at (s ∷ others) alt n = if is_arm_of alt n s then Some s else arm_at others alt n
+abbrev pub arm_opened : List Stop → (alt : Stop) → ℕ → Option Stop
+arm_opened [] alt n = None
+arm_opened (s ∷ others) alt n = if is_arm_of alt n s then Some s else arm_opened others alt n

@@ -33,7 +33,7 @@ use Rattle.occ_report.specs.declared.stop.Stop.{Stop}
 use Rattle.occ_report.specs.Calls.{calls_text}
 use Rattle.occ_report.specs.Faults.{fault_told, variables_text}
 use Rattle.occ_term.specs.Frames.{Variables}
-use Rattle.occ_report.specs.Places.{Known, arm_at, calls_of, name_of, stop_of, stops_of}
+use Rattle.occ_report.specs.Places.{Known, arm_opened, calls_of, name_of, stop_of, stops_of}
 use Rattle.occ_report.specs.Written.{channel_told, written_at, written_in_arm}
 use Rattle.occ_term.specs.UnfoldedProgram.{UnfoldedProgram}
 use Rattle.occ_term.specs.declared.names.Cell.{Cell}
@@ -72,7 +72,7 @@ awaited_text names writers written c = codes "awaits " ++ channel_told names wri
 -- where the arm of this number of the ALT is opened that a process stands at, where that is known
 abbrev pub arm_stop : List Stop → Option Stop → ℕ → Option Stop
 arm_stop stops None n = None
-arm_stop stops (Some alt) n = arm_at stops alt n
+arm_stop stops (Some alt) n = arm_opened stops alt n
 
 -- an arm with SKIP has no channel
 abbrev pub arm_channel_text : Names → (writers : Noted) → (written : List ℕ) → Option ℕ → List ℕ

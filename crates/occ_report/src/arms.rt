@@ -6,7 +6,7 @@ ghost use Rattle.occ_report.specs.Reports.{AddsArm, AddsArms, AddsChoice, arm_st
 use crate::Stop;
 use crate::source_lines::written_in_arm;
 use crate::standing::{Spot, write_awaited};
-use crate::stop::arm_at;
+use crate::stop::arm_opened;
 use occ_machine::Arm;
 use occ_term::Channel;
 use std::alloc::{AllocError, Global};
@@ -16,7 +16,7 @@ fn arm_stop(stops: &[Stop], stop: Option<Stop>, number: u32) -> Option<Stop>
     ensures { result ≡ arm_stop stops.now stop number }
 {
     match stop {
-        Some(alt) => arm_at(stops, &alt, number),
+        Some(alt) => arm_opened(stops, &alt, number),
         None => None,
     }
 }

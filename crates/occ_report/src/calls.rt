@@ -1,9 +1,9 @@
 //! The calls that led to where a process stands.
-ghost use Rattle.std.specs.Prelude.{◌≡◌, ◌≤◌, IfOk, OnOk, length, option_map};
+ghost use Rattle.std.specs.Prelude.{◌≡◌, ◌≤◌, IfOk, OnOk, length};
 ghost use Rattle.std.specs.List.{All};
 ghost use Rattle.occ_text.specs.Words.{logical_lines};
 ghost use Rattle.occ_shown.specs.Answers.{AddsText};
-ghost use Rattle.occ_report.specs.Calls.{IsCallIn, are_among, call_at, call_text, call_within, calls_text, fault_call, holders, innermost, is_last, last_or, lines_of_calls, may_hold, outwards, parts_before, parts_in, text_of_call};
+ghost use Rattle.occ_report.specs.Calls.{IsCallIn, are_among, body_in, call_at, call_text, call_within, calls_text, fault_call, holders, innermost_call, is_last, last_number, lines_of_calls, may_hold, outwards, parts_before, parts_done, text_of_call};
 
 use crate::faults::is_among;
 use crate::scope::Procedure;
@@ -163,8 +163,8 @@ fn is_last(instruction: &Instr<Slot>) -> bool
 }
 
 /// How many parts are done in a code.
-pub(crate) fn parts_in(code: &[Instr<Slot>]) -> usize
-    ensures is { result ≡ parts_in code.now }
+pub(crate) fn parts_done(code: &[Instr<Slot>]) -> usize
+    ensures is { result ≡ parts_done code.now }
     ensures within { result ≤ length code.now }
 {
     let mut count = 0;
@@ -184,7 +184,7 @@ fn parts_before(body: &Body, place: u32) -> usize
 {
     let code = body.code();
     let place = (place as usize).min(code.len());
-    parts_in(&code[..place])
+    parts_done(&code[..place])
 }
 
 /// Whether the PROC of a call has this line, and something of its body may be evaluated where so many parts are done.
@@ -248,7 +248,7 @@ fn are_among(numbers: &[usize], all: &[usize]) -> bool
 
 /// The last one of these numbers; 0 where there is none.
 fn last_of(numbers: &[usize]) -> usize
-    ensures { result ≡ last_or 0 numbers.now }
+    ensures { result ≡ last_number 0 numbers.now }
 {
     let mut last = 0;
     let mut rest = numbers;
@@ -260,8 +260,8 @@ fn last_of(numbers: &[usize]) -> usize
 }
 
 /// The last one of these calls, where it stands within the PROCs of all others of them; else 0.
-fn innermost(alloc: Global, calls: &[Call], numbers: &[usize]) -> Result<usize, AllocError>
-    ensures { IfOk result (λ n. n ≡ innermost calls.now numbers.now) }
+fn innermost_call(alloc: Global, calls: &[Call], numbers: &[usize]) -> Result<usize, AllocError>
+    ensures { IfOk result (λ n. n ≡ innermost_call calls.now numbers.now) }
 {
     let last = last_of(numbers);
     let all = outwards(alloc, calls, last)?;
@@ -281,13 +281,13 @@ fn fault_call(
     line: u32,
 ) -> Result<usize, AllocError>
     ensures { IfOk result
-        (λ n. n ≡ fault_call calls.now (option_map (λ b. b.now) body) place line) }
+        (λ n. n ≡ fault_call calls.now (body_in body) place line) }
 {
     let Some(body) = body else {
         return Ok(0);
     };
     let found = holders(alloc, line, parts_before(body, place), calls)?;
-    innermost(alloc, calls, found.as_slice())
+    innermost_call(alloc, calls, found.as_slice())
 }
 
 /// The number of the call within whose PROC a process of this body stands that waits so; 0 where it is none, or it isn't known.
@@ -300,7 +300,7 @@ fn call_within(
     place: u32,
 ) -> Result<usize, AllocError>
     ensures { IfOk result
-        (λ n. n ≡ call_within calls.now (option_map (λ b. b.now) body) stop wait.now place) }
+        (λ n. n ≡ call_within calls.now (body_in body) stop wait.now place) }
 {
     if let Wait::Faulted(fault) = wait {
         return fault_call(alloc, calls, body, place, fault.line);
@@ -363,7 +363,7 @@ pub(crate) fn write_calls(
     place: u32,
 ) -> Result<(), AllocError>
     ensures { OnOk result (AddsText out.old out.new
-        (calls_text calls.now (option_map (λ b. b.now) body) stop wait.now place)) }
+        (calls_text calls.now (body_in body) stop wait.now place)) }
 {
     let number = call_within(alloc, calls, body, stop, wait, place)?;
     let numbers = outwards(alloc, calls, number)?;

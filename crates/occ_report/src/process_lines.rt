@@ -1,6 +1,7 @@
 //! The lines of processes, in bytes.
-ghost use Rattle.std.specs.Prelude.{◌≡◌, OnOk, Some, option_map, slice_get};
+ghost use Rattle.std.specs.Prelude.{◌≡◌, OnOk, Some, slice_get};
 ghost use Rattle.occ_shown.specs.Answers.{AddsText};
+ghost use Rattle.occ_report.specs.Calls.{body_in};
 ghost use Rattle.occ_report.specs.Reports.{standing_line, line_told, name_text, on_line, AddsCalls, AddsLine, AddsLines, AddsOnLine, AddsTaskLine, AddsTaskLines};
 
 use crate::calls::write_calls;
@@ -122,7 +123,7 @@ fn write_standing(
 
 /// The body of the process with this number.
 fn body_of(code: &Code, number: u32) -> Option<&Body>
-    ensures { option_map (λ b. b.now) result ≡ slice_get code.now.bodies number }
+    ensures { body_in result ≡ slice_get code.now.bodies number }
 {
     match code.body(number as usize) {
         Some(body) => Some(body),

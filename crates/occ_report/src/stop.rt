@@ -1,6 +1,6 @@
 //! What a process stops at.
 ghost use Rattle.std.specs.Prelude.{◌≡◌, ◌+◌, ◌-◌, IfSome, Some};
-ghost use Rattle.occ_report.specs.Places.{first_of, arm_at, halts, is_alt, is_arm, is_arm_of, is_input, is_loop, is_output, is_par, is_stop, next_place, stands_at};
+ghost use Rattle.occ_report.specs.Places.{first_of, arm_opened, halts, is_alt, is_arm, is_arm_of, is_input, is_loop, is_output, is_par, is_stop, next_place, stands_at};
 
 use occ_machine::{Instr, Slot, Wait};
 
@@ -128,8 +128,8 @@ fn is_arm_of(alt: &Stop, number: u32, stop: &Stop) -> bool
 }
 
 /// The arm of this number of an ALT.
-pub(crate) fn arm_at(stops: &[Stop], alt: &Stop, number: u32) -> Option<Stop>
-    ensures { result ≡ arm_at stops.now alt.now number }
+pub(crate) fn arm_opened(stops: &[Stop], alt: &Stop, number: u32) -> Option<Stop>
+    ensures { result ≡ arm_opened stops.now alt.now number }
 {
     let mut rest = stops;
     while let Some((stop, others)) = rest.split_first() {
