@@ -1,11 +1,11 @@
 -- The calls that led to where a process stands.
 -- Manual: nothing; this is (own).
-use Rattle.std.specs.Borrow.{Bor}
-use Rattle.std.specs.Prelude.{Bool, List, None, Option, Some, [], codes, false, if◌then◌else◌, length, min, nat_le, option_map, slice_get, suc, take, true, zero, ℕ, ◌&&◌, ◌+◌, ◌++◌, ◌∷◌, ◌≡◌}
+use Rattle.std.specs.Prelude.{Bool, List, None, Option, Some, [], codes, false, if◌then◌else◌, length, min, nat_le, slice_get, suc, take, true, zero, ℕ, ◌&&◌, ◌+◌, ◌++◌, ◌∷◌, ◌≡◌}
 use Rattle.std.specs.Fmt.{decimal}
 use Rattle.occ_machine.specs.Machine.{Body}
 use Rattle.occ_machine.specs.declared.instr.Instr.{Instr}
 use Rattle.occ_machine.specs.declared.instr.Instr.TheVariants.{ChooseArm, Fork, Halt, LoopBack, Receive, Send, StoreOne, StoreParts}
+use Rattle.occ_machine.specs.declared.task.Task.{Task}
 use Rattle.occ_machine.specs.declared.task.Wait.{Wait}
 use Rattle.occ_machine.specs.declared.task.Wait.TheVariants.{Ready, Took, Offers, Awaits, Chooses, Joins, Halted, Done, Faulted}
 use Rattle.occ_text.specs.Words.{LogicalLine, Word, logical_line, mark, name}
@@ -124,8 +124,9 @@ call_within calls body stop Halted p = stop_call stop
 call_within calls body stop Done p = stop_call stop
 call_within calls body stop (Faulted e) p = fault_call calls body p e.line
 
-abbrev pub body_in : Option (Bor Body) → Option Body
-body_in body = option_map (λ b. b.now) body
+-- the same of the process of this number
+abbrev pub call_of : List Call → List Body → ℕ → Option Stop → Task → ℕ
+call_of calls bodies n stop t = call_within calls (slice_get bodies n) stop t.wait t.pc
 
-abbrev pub calls_text : List Call → Option Body → Option Stop → Wait → ℕ → List ℕ
-calls_text calls body stop w p = lines_of_calls calls (outwards (length calls) calls (call_within calls body stop w p))
+abbrev pub calls_text : List Call → List Body → ℕ → Option Stop → Task → List ℕ
+calls_text calls bodies n stop t = lines_of_calls calls (outwards (length calls) calls (call_of calls bodies n stop t))

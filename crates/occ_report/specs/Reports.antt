@@ -158,7 +158,7 @@ process_line names readers writers source known n w stop = on_line n (name_of kn
 
 -- the calls within whose PROCs it stands, where they are known
 abbrev pub calls_told : List Body → List Known → ℕ → Task → Option Stop → List ℕ
-calls_told bodies known n t stop = calls_text (calls_of known n) (slice_get bodies n) stop t.wait t.pc
+calls_told bodies known n t stop = calls_text (calls_of known n) bodies n stop t
 
 abbrev pub lines_told_at : Names → (readers writers : Noted) → (source : List ℕ) → List Cell → List Body → List Known → ℕ → Task → Option Stop → List ℕ
 lines_told_at names readers writers source cells bodies known n t stop =

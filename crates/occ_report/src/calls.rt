@@ -1,15 +1,15 @@
 //! The calls that led to where a process stands.
-ghost use Rattle.std.specs.Prelude.{◌≡◌, ◌≤◌, IfOk, OnOk, length};
+ghost use Rattle.std.specs.Prelude.{◌≡◌, ◌≤◌, IfOk, OnOk, Some, length};
 ghost use Rattle.std.specs.List.{All};
 ghost use Rattle.occ_text.specs.Words.{logical_lines};
 ghost use Rattle.occ_shown.specs.Answers.{AddsText};
-ghost use Rattle.occ_report.specs.Calls.{IsCallIn, are_among, body_in, call_at, call_text, call_within, calls_text, fault_call, holders, innermost_call, is_last, last_number, lines_of_calls, may_hold, outwards, parts_before, parts_done, text_of_call};
+ghost use Rattle.occ_report.specs.Calls.{IsCallIn, are_among, call_at, call_of, call_text, calls_text, fault_call, holders, innermost_call, is_last, last_number, lines_of_calls, may_hold, outwards, parts_before, parts_done, text_of_call};
 
 use crate::faults::is_among;
 use crate::scope::Procedure;
 use crate::stop::Stop;
 use crate::text_lines::has_call;
-use occ_machine::{Body, Instr, Slot, Wait};
+use occ_machine::{Body, Code, Instr, Slot, Task, Wait};
 use occ_text::Line;
 use std::alloc::{AllocError, Global};
 
@@ -276,34 +276,34 @@ fn innermost_call(alloc: Global, calls: &[Call], numbers: &[usize]) -> Result<us
 fn fault_call(
     alloc: Global,
     calls: &[Call],
-    body: Option<&Body>,
+    body: &Body,
     place: u32,
     line: u32,
 ) -> Result<usize, AllocError>
-    ensures { IfOk result
-        (λ n. n ≡ fault_call calls.now (body_in body) place line) }
+    ensures { IfOk result (λ n. n ≡ fault_call calls.now (Some body.now) place line) }
 {
-    let Some(body) = body else {
-        return Ok(0);
-    };
-    let found = holders(alloc, line, parts_before(body, place), calls)?;
+    let done = parts_before(body, place);
+    let found = holders(alloc, line, done, calls)?;
     innermost_call(alloc, calls, found.as_slice())
 }
 
-/// The number of the call within whose PROC a process of this body stands that waits so; 0 where it is none, or it isn't known.
-fn call_within(
+/// The number of the call within whose PROC this process stands; 0 where it is none, or it isn't known.
+fn call_of(
     alloc: Global,
     calls: &[Call],
-    body: Option<&Body>,
+    code: &Code,
+    number: u32,
     stop: Option<Stop>,
-    wait: &Wait,
-    place: u32,
+    task: &Task,
 ) -> Result<usize, AllocError>
     ensures { IfOk result
-        (λ n. n ≡ call_within calls.now (body_in body) stop wait.now place) }
+        (λ n. n ≡ call_of calls.now code.now.bodies number stop task.now) }
 {
-    if let Wait::Faulted(fault) = wait {
-        return fault_call(alloc, calls, body, place, fault.line);
+    if let Wait::Faulted(fault) = &task.wait {
+        return match code.body(number as usize) {
+            Some(body) => fault_call(alloc, calls, body, task.pc, fault.line),
+            None => Ok(0),
+        };
     }
     match stop {
         Some(stop) => Ok(stop.call as usize),
@@ -352,20 +352,20 @@ fn write_lines(
     Ok(())
 }
 
-/// The lines of the calls within whose PROCs a process of this body stands that waits so, innermost first.
+/// The lines of the calls within whose PROCs this process stands, innermost first.
 pub(crate) fn write_calls(
     alloc: Global,
     out: &mut Vec<u8>,
     calls: &[Call],
-    body: Option<&Body>,
+    code: &Code,
+    number: u32,
     stop: Option<Stop>,
-    wait: &Wait,
-    place: u32,
+    task: &Task,
 ) -> Result<(), AllocError>
     ensures { OnOk result (AddsText out.old out.new
-        (calls_text calls.now (body_in body) stop wait.now place)) }
+        (calls_text calls.now code.now.bodies number stop task.now)) }
 {
-    let number = call_within(alloc, calls, body, stop, wait, place)?;
-    let numbers = outwards(alloc, calls, number)?;
+    let call = call_of(alloc, calls, code, number, stop, task)?;
+    let numbers = outwards(alloc, calls, call)?;
     write_lines(alloc, out, calls, numbers.as_slice())
 }

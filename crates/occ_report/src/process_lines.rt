@@ -1,14 +1,13 @@
 //! The lines of processes, in bytes.
-ghost use Rattle.std.specs.Prelude.{◌≡◌, OnOk, Some, slice_get};
+ghost use Rattle.std.specs.Prelude.{◌≡◌, OnOk, Some};
 ghost use Rattle.occ_shown.specs.Answers.{AddsText};
-ghost use Rattle.occ_report.specs.Calls.{body_in};
 ghost use Rattle.occ_report.specs.Reports.{standing_line, line_told, name_text, on_line, AddsCalls, AddsLine, AddsLines, AddsOnLine, AddsTaskLine, AddsTaskLines};
 
 use crate::calls::write_calls;
 use crate::faults::write_faulted;
 use crate::standing::{Ends, Spot, standing, write_process};
 use crate::{Places, Stop};
-use occ_machine::{Body, Code, Task, Wait};
+use occ_machine::{Code, Task, Wait};
 use occ_net_tables::Tables;
 use occ_term::{Channel, Unfolded};
 use std::alloc::{AllocError, Global};
@@ -121,16 +120,6 @@ fn write_standing(
     write_on_line(alloc, out, number, name, standing_line(stop, wait), text)
 }
 
-/// The body of the process with this number.
-fn body_of(code: &Code, number: u32) -> Option<&Body>
-    ensures { body_in result ≡ slice_get code.now.bodies number }
-{
-    match code.body(number as usize) {
-        Some(body) => Some(body),
-        None => None,
-    }
-}
-
 /// The calls within whose PROCs a process stands, of whose stop this is known.
 fn write_called(
     alloc: Global,
@@ -143,8 +132,7 @@ fn write_called(
     ensures { OnOk result (AddsCalls told.entry number task.now stop out.old out.new) }
 {
     let calls = told.places.calls(number);
-    let body = body_of(told.code, number);
-    write_calls(alloc, out, calls, body, stop, &task.wait, task.pc)
+    write_calls(alloc, out, calls, told.code, number, stop, task)
 }
 
 /// The line of a process, where it is left, and those below it.
