@@ -1,6 +1,6 @@
 -- The calls that led to where a process stands.
 -- Manual: nothing; this is (own).
-use Rattle.std.specs.Prelude.{Bool, List, None, Option, Some, [], codes, false, if◌then◌else◌, length, min, nat_le, slice_get, suc, take, true, zero, ℕ, ◌&&◌, ◌+◌, ◌++◌, ◌∷◌, ◌≡◌}
+use Rattle.std.specs.Prelude.{Bool, List, None, Option, Some, [], codes, false, if◌then◌else◌, length, nat_le, slice_get, suc, true, zero, ℕ, ◌&&◌, ◌+◌, ◌++◌, ◌∷◌, ◌≡◌}
 use Rattle.std.specs.Fmt.{decimal}
 use Rattle.occ_machine.specs.Machine.{Body}
 use Rattle.occ_machine.specs.declared.instr.Instr.{Instr}
@@ -10,7 +10,7 @@ use Rattle.occ_machine.specs.declared.task.Wait.{Wait}
 use Rattle.occ_machine.specs.declared.task.Wait.TheVariants.{Ready, Took, Offers, Awaits, Chooses, Joins, Halted, Done, Faulted}
 use Rattle.occ_text.specs.Words.{LogicalLine, Word, logical_line, mark, name}
 use Rattle.occ_text.specs.declared.token.Sym.TheVariants as signs
-use Rattle.occ_report.specs.Faults.{is_among}
+use Rattle.occ_report.specs.Faults.{code_before, is_among}
 use Rattle.occ_report.specs.declared.calls.Call.{Call}
 use Rattle.occ_report.specs.declared.stop.Stop.{Stop}
 
@@ -80,7 +80,7 @@ parts_done (i ∷ others) = (if is_last i then 1 else 0) + parts_done others
 
 -- how many parts the code has done before a place
 abbrev pub parts_before : Body → ℕ → ℕ
-parts_before b p = parts_done (take (min p (length b.code)) b.code)
+parts_before b p = parts_done (code_before b p)
 
 -- whether the PROC of a call has this line, and something of its body may be evaluated where so many parts are done
 abbrev pub may_hold : (line done : ℕ) → Call → Bool
@@ -125,8 +125,8 @@ call_within calls body stop Done p = stop_call stop
 call_within calls body stop (Faulted e) p = fault_call calls body p e.line
 
 -- the same of the process of this number
-abbrev pub call_of : List Call → List Body → ℕ → Option Stop → Task → ℕ
-call_of calls bodies n stop t = call_within calls (slice_get bodies n) stop t.wait t.pc
+abbrev pub call_of_task : List Call → List Body → ℕ → Option Stop → Task → ℕ
+call_of_task calls bodies n stop t = call_within calls (slice_get bodies n) stop t.wait t.pc
 
 abbrev pub calls_text : List Call → List Body → ℕ → Option Stop → Task → List ℕ
-calls_text calls bodies n stop t = lines_of_calls calls (outwards (length calls) calls (call_of calls bodies n stop t))
+calls_text calls bodies n stop t = lines_of_calls calls (outwards (length calls) calls (call_of_task calls bodies n stop t))

@@ -377,8 +377,8 @@ AddsLines cs ends told n t old new =
 abbrev pub AddsFault : {A : Type 0} → Told → ℕ → Task → (old new : Vec ℕ A) → Type 0
 AddsFault told n t old new = AddsText old new (fault_told told.source.now told.unfolded.now.cells told.code.now.bodies n t)
 
-abbrev pub AddsVariables : {A : Type 0} → (held : List ℕ) → Variables → (read : List ℕ) → List Cell → (old new : Vec ℕ A) → Type 0
-AddsVariables held f read cells old new = AddsText old new (variables_text held f read 0 cells)
+abbrev pub AddsVariables : {A : Type 0} → (held : List ℕ) → Variables → (read components : List ℕ) → List Cell → (old new : Vec ℕ A) → Type 0
+AddsVariables held f read components cells old new = AddsText old new (variables_text held f read components 0 cells)
 
 -- of whatever network the tables hold, the lines of one process, and those of the first so many
 abbrev pub AddsTaskLine : {A : Type 0} → List Channel → Sides → Told → Tables → ℕ → (old new : Vec ℕ A) → Type 0

@@ -3,9 +3,9 @@ ghost use Rattle.std.specs.Prelude.{◌≡◌, ◌≤◌, IfOk, OnOk, Some, leng
 ghost use Rattle.std.specs.List.{All};
 ghost use Rattle.occ_text.specs.Words.{logical_lines};
 ghost use Rattle.occ_shown.specs.Answers.{AddsText};
-ghost use Rattle.occ_report.specs.Calls.{IsCallIn, are_among, call_at, call_of, call_text, calls_text, fault_call, holders, innermost_call, is_last, last_number, lines_of_calls, may_hold, outwards, parts_before, parts_done, text_of_call};
+ghost use Rattle.occ_report.specs.Calls.{IsCallIn, are_among, call_at, call_of_task, call_text, calls_text, fault_call, holders, innermost_call, is_last, last_number, lines_of_calls, may_hold, outwards, parts_before, parts_done, text_of_call};
 
-use crate::faults::is_among;
+use crate::faults::{code_before, is_among};
 use crate::scope::Procedure;
 use crate::stop::Stop;
 use crate::text_lines::has_call;
@@ -182,9 +182,7 @@ pub(crate) fn parts_done(code: &[Instr<Slot>]) -> usize
 fn parts_before(body: &Body, place: u32) -> usize
     ensures { result ≡ parts_before body.now place }
 {
-    let code = body.code();
-    let place = (place as usize).min(code.len());
-    parts_done(&code[..place])
+    parts_done(code_before(body, place))
 }
 
 /// Whether the PROC of a call has this line, and something of its body may be evaluated where so many parts are done.
@@ -288,7 +286,7 @@ fn fault_call(
 }
 
 /// The number of the call within whose PROC this process stands; 0 where it is none, or it isn't known.
-fn call_of(
+fn call_of_task(
     alloc: Global,
     calls: &[Call],
     code: &Code,
@@ -297,7 +295,7 @@ fn call_of(
     task: &Task,
 ) -> Result<usize, AllocError>
     ensures { IfOk result
-        (λ n. n ≡ call_of calls.now code.now.bodies number stop task.now) }
+        (λ n. n ≡ call_of_task calls.now code.now.bodies number stop task.now) }
 {
     if let Wait::Faulted(fault) = &task.wait {
         return match code.body(number as usize) {
@@ -365,7 +363,7 @@ pub(crate) fn write_calls(
     ensures { OnOk result (AddsText out.old out.new
         (calls_text calls.now code.now.bodies number stop task.now)) }
 {
-    let call = call_of(alloc, calls, code, number, stop, task)?;
+    let call = call_of_task(alloc, calls, code, number, stop, task)?;
     let numbers = outwards(alloc, calls, call)?;
     write_lines(alloc, out, calls, numbers.as_slice())
 }

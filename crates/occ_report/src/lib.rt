@@ -7,6 +7,7 @@
 mod agreement;
 mod arms;
 pub mod calls;
+mod components;
 mod ended;
 mod faults;
 mod heads;
