@@ -51,11 +51,11 @@ fn subscripted(first: i64, size: u32, each: u64, subscript: i64) -> Option<usize
 }
 
 /// The value at a place among the cells of a frame, 0 where there is none.
-fn in_place(frame: &Frame, slot: Slot) -> i64
-    ensures { result ≡ in_place frame.now slot.now }
+fn in_place(frame: &Frame, place: u32) -> i64
+    ensures { result ≡ in_place frame.now place }
 {
-    if (slot.0 as usize) < frame.len() {
-        frame.value_in(slot.0)
+    if (place as usize) < frame.len() {
+        frame.value_in(place)
     } else {
         0
     }
@@ -73,7 +73,7 @@ fn read_by_four(
 {
     match (a, b, c, d) {
         (Instr::Push(first), Instr::Load(slot), Instr::Subscript(_, size, each), Instr::LoadAt) => {
-            subscripted(*first, *size, *each, in_place(frame, *slot))
+            subscripted(*first, *size, *each, in_place(frame, slot.0))
         }
         _ => None,
     }
