@@ -1,11 +1,16 @@
 -- The calls that led to where a process stands.
 -- Manual: nothing; this is (own).
-use Rattle.std.specs.Prelude.{Bool, List, None, Option, Some, [], codes, false, if◌then◌else◌, length, nat_le, nat_lt, slice_get, suc, true, zero, ℕ, ◌&&◌, ◌+◌, ◌++◌, ◌∷◌, ◌≡◌}
+use Rattle.std.specs.Prelude.{Bool, List, None, Option, Some, [], codes, false, if◌then◌else◌, length, nat_le, slice_get, suc, true, zero, ℕ, ◌&&◌, ◌+◌, ◌++◌, ◌∷◌, ◌≡◌}
 use Rattle.std.specs.Fmt.{decimal}
+use Rattle.occ_machine.specs.Machine.{Body}
+use Rattle.occ_machine.specs.declared.instr.Instr.{Instr}
+use Rattle.occ_machine.specs.declared.instr.Instr.TheVariants.{ChooseArm, Fork, Halt, LoopBack, Receive, Send, StoreOne, StoreParts}
+use Rattle.occ_machine.specs.declared.task.Task.{Task}
 use Rattle.occ_machine.specs.declared.task.Wait.{Wait}
 use Rattle.occ_machine.specs.declared.task.Wait.TheVariants.{Ready, Took, Offers, Awaits, Chooses, Joins, Halted, Done, Faulted}
 use Rattle.occ_text.specs.Words.{LogicalLine, Word, logical_line, mark, name}
 use Rattle.occ_text.specs.declared.token.Sym.TheVariants as signs
+use Rattle.occ_report.specs.Faults.{code_before, is_among}
 use Rattle.occ_report.specs.declared.calls.Call.{Call}
 use Rattle.occ_report.specs.declared.stop.Stop.{Stop}
 
@@ -42,49 +47,86 @@ abbrev pub with_call : Option Call → (Call → List ℕ) → List ℕ
 with_call None told = []
 with_call (Some c) told = told c
 
--- the line of the call of this number, and of those within whose PROCs it stands, innermost first: of at most so many
-abbrev pub chain_text : (most : ℕ) → List Call → ℕ → List ℕ
-chain_text zero calls n = []
-chain_text (suc most) calls n = with_call (call_at calls n) (λ c. call_text c.line ++ chain_text most calls c.outer)
+-- the call of this number and those within whose PROCs it stands, innermost first: of at most so many
+abbrev pub outwards : (most : ℕ) → List Call → ℕ → List ℕ
+outwards zero calls n = []
+outwards (suc most) calls n = with_call (call_at calls n) (λ c. n ∷ outwards most calls c.outer)
 
--- how many of these stops stand before a place
-abbrev pub stops_before : ℕ → List Stop → ℕ
-stops_before p [] = 0
-stops_before p (s ∷ others) = (if nat_lt s.place p then 1 else 0) + stops_before p others
+abbrev pub text_of_call : Option Call → List ℕ
+text_of_call None = []
+text_of_call (Some c) = call_text c.line
 
--- whether the PROC of a call has this line, and its body may be gone through behind so many stops
-abbrev pub may_hold : (line stops : ℕ) → Call → Bool
-may_hold line stops c = nat_le c.first line && nat_le line c.last && nat_le c.before stops && nat_le stops c.behind
+abbrev pub lines_of_calls : List Call → List ℕ → List ℕ
+lines_of_calls calls [] = []
+lines_of_calls calls (n ∷ ns) = text_of_call (call_at calls n) ++ lines_of_calls calls ns
+
+-- ---- the call within whose PROC a fault is met
+
+-- whether an instruction is the last one of a part of what a process does: of an assignment, an output, an input, a loop and so on
+abbrev pub is_last : Instr ℕ → Bool
+is_last StoreParts = true
+is_last (StoreOne cell) = true
+is_last (Send tag) = true
+is_last Receive = true
+is_last (ChooseArm pri back) = true
+is_last (Fork branches) = true
+is_last (LoopBack back) = true
+is_last Halt = true
+is_last instruction = false
+
+abbrev pub parts_done : List (Instr ℕ) → ℕ
+parts_done [] = 0
+parts_done (i ∷ others) = (if is_last i then 1 else 0) + parts_done others
+
+-- how many parts the code has done before a place
+abbrev pub parts_before : Body → ℕ → ℕ
+parts_before b p = parts_done (code_before b p)
+
+-- whether the PROC of a call has this line, and something of its body may be evaluated where so many parts are done
+abbrev pub may_hold : (line done : ℕ) → Call → Bool
+may_hold line done c = nat_le c.first line && nat_le line c.last && nat_le c.before done && nat_le done c.behind
 
 -- the numbers of the calls that may, the first of which has this number
-abbrev pub holders : (line stops n : ℕ) → List Call → List ℕ
-holders line stops n [] = []
-holders line stops n (c ∷ others) = (if may_hold line stops c then n ∷ [] else []) ++ holders line stops (n + 1) others
+abbrev pub holders : (line done n : ℕ) → List Call → List ℕ
+holders line done n [] = []
+holders line done n (c ∷ others) = (if may_hold line done c then n ∷ [] else []) ++ holders line done (n + 1) others
 
-abbrev pub only_one : List ℕ → ℕ
-only_one [] = 0
-only_one (n ∷ []) = n
-only_one (n ∷ m ∷ ns) = 0
+abbrev pub are_among : List ℕ → (all : List ℕ) → Bool
+are_among [] all = true
+are_among (n ∷ ns) all = is_among n all && are_among ns all
 
--- The call whose PROC has a fault in this line, at this place of the code; 0 where there is none, or more than one may be meant.
-abbrev pub fault_call : List Call → List Stop → (place line : ℕ) → ℕ
-fault_call calls stops p line = only_one (holders line (stops_before p stops) 1 calls)
+abbrev pub last_number : ℕ → List ℕ → ℕ
+last_number n [] = n
+last_number n (m ∷ ms) = last_number m ms
+
+-- the last one of these calls, where it stands within the PROCs of all others of them; else 0
+abbrev pub innermost_call : List Call → List ℕ → ℕ
+innermost_call calls ns = if are_among ns (outwards (length calls) calls (last_number 0 ns)) then last_number 0 ns else 0
+
+-- The innermost call whose PROC has a fault in this line, at this place of the code; 0 where there is none, or more than one may be meant.
+abbrev pub fault_call : List Call → Option Body → (place line : ℕ) → ℕ
+fault_call calls None p line = 0
+fault_call calls (Some b) p line = innermost_call calls (holders line (parts_before b p) 1 calls)
 
 abbrev pub stop_call : Option Stop → ℕ
 stop_call None = 0
 stop_call (Some s) = s.call
 
--- the call within whose PROC a process stands that waits so and goes on at this place
-abbrev pub call_within : List Call → List Stop → Option Stop → Wait → ℕ → ℕ
-call_within calls stops stop Ready p = stop_call stop
-call_within calls stops stop (Took arm indices m) p = stop_call stop
-call_within calls stops stop (Offers c m) p = stop_call stop
-call_within calls stops stop (Awaits c) p = stop_call stop
-call_within calls stops stop (Chooses pri arms) p = stop_call stop
-call_within calls stops stop (Joins ns) p = stop_call stop
-call_within calls stops stop Halted p = stop_call stop
-call_within calls stops stop Done p = stop_call stop
-call_within calls stops stop (Faulted e) p = fault_call calls stops p e.line
+-- the call within whose PROC a process of this body stands that waits so and goes on at this place
+abbrev pub call_within : List Call → Option Body → Option Stop → Wait → ℕ → ℕ
+call_within calls body stop Ready p = stop_call stop
+call_within calls body stop (Took arm indices m) p = stop_call stop
+call_within calls body stop (Offers c m) p = stop_call stop
+call_within calls body stop (Awaits c) p = stop_call stop
+call_within calls body stop (Chooses pri arms) p = stop_call stop
+call_within calls body stop (Joins ns) p = stop_call stop
+call_within calls body stop Halted p = stop_call stop
+call_within calls body stop Done p = stop_call stop
+call_within calls body stop (Faulted e) p = fault_call calls body p e.line
 
-abbrev pub calls_text : List Call → List Stop → Option Stop → Wait → ℕ → List ℕ
-calls_text calls stops stop w p = chain_text (length calls) calls (call_within calls stops stop w p)
+-- the same of the process of this number
+abbrev pub call_of_task : List Call → List Body → ℕ → Option Stop → Task → ℕ
+call_of_task calls bodies n stop t = call_within calls (slice_get bodies n) stop t.wait t.pc
+
+abbrev pub calls_text : List Call → List Body → ℕ → Option Stop → Task → List ℕ
+calls_text calls bodies n stop t = lines_of_calls calls (outwards (length calls) calls (call_of_task calls bodies n stop t))

@@ -5,44 +5,21 @@ use Rattle.occ_term.specs.Frames.{Variables, at, place_among}
 use Rattle.occ_term.specs.declared.names.Cell.{Cell}
 use Rattle.occ_machine.specs.Machine.{Body}
 use Rattle.occ_machine.specs.declared.instr.Instr.{Instr}
-use Rattle.occ_machine.specs.declared.instr.Instr.TheVariants.{Push, Load, LoadAt, LoadLetter, Subscript, Operate, OperateOne, ConvertTo, AndThen, OrElse, PartOne, PartMany, PartText, PartCounted, PartCountedText, SpotOne, SpotCounted}
+use Rattle.occ_machine.specs.declared.instr.Instr.TheVariants.{Load}
 use Rattle.occ_machine.specs.declared.task.Task.{Task}
 use Rattle.occ_machine.specs.declared.task.Wait.{Wait}
 use Rattle.occ_machine.specs.declared.task.Wait.TheVariants.{Ready, Took, Offers, Awaits, Chooses, Joins, Halted, Done, Faulted}
 use Rattle.occ_shown.specs.Answers.{value_text}
+use Rattle.occ_report.specs.Components.{components_in}
+use Rattle.occ_report.specs.Evaluating.{as_list, is_evaluating}
 use Rattle.occ_report.specs.Written.{numbered_line, plain_text, unspaced}
 
 -- ---- what was read for an evaluation
-
--- whether an instruction is in the middle of an evaluation
-abbrev pub is_evaluating : Instr ℕ → Bool
-is_evaluating (Push v) = true
-is_evaluating (Load place) = true
-is_evaluating LoadAt = true
-is_evaluating (LoadLetter line text) = true
-is_evaluating (Subscript line size each) = true
-is_evaluating (Operate o type line) = true
-is_evaluating (OperateOne o type line) = true
-is_evaluating (ConvertTo type line) = true
-is_evaluating (AndThen skip) = true
-is_evaluating (OrElse skip) = true
-is_evaluating (PartOne type) = true
-is_evaluating (PartMany type count) = true
-is_evaluating (PartText type text) = true
-is_evaluating (PartCounted type line count) = true
-is_evaluating (PartCountedText type line text) = true
-is_evaluating (SpotOne count) = true
-is_evaluating (SpotCounted line size count) = true
-is_evaluating instruction = false
 
 -- the place in the frame that an instruction reads
 abbrev pub read_by : Instr ℕ → Option ℕ
 read_by (Load place) = Some place
 read_by instruction = None
-
-abbrev pub as_list : Option ℕ → List ℕ
-as_list None = []
-as_list (Some place) = place ∷ []
 
 -- Behind these instructions: what is read is kept up to the end of the evaluation.
 abbrev pub with_read : Instr ℕ → List ℕ → List ℕ
@@ -61,14 +38,23 @@ is_among p (q ∷ qs) = nat_eq q p || is_among p qs
 abbrev pub value_line : Cell → ℤ → List ℕ
 value_line c v = codes "    " ++ c.name ++ codes " = " ++ value_text c.primitive v ++ codes "\n"
 
--- the variables, the first of which has this number, that stand at these places of what a process holds
-abbrev pub variables_text : (held : List ℕ) → Variables → (read : List ℕ) → ℕ → List Cell → List ℕ
-variables_text held f read n [] = []
-variables_text held f read n (c ∷ others) = (if is_among (place_among held n) read then value_line c (at f n) else []) ++ variables_text held f read (n + 1) others
+-- whether a variable is at one of these places of what a process holds, or has one of these numbers
+abbrev pub was_read : (held : List ℕ) → (read components : List ℕ) → ℕ → Bool
+was_read held read components n = is_among (place_among held n) read || is_among n components
+
+-- of the variables, the first of which has this number, those that were read
+abbrev pub variables_text : (held : List ℕ) → Variables → (read components : List ℕ) → ℕ → List Cell → List ℕ
+variables_text held f read components n [] = []
+variables_text held f read components n (c ∷ others) =
+    (if was_read held read components n then value_line c (at f n) else []) ++ variables_text held f read components (n + 1) others
+
+-- what the code of a body has done before a place
+abbrev pub code_before : Body → ℕ → List (Instr ℕ)
+code_before b p = take (min p (length b.code)) b.code
 
 -- those that were read up to the place where a process of this body stands
 abbrev pub read_text : Body → List Cell → Task → List ℕ
-read_text b cells t = variables_text b.cells t.frame (reads_in (take (min t.pc (length b.code)) b.code) []) 0 cells
+read_text b cells t = variables_text b.cells t.frame (reads_in (code_before b t.pc) []) (components_in t.frame [] (code_before b t.pc)) 0 cells
 
 abbrev pub fault_line : (source : List ℕ) → ℕ → List ℕ
 fault_line source line = codes "    " ++ plain_text (unspaced (numbered_line source line)) ++ codes "\n"

@@ -1,6 +1,8 @@
 pub mod Located
 pub mod Calls
 pub mod Written
+pub mod Evaluating
+pub mod Components
 pub mod Faults
 pub mod Places
 pub mod Reports

@@ -5,7 +5,7 @@ use Rattle.std.specs.List.{All, list_any}
 use Rattle.occ_machine.specs.Compiled.{Program}
 use Rattle.occ_machine.specs.Machine.{Body}
 use Rattle.occ_machine.specs.declared.instr.Instr.{Instr}
-use Rattle.occ_machine.specs.declared.instr.Instr.TheVariants.{ChooseArm, Fork, Halt, LoopBack, Receive, Send}
+use Rattle.occ_machine.specs.declared.instr.Instr.TheVariants.{ChooseArm, Fork, Halt, LoopBack, OpenInput, Receive, Send}
 use Rattle.occ_machine.specs.declared.task.Wait.{Wait}
 use Rattle.occ_machine.specs.declared.task.Wait.TheVariants.{Ready, Took, Offers, Awaits, Chooses, Joins, Halted, Done, Faulted}
 use Rattle.occ_text.specs.Words.{LogicalLine, Word, key, logical_line, mark, name}
@@ -32,6 +32,7 @@ abbrev pub next_place : Kind → Instr ℕ → ℕ → Option ℕ
 next_place kinds.Output (Send tag) p = Some (p + 1)
 next_place kinds.Input Receive p = Some (p + 1)
 next_place kinds.Alt (ChooseArm pri back) p = Some (p - back)
+next_place kinds.Arm (OpenInput number) p = Some (p + 1)
 next_place kinds.Par (Fork branches) p = Some (p + 1)
 next_place kinds.Loop (LoopBack back) p = Some (p - back)
 next_place kinds.Stop Halt p = Some p
@@ -45,6 +46,7 @@ abbrev pub is_word_of : Kind → Word → Bool
 is_word_of kinds.Output (mark signs.Exclamation) = true
 is_word_of kinds.Input (mark signs.Question) = true
 is_word_of kinds.Alt (key words.Alt) = true
+is_word_of kinds.Arm (mark signs.Question) = true
 is_word_of kinds.Par (key words.Par) = true
 is_word_of kinds.Loop (key words.While) = true
 is_word_of kinds.Loop (key words.Seq) = true
@@ -95,10 +97,11 @@ pub record IsProcOf (lines : List LogicalLine) (proc : List ℕ) : Type 0 where
 abbrev pub IsNameOf : List LogicalLine → List ℕ → Type 0
 IsNameOf lines proc = (proc ≡ []) ⊎ IsProcOf lines proc
 
--- whether a process stops at an instruction, but for its end
+-- whether a process stops at an instruction, but for its end, or opens an arm that inputs
 abbrev pub is_stop : Instr ℕ → Bool
 is_stop (Send tag) = true
 is_stop Receive = true
+is_stop (OpenInput number) = true
 is_stop (ChooseArm pri back) = true
 is_stop (Fork branches) = true
 is_stop (LoopBack back) = true
@@ -166,6 +169,10 @@ abbrev pub is_alt : Kind → Bool
 is_alt kinds.Alt = true
 is_alt kind = false
 
+abbrev pub is_arm : Kind → Bool
+is_arm kinds.Arm = true
+is_arm kind = false
+
 abbrev pub is_par : Kind → Bool
 is_par kinds.Par = true
 is_par kind = false
@@ -202,3 +209,11 @@ first_of w p (s ∷ others) = if stands_at w p s then Some s else first_of w p o
 -- the stop at which the process of this number stands, if it is known
 abbrev pub stop_of : List Known → ℕ → Wait → ℕ → Option Stop
 stop_of all n w p = first_of w p (stops_of all n)
+
+-- Whether a stop is the arm of this number of an ALT. The number says how far before the end of its ALT the arm is opened.
+abbrev pub is_arm_of : (alt : Stop) → ℕ → Stop → Bool
+is_arm_of alt n s = is_arm s.kind && nat_eq (s.place + n) (alt.place + 1)
+
+abbrev pub arm_opened : List Stop → (alt : Stop) → ℕ → Option Stop
+arm_opened [] alt n = None
+arm_opened (s ∷ others) alt n = if is_arm_of alt n s then Some s else arm_opened others alt n

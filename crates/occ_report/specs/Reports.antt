@@ -33,8 +33,8 @@ use Rattle.occ_report.specs.declared.stop.Stop.{Stop}
 use Rattle.occ_report.specs.Calls.{calls_text}
 use Rattle.occ_report.specs.Faults.{fault_told, variables_text}
 use Rattle.occ_term.specs.Frames.{Variables}
-use Rattle.occ_report.specs.Places.{Known, calls_of, name_of, stop_of, stops_of}
-use Rattle.occ_report.specs.Written.{channel_told, written_at}
+use Rattle.occ_report.specs.Places.{Known, arm_opened, calls_of, name_of, stop_of, stops_of}
+use Rattle.occ_report.specs.Written.{channel_told, written_at, written_in_arm}
 use Rattle.occ_term.specs.UnfoldedProgram.{UnfoldedProgram}
 use Rattle.occ_term.specs.declared.names.Cell.{Cell}
 use Rattle.occ_machine.specs.Machine.{Body}
@@ -43,6 +43,7 @@ use Rattle.occ_net_tables.specs.declared.tables.Tables.{Tables}
 use Rattle.occ_net_tables.specs.Holding.{HeldBy}
 use Rattle.occ_ends.specs.declared.uses.ProcessUses.{ProcessUses}
 use Rattle.occ_report.specs.declared.standing.Ends.{Ends as Sides}
+use Rattle.occ_report.specs.declared.standing.Spot.{Spot}
 use Rattle.occ_report.specs.declared.process_lines.Told.{Told}
 
 -- by channel: the process that may input from it, or that may output to it, of those that are left
@@ -68,14 +69,21 @@ writer_text (suc c) (Some (Some n)) = codes ", which " ++ process_text n ++ code
 abbrev pub awaited_text : Names → Noted → (written : List ℕ) → ℕ → List ℕ
 awaited_text names writers written c = codes "awaits " ++ channel_told names written c ++ writer_text c (slice_get writers c)
 
--- an arm with SKIP has no channel
-abbrev pub arm_channel_text : Names → Noted → Option ℕ → List ℕ
-arm_channel_text names writers None = codes "; SKIP"
-arm_channel_text names writers (Some c) = codes "; " ++ awaited_text names writers [] c
+-- where the arm of this number of the ALT is opened that a process stands at, where that is known
+abbrev pub arm_stop : List Stop → Option Stop → ℕ → Option Stop
+arm_stop stops None n = None
+arm_stop stops (Some alt) n = arm_opened stops alt n
 
-abbrev pub arms_text : Names → Noted → List Arm → List ℕ
-arms_text names writers [] = []
-arms_text names writers (a ∷ others) = arm_channel_text names writers a.chan ++ arms_text names writers others
+-- an arm with SKIP has no channel
+abbrev pub arm_channel_text : Names → (writers : Noted) → (written : List ℕ) → Option ℕ → List ℕ
+arm_channel_text names writers written None = codes "; SKIP"
+arm_channel_text names writers written (Some c) = codes "; " ++ awaited_text names writers written c
+
+-- each arm by the name that its own line has
+abbrev pub arms_text : Names → (writers : Noted) → (source : List ℕ) → List Stop → Option Stop → List Arm → List ℕ
+arms_text names writers source stops stop [] = []
+arms_text names writers source stops stop (a ∷ others) =
+    arm_channel_text names writers (written_in_arm source (arm_stop stops stop a.number)) a.chan ++ arms_text names writers source stops stop others
 
 abbrev pub branches_text : List ℕ → List ℕ
 branches_text [] = []
@@ -94,6 +102,7 @@ halting_text kinds.Variants = codes "halted, since no variant has the tag"
 halting_text kinds.Alt = codes "halted, since every arm of the ALT is closed"
 halting_text kinds.Output = codes "halted"
 halting_text kinds.Input = codes "halted"
+halting_text kinds.Arm = codes "halted"
 halting_text kinds.Par = codes "halted"
 halting_text kinds.Loop = codes "halted"
 
@@ -101,17 +110,17 @@ abbrev pub halted_text : Option Stop → List ℕ
 halted_text None = codes "halted"
 halted_text (Some s) = halting_text s.kind
 
--- what a process stands at, of whose stop this is known, and the name with which the line there begins; at its end it is not left
-abbrev pub standing_text : Names → (readers writers : Noted) → Option Stop → (written : List ℕ) → Wait → Option (List ℕ)
-standing_text names readers writers stop written Ready = Some (codes "can go on")
-standing_text names readers writers stop written (Took arm indices m) = Some (codes "can go on")
-standing_text names readers writers stop written (Offers c m) = Some (offer_text names readers written c m)
-standing_text names readers writers stop written (Awaits c) = Some (awaited_text names writers written c)
-standing_text names readers writers stop written (Chooses pri arms) = Some (codes "chooses" ++ arms_text names writers arms)
-standing_text names readers writers stop written (Joins ns) = Some (codes "waits for" ++ branches_text ns)
-standing_text names readers writers stop written Halted = Some (halted_text stop)
-standing_text names readers writers stop written Done = None
-standing_text names readers writers stop written (Faulted e) = Some (ending_text (endings.Fault e))
+-- what a process stands at, whose stops are these, and of whose stop this is known; at its end it is not left
+abbrev pub standing_text : Names → (readers writers : Noted) → (source : List ℕ) → List Stop → Option Stop → Wait → Option (List ℕ)
+standing_text names readers writers source stops stop Ready = Some (codes "can go on")
+standing_text names readers writers source stops stop (Took arm indices m) = Some (codes "can go on")
+standing_text names readers writers source stops stop (Offers c m) = Some (offer_text names readers (written_at source stop) c m)
+standing_text names readers writers source stops stop (Awaits c) = Some (awaited_text names writers (written_at source stop) c)
+standing_text names readers writers source stops stop (Chooses pri arms) = Some (codes "chooses" ++ arms_text names writers source stops stop arms)
+standing_text names readers writers source stops stop (Joins ns) = Some (codes "waits for" ++ branches_text ns)
+standing_text names readers writers source stops stop Halted = Some (halted_text stop)
+standing_text names readers writers source stops stop Done = None
+standing_text names readers writers source stops stop (Faulted e) = Some (ending_text (endings.Fault e))
 
 -- the name of a PROC, where it is known
 abbrev pub name_text : List ℕ → List ℕ
@@ -145,15 +154,15 @@ on_line n name line (Some text) = codes "  " ++ process_text n ++ name_text name
 
 -- what is told of a process, with its PROC and its line, as far as they are known
 abbrev pub process_line : Names → (readers writers : Noted) → (source : List ℕ) → List Known → ℕ → Wait → Option Stop → List ℕ
-process_line names readers writers source known n w stop = on_line n (name_of known n) (standing_line stop w) (standing_text names readers writers stop (written_at source stop) w)
+process_line names readers writers source known n w stop = on_line n (name_of known n) (standing_line stop w) (standing_text names readers writers source (stops_of known n) stop w)
 
 -- the calls within whose PROCs it stands, where they are known
-abbrev pub calls_told : List Known → ℕ → Task → Option Stop → List ℕ
-calls_told known n t stop = calls_text (calls_of known n) (stops_of known n) stop t.wait t.pc
+abbrev pub calls_told : List Body → List Known → ℕ → Task → Option Stop → List ℕ
+calls_told bodies known n t stop = calls_text (calls_of known n) bodies n stop t
 
 abbrev pub lines_told_at : Names → (readers writers : Noted) → (source : List ℕ) → List Cell → List Body → List Known → ℕ → Task → Option Stop → List ℕ
 lines_told_at names readers writers source cells bodies known n t stop =
-    process_line names readers writers source known n t.wait stop ++ fault_told source cells bodies n t ++ calls_told known n t stop
+    process_line names readers writers source known n t.wait stop ++ fault_told source cells bodies n t ++ calls_told bodies known n t stop
 
 -- the line of a process, and those below it
 abbrev pub lines_told : Names → (readers writers : Noted) → (source : List ℕ) → List Cell → List Body → List Known → ℕ → Task → List ℕ
@@ -329,14 +338,16 @@ offer_told cs readers written c m = offer_text (names_of cs) readers written c m
 abbrev pub awaited_told : List Channel → Noted → (written : List ℕ) → ℕ → List ℕ
 awaited_told cs writers written c = awaited_text (names_of cs) writers written c
 
-abbrev pub arm_told : List Channel → Noted → Option ℕ → List ℕ
-arm_told cs writers chan = arm_channel_text (names_of cs) writers chan
+abbrev pub AddsArm : {A : Type 0} → List Channel → (writers : Noted) → Spot → Arm → (old new : Vec ℕ A) → Type 0
+AddsArm cs writers spot a old new =
+    AddsText old new (arm_channel_text (names_of cs) writers (written_in_arm spot.source.now (arm_stop spot.stops.now spot.stop a.number)) a.chan)
 
-abbrev pub arms_told : List Channel → Noted → List Arm → List ℕ
-arms_told cs writers arms = arms_text (names_of cs) writers arms
+abbrev pub AddsArms : {A : Type 0} → List Channel → (writers : Noted) → Spot → List Arm → (old new : Vec ℕ A) → Type 0
+AddsArms cs writers spot arms old new = AddsText old new (arms_text (names_of cs) writers spot.source.now spot.stops.now spot.stop arms)
 
-abbrev pub choosing_told : List Channel → Noted → List Arm → List ℕ
-choosing_told cs writers arms = codes "chooses" ++ arms_told cs writers arms
+abbrev pub AddsChoice : {A : Type 0} → List Channel → (writers : Noted) → Spot → List Arm → (old new : Vec ℕ A) → Type 0
+AddsChoice cs writers spot arms old new =
+    AddsText old new (codes "chooses" ++ arms_text (names_of cs) writers spot.source.now spot.stops.now spot.stop arms)
 
 abbrev pub AddsOffer : {A : Type 0} → List Channel → Noted → (written : List ℕ) → ℕ → Message → (old new : Vec ℕ A) → Type 0
 AddsOffer cs readers written c m old new = AddsText old new (offer_told cs readers written c m)
@@ -345,8 +356,8 @@ abbrev pub joining_text : List ℕ → List ℕ
 joining_text ns = codes "waits for" ++ branches_text ns
 
 -- by the declared names and by who is noted
-abbrev pub standing_told : List Channel → Sides → Option Stop → (written : List ℕ) → Wait → Option (List ℕ)
-standing_told cs ends stop written w = standing_text (names_of cs) ends.readers.now ends.writers.now stop written w
+abbrev pub standing_told : List Channel → Sides → Spot → Wait → Option (List ℕ)
+standing_told cs ends spot w = standing_text (names_of cs) ends.readers.now ends.writers.now spot.source.now spot.stops.now spot.stop w
 
 -- the line of a process, of the text that there is for it, and of what it stands at
 abbrev pub AddsOnLine : {A B : Type 0} → ℕ → (name : List ℕ) → (line : Option ℕ) → Option (Vec ℕ A) → (old new : Vec ℕ B) → Type 0
@@ -356,8 +367,8 @@ abbrev pub AddsLine : {A : Type 0} → List Channel → Sides → Told → ℕ �
 AddsLine cs ends told n w stop old new =
     AddsText old new (process_line (names_of cs) ends.readers.now ends.writers.now told.source.now told.places.now n w stop)
 
-abbrev pub AddsCalls : {A : Type 0} → List Known → ℕ → Task → Option Stop → (old new : Vec ℕ A) → Type 0
-AddsCalls known n t stop old new = AddsText old new (calls_told known n t stop)
+abbrev pub AddsCalls : {A : Type 0} → Told → ℕ → Task → Option Stop → (old new : Vec ℕ A) → Type 0
+AddsCalls told n t stop old new = AddsText old new (calls_told told.code.now.bodies told.places.now n t stop)
 
 abbrev pub AddsLines : {A : Type 0} → List Channel → Sides → Told → ℕ → Task → (old new : Vec ℕ A) → Type 0
 AddsLines cs ends told n t old new =
@@ -366,8 +377,8 @@ AddsLines cs ends told n t old new =
 abbrev pub AddsFault : {A : Type 0} → Told → ℕ → Task → (old new : Vec ℕ A) → Type 0
 AddsFault told n t old new = AddsText old new (fault_told told.source.now told.unfolded.now.cells told.code.now.bodies n t)
 
-abbrev pub AddsVariables : {A : Type 0} → (held : List ℕ) → Variables → (read : List ℕ) → List Cell → (old new : Vec ℕ A) → Type 0
-AddsVariables held f read cells old new = AddsText old new (variables_text held f read 0 cells)
+abbrev pub AddsVariables : {A : Type 0} → (held : List ℕ) → Variables → (read components : List ℕ) → List Cell → (old new : Vec ℕ A) → Type 0
+AddsVariables held f read components cells old new = AddsText old new (variables_text held f read components 0 cells)
 
 -- of whatever network the tables hold, the lines of one process, and those of the first so many
 abbrev pub AddsTaskLine : {A : Type 0} → List Channel → Sides → Told → Tables → ℕ → (old new : Vec ℕ A) → Type 0

@@ -1,6 +1,6 @@
 -- The lines of a source, and the names that stand in them.
 -- Manual: the characters of a name.
-use Rattle.std.specs.Prelude.{Bool, List, None, Option, Some, [], bytes_eq, codes, if◌then◌else◌, length, map, nat_eq, nat_lt, suc, take, zero, ℕ, ◌++◌, ◌-◌, ◌||◌, ◌∷◌}
+use Rattle.std.specs.Prelude.{Bool, List, None, Option, Some, [], bytes_eq, codes, false, if◌then◌else◌, length, map, nat_eq, nat_lt, suc, zero, ℕ, ◌&&◌, ◌++◌, ◌-◌, ◌||◌, ◌∷◌}
 use Rattle.std.specs.Str.Lines.{lines}
 use Rattle.occ_term.specs.Runs.{Names}
 use Rattle.occ_text.specs.Spelling.{is_name_part}
@@ -21,17 +21,33 @@ unspaced [] = []
 unspaced (b ∷ bs) = if nat_eq b 32 then unspaced bs else b ∷ bs
 
 -- the name with which some bytes begin
-abbrev pub front_length : List ℕ → ℕ
-front_length [] = 0
-front_length (b ∷ bs) = if is_name_part b then suc (front_length bs) else 0
-
 abbrev pub name_in_front : List ℕ → List ℕ
-name_in_front bytes = take (front_length bytes) bytes
+name_in_front [] = []
+name_in_front (b ∷ bs) = if is_name_part b then b ∷ name_in_front bs else []
 
 -- the name with which the line of a stop begins, where that is known: for an output or an input that of its channel
 abbrev pub written_at : (source : List ℕ) → Option Stop → List ℕ
 written_at source None = []
 written_at source (Some s) = name_in_front (unspaced (numbered_line source s.line))
+
+-- whether a quote or a comment begins with a byte, before these
+abbrev pub begins_with_dash : List ℕ → Bool
+begins_with_dash [] = false
+begins_with_dash (b ∷ bs) = nat_eq b 45
+
+abbrev pub hides : ℕ → List ℕ → Bool
+hides b bs = nat_eq b 34 || nat_eq b 39 || (nat_eq b 45 && begins_with_dash bs)
+
+-- Of the line of an arm what stands behind the ampersand of its guard, or all of it where the question mark comes first; nothing where
+-- a quote or a comment comes before both, or neither is there.
+abbrev pub behind_guard : (all : List ℕ) → List ℕ → List ℕ
+behind_guard all [] = []
+behind_guard all (b ∷ bs) = if nat_eq b 38 then bs else (if nat_eq b 63 then all else (if hides b bs then [] else behind_guard all bs))
+
+-- the name of the channel from which an arm inputs, as its line has it
+abbrev pub written_in_arm : (source : List ℕ) → Option Stop → List ℕ
+written_in_arm source None = []
+written_in_arm source (Some s) = name_in_front (unspaced (behind_guard (numbered_line source s.line) (numbered_line source s.line)))
 
 -- a channel's name; where another one is written, as that of a formal, that and what it stands for
 abbrev pub is_its_own : (written name : List ℕ) → Bool

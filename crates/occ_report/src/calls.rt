@@ -1,14 +1,15 @@
 //! The calls that led to where a process stands.
-ghost use Rattle.std.specs.Prelude.{◌≡◌, ◌≤◌, IfOk, IfSome, OnOk, length};
+ghost use Rattle.std.specs.Prelude.{◌≡◌, ◌≤◌, IfOk, OnOk, Some, length};
 ghost use Rattle.std.specs.List.{All};
 ghost use Rattle.occ_text.specs.Words.{logical_lines};
 ghost use Rattle.occ_shown.specs.Answers.{AddsText};
-ghost use Rattle.occ_report.specs.Calls.{IsCallIn, call_at, call_within, call_text, calls_text, chain_text, fault_call, holders, may_hold, only_one, stops_before};
+ghost use Rattle.occ_report.specs.Calls.{IsCallIn, are_among, call_at, call_of_task, call_text, calls_text, fault_call, holders, innermost_call, is_last, last_number, lines_of_calls, may_hold, outwards, parts_before, parts_done, text_of_call};
 
+use crate::faults::{code_before, is_among};
 use crate::scope::Procedure;
 use crate::stop::Stop;
 use crate::text_lines::has_call;
-use occ_machine::Wait;
+use occ_machine::{Body, Code, Instr, Slot, Task, Wait};
 use occ_text::Line;
 use std::alloc::{AllocError, Global};
 
@@ -26,9 +27,9 @@ pub struct Call {
     pub first: u32,
     /// The line of the colon that ends it.
     pub last: u32,
-    /// How many stops of the process its code has before the PROC's body.
+    /// How many parts the code of the process does before the PROC's body.
     pub before: u32,
-    /// How many it has up to the end of that body.
+    /// How many it has done at most where it evaluates something of that body.
     pub behind: u32,
 }
 
@@ -56,7 +57,7 @@ impl Calls {
         self.all.clear();
     }
 
-    /// How many stops stand before and behind each is not known.
+    /// How many parts are done before and behind each is not known.
     pub fn spread(&mut self) {
         for call in &mut self.all {
             call.before = 0;
@@ -86,7 +87,7 @@ impl Calls {
         Ok(outer)
     }
 
-    /// One more, of this PROC in this line, behind so many stops, and its number.
+    /// One more, of this PROC in this line, behind so many parts, and its number.
     pub fn enter(
         &mut self,
         line: u32,
@@ -105,7 +106,7 @@ impl Calls {
         Ok(self.all.len().min(MOST_CALLS) as u32)
     }
 
-    /// The body of the call of this number ends behind so many stops.
+    /// In the body of the call of this number so many parts are done at most where something is evaluated.
     pub fn leave(&mut self, number: u32, behind: u32) {
         let Some(place) = (number as usize).checked_sub(1) else {
             return;
@@ -144,15 +145,32 @@ pub(crate) fn told_calls(
     Ok(told)
 }
 
-/// How many of these stops stand before a place.
-fn stops_before(place: u32, stops: &[Stop]) -> usize
-    ensures is { result ≡ stops_before place stops.now }
-    ensures within { result ≤ length stops.now }
+/// Whether an instruction is the last one of a part of what a process does.
+fn is_last(instruction: &Instr<Slot>) -> bool
+    ensures { result ≡ is_last instruction.now }
+{
+    matches!(
+        instruction,
+        Instr::StoreParts
+            | Instr::StoreOne(_)
+            | Instr::Send(_)
+            | Instr::Receive
+            | Instr::ChooseArm(_, _)
+            | Instr::Fork(_)
+            | Instr::LoopBack(_)
+            | Instr::Halt
+    )
+}
+
+/// How many parts are done in a code.
+pub(crate) fn parts_done(code: &[Instr<Slot>]) -> usize
+    ensures is { result ≡ parts_done code.now }
+    ensures within { result ≤ length code.now }
 {
     let mut count = 0;
-    let mut rest = stops;
-    while let Some((stop, others)) = rest.split_first() {
-        if stop.place < place {
+    let mut rest = code;
+    while let Some((instruction, others)) = rest.split_first() {
+        if is_last(instruction) {
             count += 1;
         }
         rest = others;
@@ -160,25 +178,32 @@ fn stops_before(place: u32, stops: &[Stop]) -> usize
     count
 }
 
-/// Whether the PROC of a call has this line, and its body may be gone through behind so many stops.
-fn may_hold(line: u32, stops: usize, call: &Call) -> bool
-    ensures { result ≡ may_hold line stops call.now }
+/// How many parts the code of a body has done where a process stands at this place.
+fn parts_before(body: &Body, place: u32) -> usize
+    ensures { result ≡ parts_before body.now place }
+{
+    parts_done(code_before(body, place))
+}
+
+/// Whether the PROC of a call has this line, and something of its body may be evaluated where so many parts are done.
+fn may_hold(line: u32, done: usize, call: &Call) -> bool
+    ensures { result ≡ may_hold line done call.now }
 {
     call.first <= line
         && line <= call.last
-        && call.before as usize <= stops
-        && stops <= call.behind as usize
+        && call.before as usize <= done
+        && done <= call.behind as usize
 }
 
 /// The numbers of the calls that may.
-fn holders(alloc: Global, line: u32, stops: usize, calls: &[Call]) -> Result<Vec<usize>, AllocError>
-    ensures { IfOk result (λ found. found.items ≡ holders line stops 1 calls.now) }
+fn holders(alloc: Global, line: u32, done: usize, calls: &[Call]) -> Result<Vec<usize>, AllocError>
+    ensures { IfOk result (λ found. found.items ≡ holders line done 1 calls.now) }
 {
     let mut found = Vec::new(alloc);
     let mut number = 1;
     let mut rest = calls;
     while let Some((call, others)) = rest.split_first() {
-        if may_hold(line, stops, call) {
+        if may_hold(line, done, call) {
             found.push(number)?;
         }
         number += 1;
@@ -187,45 +212,96 @@ fn holders(alloc: Global, line: u32, stops: usize, calls: &[Call]) -> Result<Vec
     Ok(found)
 }
 
-/// The one number, where there is one alone.
-fn only_one(numbers: &[usize]) -> usize
-    ensures { result ≡ only_one numbers.now }
+/// The call of this number and those within whose PROCs it stands, innermost first.
+fn outwards(alloc: Global, calls: &[Call], number: usize) -> Result<Vec<usize>, AllocError>
+    ensures { IfOk result (λ found. found.items ≡ outwards (length calls.now) calls.now number) }
 {
-    match numbers {
-        [number] => *number,
-        _ => 0,
+    let mut found = Vec::new(alloc);
+    let mut left = calls.len();
+    let mut at = number;
+    'calls: while left > 0 {
+        let Some(call) = call_at(calls, at) else {
+            return Ok(found);
+        };
+        found.push(at)?;
+        at = call.outer as usize;
+        left -= 1;
+    }
+    Ok(found)
+}
+
+/// Whether each of these numbers is among the others.
+fn are_among(numbers: &[usize], all: &[usize]) -> bool
+    ensures { result ≡ are_among numbers.now all.now }
+{
+    let mut rest = numbers;
+    while let Some((number, others)) = rest.split_first() {
+        if !is_among(all, *number) {
+            return false;
+        }
+        rest = others;
+    }
+    true
+}
+
+/// The last one of these numbers; 0 where there is none.
+fn last_of(numbers: &[usize]) -> usize
+    ensures { result ≡ last_number 0 numbers.now }
+{
+    let mut last = 0;
+    let mut rest = numbers;
+    while let Some((number, others)) = rest.split_first() {
+        last = *number;
+        rest = others;
+    }
+    last
+}
+
+/// The last one of these calls, where it stands within the PROCs of all others of them; else 0.
+fn innermost_call(alloc: Global, calls: &[Call], numbers: &[usize]) -> Result<usize, AllocError>
+    ensures { IfOk result (λ n. n ≡ innermost_call calls.now numbers.now) }
+{
+    let last = last_of(numbers);
+    let all = outwards(alloc, calls, last)?;
+    if are_among(numbers, all.as_slice()) {
+        Ok(last)
+    } else {
+        Ok(0)
     }
 }
 
-/// The number of the call whose PROC has a fault in this line, at this place of the code; 0 where there is none, or more than one may be
-/// meant.
+/// The number of the call within whose PROC a process of this body met a fault in this line; 0 where it is none, or it isn't known.
 fn fault_call(
     alloc: Global,
     calls: &[Call],
-    stops: &[Stop],
+    body: &Body,
     place: u32,
     line: u32,
 ) -> Result<usize, AllocError>
-    ensures { IfOk result (λ n. n ≡ fault_call calls.now stops.now place line) }
+    ensures { IfOk result (λ n. n ≡ fault_call calls.now (Some body.now) place line) }
 {
-    let met = stops_before(place, stops);
-    let found = holders(alloc, line, met, calls)?;
-    Ok(only_one(found.as_slice()))
+    let done = parts_before(body, place);
+    let found = holders(alloc, line, done, calls)?;
+    innermost_call(alloc, calls, found.as_slice())
 }
 
-/// The number of the call within whose PROC a process stands that waits so; 0 where it is none, or it isn't known.
-fn call_within(
+/// The number of the call within whose PROC this process stands; 0 where it is none, or it isn't known.
+fn call_of_task(
     alloc: Global,
     calls: &[Call],
-    stops: &[Stop],
+    code: &Code,
+    number: u32,
     stop: Option<Stop>,
-    wait: &Wait,
-    place: u32,
+    task: &Task,
 ) -> Result<usize, AllocError>
-    ensures { IfOk result (λ n. n ≡ call_within calls.now stops.now stop wait.now place) }
+    ensures { IfOk result
+        (λ n. n ≡ call_of_task calls.now code.now.bodies number stop task.now) }
 {
-    if let Wait::Faulted(fault) = wait {
-        return fault_call(alloc, calls, stops, place, fault.line);
+    if let Wait::Faulted(fault) = &task.wait {
+        return match code.body(number as usize) {
+            Some(body) => fault_call(alloc, calls, body, task.pc, fault.line),
+            None => Ok(0),
+        };
     }
     match stop {
         Some(stop) => Ok(stop.call as usize),
@@ -240,42 +316,54 @@ fn write_call(alloc: Global, out: &mut Vec<u8>, line: u32) -> Result<(), AllocEr
     out.extend_from_slice(text.as_bytes())
 }
 
-/// The line of the call of this number, and of those within whose PROCs it stands.
-fn write_chain(
+/// The line of the call of this number.
+fn write_numbered(
     alloc: Global,
     out: &mut Vec<u8>,
     calls: &[Call],
     number: usize,
 ) -> Result<(), AllocError>
     ensures { OnOk result
-        (AddsText out.old out.new (chain_text (length calls.now) calls.now number)) }
+        (AddsText out.old out.new (text_of_call (call_at calls.now number))) }
 {
-    let mut left = calls.len();
-    let mut at = number;
-    'outwards: while left > 0 {
-        let Some(call) = call_at(calls, at) else {
-            return Ok(());
-        };
-        write_call(alloc, out, call.line)?;
-        at = call.outer as usize;
-        left -= 1;
+    match call_at(calls, number) {
+        Some(call) => write_call(alloc, out, call.line),
+        None => Ok(()),
+    }
+}
+
+/// The lines of the calls of these numbers.
+fn write_lines(
+    alloc: Global,
+    out: &mut Vec<u8>,
+    calls: &[Call],
+    numbers: &[usize],
+) -> Result<(), AllocError>
+    ensures { OnOk result
+        (AddsText out.old out.new (lines_of_calls calls.now numbers.now)) }
+{
+    let mut rest = numbers;
+    while let Some((number, others)) = rest.split_first() {
+        write_numbered(alloc, out, calls, *number)?;
+        rest = others;
     }
     Ok(())
 }
 
-/// The lines of the calls within whose PROCs a process stands that waits so, innermost first.
+/// The lines of the calls within whose PROCs this process stands, innermost first.
 pub(crate) fn write_calls(
     alloc: Global,
     out: &mut Vec<u8>,
     calls: &[Call],
-    stops: &[Stop],
+    code: &Code,
+    number: u32,
     stop: Option<Stop>,
-    wait: &Wait,
-    place: u32,
+    task: &Task,
 ) -> Result<(), AllocError>
     ensures { OnOk result (AddsText out.old out.new
-        (calls_text calls.now stops.now stop wait.now place)) }
+        (calls_text calls.now code.now.bodies number stop task.now)) }
 {
-    let number = call_within(alloc, calls, stops, stop, wait, place)?;
-    write_chain(alloc, out, calls, number)
+    let call = call_of_task(alloc, calls, code, number, stop, task)?;
+    let numbers = outwards(alloc, calls, call)?;
+    write_lines(alloc, out, calls, numbers.as_slice())
 }

@@ -1,41 +1,16 @@
 //! What is told of a fault: the line that it stands in, and the values of the variables that were read there.
 ghost use Rattle.std.specs.Prelude.{◌≡◌, [], IfOk, OnOk};
 ghost use Rattle.occ_shown.specs.Answers.{AddsText};
-ghost use Rattle.occ_report.specs.Faults.{fault_line, is_among, is_evaluating, read_by, reads_in, read_text, value_line, with_read};
+ghost use Rattle.occ_report.specs.Faults.{code_before, fault_line, is_among, was_read, read_by, reads_in, read_text, value_line, with_read};
 ghost use Rattle.occ_report.specs.Reports.{AddsFault, AddsVariables};
 
+use crate::components::{components_in, is_evaluating};
 use crate::process_lines::Told;
 use crate::source_lines::{numbered_line, plain_text, unspaced};
 use occ_machine::{Body, Instr, Slot, Task, Wait};
 use occ_shown::write_value;
 use occ_term::{Cell, Frame, FrameCells, Unfolded};
 use std::alloc::{AllocError, Global};
-
-/// Whether an instruction is in the middle of an evaluation.
-fn is_evaluating(instruction: &Instr<Slot>) -> bool
-    ensures { result ≡ is_evaluating instruction.now }
-{
-    matches!(
-        instruction,
-        Instr::Push(_)
-            | Instr::Load(_)
-            | Instr::LoadAt
-            | Instr::LoadLetter(_, _)
-            | Instr::Subscript(_, _, _)
-            | Instr::Operate(_, _, _)
-            | Instr::OperateOne(_, _, _)
-            | Instr::ConvertTo(_, _)
-            | Instr::AndThen(_)
-            | Instr::OrElse(_)
-            | Instr::PartOne(_)
-            | Instr::PartMany(_, _)
-            | Instr::PartText(_, _)
-            | Instr::PartCounted(_, _, _)
-            | Instr::PartCountedText(_, _, _)
-            | Instr::SpotOne(_)
-            | Instr::SpotCounted(_, _, _)
-    )
-}
 
 /// The place in the frame that an instruction reads.
 fn read_by(instruction: &Instr<Slot>) -> Option<usize>
@@ -90,7 +65,7 @@ fn write_variable(
 }
 
 /// Whether a place is one of these.
-fn is_among(places: &[usize], place: usize) -> bool
+pub(crate) fn is_among(places: &[usize], place: usize) -> bool
     ensures { result ≡ is_among place places.now }
 {
     let mut rest = places;
@@ -103,29 +78,46 @@ fn is_among(places: &[usize], place: usize) -> bool
     false
 }
 
-/// The variables of a program that are at these places of what a process holds.
+/// Whether the variable of this number is at one of these places of what a process holds, or is one of these components.
+fn was_read(held: &FrameCells, read: &[usize], found: &[usize], number: u32) -> bool
+    ensures { result ≡ was_read held.now read.now found.now number }
+{
+    is_among(read, held.place_among(number)) || is_among(found, number as usize)
+}
+
+/// The variables of a program that were read: those at these places of what a process holds, and these components.
 fn write_variables(
     alloc: Global,
     out: &mut Vec<u8>,
     held: &FrameCells,
     frame: &Frame,
     read: &[usize],
+    found: &[usize],
     unfolded: &Unfolded,
 ) -> Result<(), AllocError>
-    ensures { OnOk result
-        (AddsVariables held.now frame.now read.now unfolded.now.cells out.old out.new) }
+    ensures { OnOk result (AddsVariables
+        held.now frame.now read.now found.now unfolded.now.cells out.old out.new) }
 {
     unfolded.well_formed();
     let mut number: u32 = 0;
     let mut rest = unfolded.cells();
     while let Some((cell, others)) = rest.split_first() {
-        if is_among(read, held.place_among(number)) {
+        if was_read(held, read, found, number) {
             write_variable(alloc, out, cell, frame.value(number))?;
         }
         number += 1;
         rest = others;
     }
     Ok(())
+}
+
+/// What the code of a body has done before a place.
+pub(crate) fn code_before(body: &Body, place: u32) -> &[Instr<Slot>]
+    ensures { result.now ≡ code_before body.now place }
+{
+    let code = body.code();
+    let place = (place as usize).min(code.len());
+    &code[..place]
 }
 
 /// The variables that were read for what a process of this body evaluated.
@@ -139,15 +131,16 @@ fn write_read(
     ensures { OnOk result (AddsText out.old out.new
         (read_text body.now unfolded.now.cells task.now)) }
 {
-    let code = body.code();
-    let place = (task.pc as usize).min(code.len());
-    let read = reads_in(alloc, &code[..place])?;
+    let code = code_before(body, task.pc);
+    let read = reads_in(alloc, code)?;
+    let found = components_in(alloc, &task.frame, code)?;
     write_variables(
         alloc,
         out,
         body.cells(),
         &task.frame,
         read.as_slice(),
+        found.as_slice(),
         unfolded,
     )
 }

@@ -5,12 +5,15 @@
 #![tactic(auto)]
 
 mod agreement;
+mod arms;
 pub mod calls;
+mod components;
 mod ended;
 mod faults;
 mod heads;
 mod kinds;
 mod marks;
+mod parts;
 mod past;
 pub mod places;
 pub mod placing;

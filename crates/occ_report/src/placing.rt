@@ -6,7 +6,7 @@ ghost use Rattle.occ_report.specs.Calls.{IsCallIn};
 ghost use Rattle.std.specs.List.{All};
 
 use crate::agreement::{forks_in, stops_in};
-use crate::calls::{Call, told_calls};
+use crate::calls::{Call, parts_done, told_calls};
 use crate::marks::{Branches, Mark};
 use crate::places::{Located, Places};
 use crate::scope::Around;
@@ -150,6 +150,9 @@ fn stops_of<'t>(
         return Ok(Vec::new(alloc));
     }
     walk.keep_begun(forks_in(code));
+    if walk.done() as usize != parts_done(code) {
+        walk.calls.spread();
+    }
     match stops_in(alloc, code, walk.marks(), lines)? {
         Some(stops) => {
             begin_all(starts, number, code, stops.as_slice(), walk.marks());

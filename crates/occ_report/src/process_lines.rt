@@ -5,8 +5,7 @@ ghost use Rattle.occ_report.specs.Reports.{standing_line, line_told, name_text, 
 
 use crate::calls::write_calls;
 use crate::faults::write_faulted;
-use crate::source_lines::written_at;
-use crate::standing::{Ends, standing, write_process};
+use crate::standing::{Ends, Spot, standing, write_process};
 use crate::{Places, Stop};
 use occ_machine::{Code, Task, Wait};
 use occ_net_tables::Tables;
@@ -111,8 +110,12 @@ fn write_standing(
     ensures { OnOk result
         (AddsLine channels.now ends.entry told.entry number wait.now stop out.old out.new) }
 {
-    let written = written_at(told.source, stop);
-    let text = standing(alloc, channels, ends, stop, written, wait)?;
+    let spot = Spot {
+        source: told.source,
+        stops: told.places.stops(number),
+        stop,
+    };
+    let text = standing(alloc, channels, ends, spot, wait)?;
     let name = told.places.name(number);
     write_on_line(alloc, out, number, name, standing_line(stop, wait), text)
 }
@@ -121,15 +124,15 @@ fn write_standing(
 fn write_called(
     alloc: Global,
     out: &mut Vec<u8>,
-    places: &Places,
+    told: Told<'_>,
     number: u32,
     task: &Task,
     stop: Option<Stop>,
 ) -> Result<(), AllocError>
-    ensures { OnOk result (AddsCalls places.now number task.now stop out.old out.new) }
+    ensures { OnOk result (AddsCalls told.entry number task.now stop out.old out.new) }
 {
-    let (calls, stops) = (places.calls(number), places.stops(number));
-    write_calls(alloc, out, calls, stops, stop, &task.wait, task.pc)
+    let calls = told.places.calls(number);
+    write_calls(alloc, out, calls, told.code, number, stop, task)
 }
 
 /// The line of a process, where it is left, and those below it.
@@ -148,7 +151,7 @@ fn write_task(
     let stop = told.places.stop(number, &task.wait, task.pc);
     write_standing(alloc, out, channels, ends, told, number, &task.wait, stop)?;
     write_faulted(alloc, out, told, number, task)?;
-    write_called(alloc, out, told.places, number, task, stop)
+    write_called(alloc, out, told, number, task, stop)
 }
 
 /// The lines of the process with this number, where it is left.

@@ -3,7 +3,7 @@ ghost use Rattle.std.specs.Prelude.{◌≡◌, ◌∷◌, ◌<◌, ◌≤◌, �
 ghost use Rattle.std.specs.Str.Lines.{lines, strip_carriage_return};
 ghost use Rattle.occ_text.specs.Spelling.{is_name_part};
 ghost use Rattle.occ_shown.specs.Answers.{AddsText, names_of};
-ghost use Rattle.occ_report.specs.Written.{called_text, channel_told, front_length, numbered_line, name_in_front, plain_byte, plain_text, unspaced, written_at};
+ghost use Rattle.occ_report.specs.Written.{behind_guard, called_text, channel_told, hides, name_in_front, numbered_line, plain_byte, plain_text, unspaced, written_at, written_in_arm};
 
 use crate::stop::Stop;
 use occ_shown::write_name;
@@ -73,9 +73,9 @@ fn is_name_part(byte: u8) -> bool
     byte.is_ascii_alphanumeric() || byte == b'.'
 }
 
-/// How many bytes of a text a name may have, from its first on.
+/// How long the name is with which some bytes begin.
 fn front_length(mut bytes: &[u8]) -> usize
-    ensures value { result ≡ front_length bytes.entry.now }
+    ensures value { result ≡ length (name_in_front bytes.entry.now) }
     ensures within { result ≤ length bytes.entry.now }
 {
     let mut count = 0;
@@ -90,6 +90,7 @@ fn front_length(mut bytes: &[u8]) -> usize
 }
 
 /// The name with which some bytes begin.
+#[tactic(auto, using(crate::proofs::Fronts::front_is))]
 fn name_in_front(bytes: &[u8]) -> &[u8]
     ensures { result.now ≡ name_in_front bytes.now }
 {
@@ -103,6 +104,47 @@ pub(crate) fn written_at(source: &[u8], stop: Option<Stop>) -> &[u8]
 {
     match stop {
         Some(stop) => name_in_front(unspaced(numbered_line(source, stop.line))),
+        None => &[],
+    }
+}
+
+/// Whether a quote or a comment begins with this byte, before these.
+fn hides(byte: u8, rest: &[u8]) -> bool
+    ensures { result ≡ hides byte rest.now }
+{
+    match byte {
+        b'"' | b'\'' => true,
+        b'-' => matches!(rest, [b'-', ..]),
+        _ => false,
+    }
+}
+
+/// What stands behind the guard of an arm in its line; nothing where that isn't known.
+fn behind_guard(line: &[u8]) -> &[u8]
+    ensures { result.now ≡ behind_guard line.now line.now }
+{
+    let mut rest = line;
+    while let [byte, others @ ..] = rest {
+        if *byte == b'&' {
+            return others;
+        }
+        if *byte == b'?' {
+            return line;
+        }
+        if hides(*byte, others) {
+            return &[];
+        }
+        rest = others;
+    }
+    &[]
+}
+
+/// The name of the channel from which an arm inputs, as its line has it.
+pub(crate) fn written_in_arm(source: &[u8], stop: Option<Stop>) -> &[u8]
+    ensures { result.now ≡ written_in_arm source.now stop }
+{
+    match stop {
+        Some(stop) => name_in_front(unspaced(behind_guard(numbered_line(source, stop.line)))),
         None => &[],
     }
 }

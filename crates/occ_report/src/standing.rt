@@ -3,16 +3,25 @@ ghost use Rattle.std.specs.Prelude.{◌≡◌, IfOk, OnOk, Some, codes, slice_ge
 ghost use Rattle.occ_net_tables.specs.Holding.{HeldBy};
 ghost use Rattle.occ_term.specs.Endings.{ending_text};
 ghost use Rattle.occ_shown.specs.Answers.{AddsText, HasWords};
-ghost use Rattle.occ_report.specs.Reports.{arm_told, arms_told, awaited_told, branches_text, choosing_ones, halted_text, halting_text, task_chooses, process_text, AddsOffer, AddsChoosing, AddsCircle, ListsChoosing, choosing_told, joining_text, reader_at, standing_told, writer_at, ring_head, ring_text};
+ghost use Rattle.occ_report.specs.Reports.{awaited_told, branches_text, choosing_ones, halted_text, halting_text, task_chooses, process_text, AddsOffer, AddsChoosing, AddsCircle, ListsChoosing, joining_text, reader_at, standing_told, writer_at, ring_head, ring_text};
 
+use crate::arms::write_choosing;
 use crate::kinds::by_number;
-use crate::source_lines::write_channel;
+use crate::source_lines::{write_channel, written_at};
 use crate::{Kind, Stop};
-use occ_machine::{Arm, Wait};
+use occ_machine::Wait;
 use occ_net_tables::Tables;
 use occ_shown::write_message;
 use occ_term::{Channel, Ending, Fault, KEYBOARD, Message};
 use std::alloc::{AllocError, Global};
+
+/// Where a process stands in the source: its stops, and the one that it stands at, where they are known.
+#[derive(Clone, Copy)]
+pub(crate) struct Spot<'a> {
+    pub(crate) source: &'a [u8],
+    pub(crate) stops: &'a [Stop],
+    pub(crate) stop: Option<Stop>,
+}
 
 /// By channel, of the processes that are left: who may input from it, and who may output to it.
 #[derive(Clone, Copy)]
@@ -68,7 +77,7 @@ fn write_writer(
 }
 
 /// A channel from which a message is awaited, by the name that is written there.
-fn write_awaited(
+pub(crate) fn write_awaited(
     alloc: Global,
     out: &mut Vec<u8>,
     channels: &[Channel],
@@ -82,43 +91,6 @@ fn write_awaited(
     out.extend_from_slice(b"awaits ")?;
     write_channel(alloc, out, channels, written, chan)?;
     write_writer(alloc, out, writers, chan)
-}
-
-/// What an arm waits for.
-fn write_arm(
-    alloc: Global,
-    out: &mut Vec<u8>,
-    channels: &[Channel],
-    writers: &[Option<u32>],
-    chan: Option<u32>,
-) -> Result<(), AllocError>
-    ensures { OnOk result (AddsText out.old out.new (arm_told channels.now writers.now chan)) }
-{
-    match chan {
-        Some(chan) => {
-            out.extend_from_slice(b"; ")?;
-            write_awaited(alloc, out, channels, writers, &[], chan)
-        }
-        None => out.extend_from_slice(b"; SKIP"),
-    }
-}
-
-fn write_arms(
-    alloc: Global,
-    out: &mut Vec<u8>,
-    channels: &[Channel],
-    writers: &[Option<u32>],
-    arms: &[Arm],
-) -> Result<(), AllocError>
-    ensures { OnOk result
-        (AddsText out.old out.new (arms_told channels.now writers.now arms.now)) }
-{
-    let mut rest = arms;
-    while let Some((arm, others)) = rest.split_first() {
-        write_arm(alloc, out, channels, writers, arm.chan)?;
-        rest = others;
-    }
-    Ok(())
 }
 
 pub(crate) fn write_branches(
@@ -267,7 +239,7 @@ fn halting_text(kind: Kind) -> &'static [u8]
         Kind::Case => b"halted, since the CASE has no option for the value",
         Kind::Variants => b"halted, since no variant has the tag",
         Kind::Alt => b"halted, since every arm of the ALT is closed",
-        Kind::Output | Kind::Input | Kind::Par | Kind::Loop => b"halted",
+        Kind::Output | Kind::Input | Kind::Arm | Kind::Par | Kind::Loop => b"halted",
     }
 }
 
@@ -281,18 +253,18 @@ fn halted_text(stop: Option<Stop>) -> &'static [u8]
     }
 }
 
-/// What a process stands at, of whose stop this is known, and the name with which the line there begins; nothing where it is at its end.
+/// What a process stands at, of whose stops this is known; nothing where it is at its end.
 pub(crate) fn standing(
     alloc: Global,
     channels: &[Channel],
     ends: Ends<'_>,
-    stop: Option<Stop>,
-    written: &[u8],
+    spot: Spot<'_>,
     wait: &Wait,
 ) -> Result<Option<Vec<u8>>, AllocError>
-    ensures { IfOk result
-        (HasWords (standing_told channels.now ends.entry stop written.now wait.now)) }
+    ensures { IfOk result (HasWords (standing_told channels.now ends.entry spot.entry wait.now)) }
 {
+    let stop = spot.stop;
+    let written = written_at(spot.source, stop);
     let mut out = Vec::new(alloc);
     match wait {
         Wait::Ready => return text_of(alloc, b"can go on"),
@@ -314,26 +286,19 @@ pub(crate) fn standing(
             write_awaited(alloc, &mut out, channels, ends.writers, written, *chan)?
         }
         Wait::Chooses { arms, .. } => {
-            write_choosing(alloc, &mut out, channels, ends.writers, arms.as_slice())?
+            write_choosing(
+                alloc,
+                &mut out,
+                channels,
+                ends.writers,
+                spot,
+                arms.as_slice(),
+            )?
         }
         Wait::Joins { branches } => write_joining(alloc, &mut out, branches.as_slice())?,
         Wait::Faulted(fault) => write_fault(alloc, &mut out, *fault)?,
     }
     Ok(Some(out))
-}
-
-fn write_choosing(
-    alloc: Global,
-    out: &mut Vec<u8>,
-    channels: &[Channel],
-    writers: &[Option<u32>],
-    arms: &[Arm],
-) -> Result<(), AllocError>
-    ensures { OnOk result
-        (AddsText out.old out.new (choosing_told channels.now writers.now arms.now)) }
-{
-    out.extend_from_slice(b"chooses")?;
-    write_arms(alloc, out, channels, writers, arms)
 }
 
 fn write_joining(alloc: Global, out: &mut Vec<u8>, branches: &[u32]) -> Result<(), AllocError>

@@ -1,6 +1,6 @@
 //! What a process stops at.
 ghost use Rattle.std.specs.Prelude.{◌≡◌, ◌+◌, ◌-◌, IfSome, Some};
-ghost use Rattle.occ_report.specs.Places.{first_of, halts, is_alt, is_input, is_loop, is_output, is_par, is_stop, next_place, stands_at};
+ghost use Rattle.occ_report.specs.Places.{first_of, arm_opened, halts, is_alt, is_arm, is_arm_of, is_input, is_loop, is_output, is_par, is_stop, next_place, stands_at};
 
 use occ_machine::{Instr, Slot, Wait};
 
@@ -13,6 +13,8 @@ pub enum Kind {
     Input,
     /// An ALT.
     Alt,
+    /// An arm that inputs, of an ALT whose arms are being opened.
+    Arm,
     /// A PAR.
     Par,
     /// A WHILE or a replicated SEQ, at the end of whose body it stops.
@@ -27,7 +29,7 @@ pub enum Kind {
     Variants,
 }
 
-/// A place in the code of a process at which it stops.
+/// A place in the code of a process at which it stops, or opens an arm.
 #[derive(Clone, Copy)]
 pub struct Stop {
     /// The place of the instruction.
@@ -58,6 +60,12 @@ fn is_alt(kind: Kind) -> bool
     ensures { result ≡ is_alt kind }
 {
     matches!(kind, Kind::Alt)
+}
+
+fn is_arm(kind: Kind) -> bool
+    ensures { result ≡ is_arm kind }
+{
+    matches!(kind, Kind::Arm)
 }
 
 fn is_par(kind: Kind) -> bool
@@ -111,6 +119,28 @@ pub(crate) fn first_of(wait: &Wait, place: u32, stops: &[Stop]) -> Option<Stop>
     None
 }
 
+/// Whether a stop is the arm of this number of an ALT: it is opened so far before the ALT chooses.
+fn is_arm_of(alt: &Stop, number: u32, stop: &Stop) -> bool
+    ensures { result ≡ is_arm_of alt.now number stop.now }
+{
+    let behind = u64::from(stop.place) + u64::from(number);
+    is_arm(stop.kind) && behind == u64::from(alt.place) + 1
+}
+
+/// The arm of this number of an ALT.
+pub(crate) fn arm_opened(stops: &[Stop], alt: &Stop, number: u32) -> Option<Stop>
+    ensures { result ≡ arm_opened stops.now alt.now number }
+{
+    let mut rest = stops;
+    while let Some((stop, others)) = rest.split_first() {
+        if is_arm_of(alt, number, stop) {
+            return Some(*stop);
+        }
+        rest = others;
+    }
+    None
+}
+
 /// The place behind another.
 fn behind(place: u32) -> Option<u32>
     ensures { IfSome result (λ next. next ≡ place + 1) }
@@ -135,6 +165,7 @@ pub(crate) fn next_place(kind: Kind, instruction: &Instr<Slot>, place: u32) -> O
         (Kind::Output, Instr::Send(_)) => behind(place),
         (Kind::Input, Instr::Receive) => behind(place),
         (Kind::Alt, Instr::ChooseArm(_, back)) => before(place, *back),
+        (Kind::Arm, Instr::OpenInput(_)) => behind(place),
         (Kind::Par, Instr::Fork(_)) => behind(place),
         (Kind::Loop, Instr::LoopBack(back)) => before(place, *back),
         (Kind::Stop | Kind::If | Kind::Case | Kind::Variants, Instr::Halt) => Some(place),
@@ -142,7 +173,7 @@ pub(crate) fn next_place(kind: Kind, instruction: &Instr<Slot>, place: u32) -> O
     }
 }
 
-/// Whether a process stops at an instruction, but for its end.
+/// Whether a process stops at an instruction, but for its end, or opens an arm that inputs.
 pub(crate) fn is_stop(instruction: &Instr<Slot>) -> bool
     ensures { result ≡ is_stop instruction.now }
 {
@@ -150,6 +181,7 @@ pub(crate) fn is_stop(instruction: &Instr<Slot>) -> bool
         instruction,
         Instr::Send(_)
             | Instr::Receive
+            | Instr::OpenInput(_)
             | Instr::ChooseArm(_, _)
             | Instr::Fork(_)
             | Instr::LoopBack(_)

@@ -14,7 +14,7 @@ fn is_word_of(kind: Kind, token: &Token) -> bool
 {
     match (kind, token) {
         (Kind::Output, Token::Sym(Sym::Exclamation)) => true,
-        (Kind::Input | Kind::Variants, Token::Sym(Sym::Question)) => true,
+        (Kind::Input | Kind::Arm | Kind::Variants, Token::Sym(Sym::Question)) => true,
         (Kind::Alt, Token::Key(Key::Alt)) => true,
         (Kind::Par, Token::Key(Key::Par)) => true,
         (Kind::Loop, Token::Key(Key::While | Key::Seq)) => true,

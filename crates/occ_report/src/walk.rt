@@ -2,45 +2,13 @@
 
 use crate::calls::Calls;
 use crate::marks::{Branches, Mark, has_tag, literal};
+use crate::parts::{Left, Part};
 use crate::scope::{Around, Procedure, Procedures};
 use crate::stop::Kind;
 use occ_tree_grammar::tree::expr::Expr;
 use occ_tree_grammar::tree::line::{Action, Guard, Input};
 use occ_tree_grammar::tree::process::{Arm, Choice, Decl, Item, Process, Selection, Stmt, Variant};
 use std::alloc::{AllocError, Global};
-
-/// How many stops of a process have a number.
-const MOST_MET: usize = 4_294_967_295;
-
-/// A part of a process that is still to be gone through.
-#[derive(Clone, Copy)]
-enum Part<'t> {
-    /// A process.
-    One(&'t Process),
-    /// Processes one after the other.
-    All(&'t [Process]),
-    /// The arms of an ALT.
-    Arms(&'t [Arm]),
-    /// The choices of an IF.
-    Choices(&'t [Choice]),
-    /// The options of a CASE but for ELSE.
-    Options(&'t [Selection]),
-    /// The ELSE of a CASE in this line.
-    Else(u32, &'t [Selection]),
-    /// The variants of an input.
-    Variants(&'t [Variant]),
-    /// A stop.
-    Stop(u32, Kind),
-    /// The end of the body of a call.
-    Return(u32),
-}
-
-/// A part that is left, and what stands round it.
-#[derive(Clone, Copy)]
-struct Left<'t> {
-    part: Part<'t>,
-    around: Around<'t>,
-}
 
 /// A walk through the tree.
 #[derive(Drop)]
@@ -56,6 +24,10 @@ pub(crate) struct Walk<'t> {
     parts: u32,
     /// How many PROCs may still be declared and looked at.
     looks: u32,
+    /// How many parts of the process are done, as its code has them.
+    done: u32,
+    /// Whether more was evaluated behind the last one that is done.
+    begun: bool,
     /// Whether the way was lost.
     lost: bool,
 }
@@ -70,6 +42,8 @@ impl<'t> Walk<'t> {
             calls: Calls::new(alloc),
             parts,
             looks,
+            done: 0,
+            begun: false,
             lost: false,
         }
     }
@@ -79,16 +53,25 @@ impl<'t> Walk<'t> {
         self.marks.as_slice()
     }
 
-    /// How many stops were found so far.
-    fn met(&self) -> u32 {
-        self.marks.len().min(MOST_MET) as u32
+    /// How many parts of it are done, as its code has them.
+    pub fn done(&self) -> u32 {
+        self.done
     }
 
-    /// The body of this call is gone through.
-    fn leave(&mut self, call: u32) -> Result<(), AllocError> {
-        let behind = self.met();
+    /// One part is done.
+    fn do_part(&mut self) {
+        self.done = self.done.saturating_add(1);
+        self.begun = false;
+    }
+
+    /// The body of this call is gone through: what is evaluated in it comes before the last part that is done, or else behind that.
+    fn leave(&mut self, call: u32) {
+        let behind = if self.begun {
+            self.done
+        } else {
+            self.done.saturating_sub(1)
+        };
         self.calls.leave(call, behind);
-        Ok(())
     }
 
     /// Goes through a process, and answers whether all of it was.
@@ -99,6 +82,8 @@ impl<'t> Walk<'t> {
     ) -> Result<bool, AllocError> {
         self.left.clear();
         self.marks.clear();
+        self.done = 0;
+        self.begun = false;
         self.lost = false;
         self.later(Part::One(process), around)?;
         let mut parts = self.parts;
@@ -126,7 +111,6 @@ impl<'t> Walk<'t> {
         if forks < pars {
             self.marks
                 .retain(|mark| !matches!(mark.branches, Branches::Maybe(_)));
-            self.calls.spread();
         }
     }
 
@@ -147,7 +131,7 @@ impl<'t> Walk<'t> {
         self.later(first, around)
     }
 
-    /// Notes a stop.
+    /// Notes a stop, or where an arm is opened.
     fn mark(
         &mut self,
         line: u32,
@@ -155,6 +139,9 @@ impl<'t> Walk<'t> {
         branches: Branches<'t>,
         around: Around<'t>,
     ) -> Result<(), AllocError> {
+        if !matches!(kind, Kind::Arm) {
+            self.do_part();
+        }
         self.marks.push(Mark {
             line,
             kind,
@@ -175,7 +162,10 @@ impl<'t> Walk<'t> {
             Part::Else(line, options) => self.otherwise(line, options, around),
             Part::Variants(variants) => self.variants(variants, around),
             Part::Stop(line, kind) => self.mark(line, kind, Branches::None, around),
-            Part::Return(call) => self.leave(call),
+            Part::Return(call) => {
+                self.leave(call);
+                Ok(())
+            }
         }
     }
 
@@ -188,6 +178,7 @@ impl<'t> Walk<'t> {
         let mut scope = around.scope;
         for declaration in declarations {
             if let Decl::Item(item) = declaration {
+                self.begun = true;
                 scope = self.declared(item, scope)?;
             }
         }
@@ -268,6 +259,7 @@ impl<'t> Walk<'t> {
                 self.in_turn(Part::Choices(choices), Part::Stop(line, Kind::If), around)
             }
             Stmt::Case(_, options) => {
+                self.begun = true;
                 self.in_turn(Part::Options(options), Part::Else(line, options), around)
             }
             Stmt::While(_, body) => {
@@ -322,7 +314,10 @@ impl<'t> Walk<'t> {
         match action {
             Action::Skip => Ok(()),
             Action::Stop => self.mark(line, Kind::Stop, Branches::None, around),
-            Action::Assign(_, _) => Ok(()),
+            Action::Assign(_, _) => {
+                self.do_part();
+                Ok(())
+            }
             Action::Input(input) => self.input(line, input, around),
             Action::Output(_, _) => self.mark(line, Kind::Output, Branches::None, around),
             Action::Call(name, _) => self.call(line, name.as_slice(), around),
@@ -331,6 +326,7 @@ impl<'t> Walk<'t> {
 
     fn input(&mut self, line: u32, input: &'t Input, around: Around<'t>) -> Result<(), AllocError> {
         self.mark(line, Kind::Input, Branches::None, around)?;
+        self.do_part();
         if has_tag(input) {
             self.mark(line, Kind::Variants, Branches::None, around)?;
         }
@@ -341,8 +337,8 @@ impl<'t> Walk<'t> {
     fn call(&mut self, line: u32, name: &'t [u8], around: Around<'t>) -> Result<(), AllocError> {
         match self.procedures.find(name, around.scope, &mut self.looks) {
             Some(procedure) => {
-                let before = self.met();
-                let call = self.calls.enter(line, procedure, around.call, before)?;
+                let call = self.calls.enter(line, procedure, around.call, self.done)?;
+                self.begun = true;
                 let around = Around {
                     scope: procedure.outer,
                     name: procedure.name,
@@ -375,6 +371,7 @@ impl<'t> Walk<'t> {
             }
             Arm::OnVariant(declarations, line, _, variants) => {
                 let inside = self.inside(declarations, around)?;
+                self.later(Part::Stop(*line, Kind::Arm), inside)?;
                 self.tagged(*line, Part::Variants(variants), inside)
             }
             Arm::InnerAlt(declarations, _, _, arms) => {
@@ -388,7 +385,7 @@ impl<'t> Walk<'t> {
         }
     }
 
-    /// The process of an arm.
+    /// The process of an arm, behind which the code has what opens the arm.
     fn guarded(
         &mut self,
         line: u32,
@@ -396,14 +393,17 @@ impl<'t> Walk<'t> {
         body: &'t Process,
         around: Around<'t>,
     ) -> Result<(), AllocError> {
-        let is_tagged = match guard {
-            Guard::Input(_, input) => has_tag(input),
-            Guard::Skip(_) => false,
-        };
-        if is_tagged {
-            self.tagged(line, Part::One(body), around)
-        } else {
-            self.later(Part::One(body), around)
+        match guard {
+            Guard::Input(_, input) => {
+                self.do_part();
+                self.later(Part::Stop(line, Kind::Arm), around)?;
+                if has_tag(input) {
+                    self.tagged(line, Part::One(body), around)
+                } else {
+                    self.later(Part::One(body), around)
+                }
+            }
+            Guard::Skip(_) => self.later(Part::One(body), around),
         }
     }
 
@@ -483,6 +483,7 @@ impl<'t> Walk<'t> {
     fn variant(&mut self, variant: &'t Variant, around: Around<'t>) -> Result<(), AllocError> {
         let Variant::Tagged(declarations, _, _, _, body) = variant;
         let inside = self.inside(declarations, around)?;
+        self.do_part();
         self.later(Part::One(body), inside)
     }
 }

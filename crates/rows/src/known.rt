@@ -24,6 +24,7 @@ fn stops_in(code: &[Instr<Slot>]) -> usize {
             instruction,
             Instr::Send(_)
                 | Instr::Receive
+                | Instr::OpenInput(_)
                 | Instr::ChooseArm(_, _)
                 | Instr::Fork(_)
                 | Instr::LoopBack(_)

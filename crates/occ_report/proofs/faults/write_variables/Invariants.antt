@@ -6,7 +6,7 @@ abbrev pub invariant-loop-cell : goal.invariant-loop-cell
 invariant-loop-cell l = record {
   few : length l.fn.unfolded.cells ≤ 1048576;
   counted : l.number + length l.rest ≡ length l.fn.unfolded.cells;
-  same : l.out.items ++ variables_text l.held l.frame l.read l.number l.rest ≡ l.fn.out.items ++ variables_text l.held l.frame l.read 0 l.fn.unfolded.cells;
+  same : l.out.items ++ variables_text l.held l.frame l.read l.found l.number l.rest ≡ l.fn.out.items ++ variables_text l.held l.frame l.read l.found 0 l.fn.unfolded.cells;
 }
 
 abbrev pub decreases-loop-cell : goal.decreases-loop-cell
