@@ -80,7 +80,8 @@ abbrev pub with_actual : Option (List ℕ) → (text : List ℕ) → (List ℕ �
 with_actual None text outer = text
 with_actual (Some actual) text outer = outer (replaced actual text)
 
--- What a name stands for where these calls led to, the innermost one first: a formal for its actual, and that outwards in the same way.
+-- What a text stands for where these calls led to, the innermost one first: a formal in its front for the actual, and that outwards in the same way,
+-- up to a name that is no formal by reference.
 abbrev pub stands_for : (source : List ℕ) → List Call → (numbers : List ℕ) → (text : List ℕ) → List ℕ
 stands_for source calls [] text = text
 stands_for source calls (n ∷ ns) text = with_actual (actual_at source (call_at calls n) (name_in_front text)) text (stands_for source calls ns)
@@ -95,7 +96,7 @@ abbrev pub has_name : (inside : Bool) → (name line : List ℕ) → Bool
 has_name inside name [] = false
 has_name inside name (b ∷ bs) = (begins_name inside b && bytes_eq (name_in_front (b ∷ bs)) name) || has_name (is_name_part b) name bs
 
--- whether a variable, or an array of which it is a component, is in front of its name
+-- how much of a name a front may be
 abbrev pub front_end : (front name : List ℕ) → ℕ
 front_end front name = min (length front) (length name)
 
@@ -106,6 +107,7 @@ abbrev pub begins_subscript : List ℕ → Bool
 begins_subscript [] = true
 begins_subscript (b ∷ bs) = nat_eq b 91
 
+-- whether a front is all of a variable's name, or that of an array of which it is a component
 abbrev pub has_front : (front name : List ℕ) → Bool
 has_front front name = bytes_eq (take (front_end front name) name) front && begins_subscript (behind_front front name)
 
