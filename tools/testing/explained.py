@@ -26,7 +26,7 @@ STANDS = re.compile(r"  p\d+ (?P<name>[\w.]+)(?:, line (?P<line>\d+))?: (?P<text
 NAMED = re.compile(r"(?:offers .* on|awaits) (?P<name>[\w.]+)(?:\[\d+\])?(?: \([^ ]*\))?, (?:which|whose)")
 # lines below that of a process
 CALLED = re.compile(r"    called in line (?P<line>\d+)")
-VALUE = re.compile(r"    [\w.]+(?:\[\d+\])* = (?:-?\d+|TRUE|FALSE)")
+VALUE = re.compile(r"    [\w.]+(?:\[\d+\])*(?: \([\w.]+(?:\[\d+\])*\))? = (?:-?\d+|TRUE|FALSE)")
 # which process stands there, and whether it chooses
 WHO = re.compile(r"  (?P<one>p\d+) [^:]*: (?P<chooses>chooses)?")
 LIMIT = "  the limit is reached: --limit N allows more turns, --quantum N makes each longer"

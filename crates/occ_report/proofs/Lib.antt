@@ -3,5 +3,6 @@ pub mod PlaceLines
 pub mod Lines
 pub mod Chains
 pub mod Fronts
+pub mod Reading
 mod Turns
 mod PastReady

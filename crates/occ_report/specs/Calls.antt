@@ -10,7 +10,7 @@ use Rattle.occ_machine.specs.declared.task.Wait.{Wait}
 use Rattle.occ_machine.specs.declared.task.Wait.TheVariants.{Ready, Took, Offers, Awaits, Chooses, Joins, Halted, Done, Faulted}
 use Rattle.occ_text.specs.Words.{LogicalLine, Word, logical_line, mark, name}
 use Rattle.occ_text.specs.declared.token.Sym.TheVariants as signs
-use Rattle.occ_report.specs.Faults.{code_before, is_among}
+use Rattle.occ_report.specs.Evaluating.{code_before, is_among}
 use Rattle.occ_report.specs.declared.calls.Call.{Call}
 use Rattle.occ_report.specs.declared.stop.Stop.{Stop}
 

@@ -1,6 +1,7 @@
 -- Instructions in the middle of an evaluation.
 -- Manual: nothing; this is (own).
-use Rattle.std.specs.Prelude.{Bool, List, None, Option, Some, [], false, true, ℕ, ◌∷◌}
+use Rattle.std.specs.Prelude.{Bool, List, None, Option, Some, [], false, length, min, nat_eq, take, true, ℕ, ◌||◌, ◌∷◌}
+use Rattle.occ_machine.specs.Machine.{Body}
 use Rattle.occ_machine.specs.declared.instr.Instr.{Instr}
 use Rattle.occ_machine.specs.declared.instr.Instr.TheVariants.{Push, Load, LoadAt, LoadLetter, Subscript, Operate, OperateOne, ConvertTo, AndThen, OrElse, PartOne, PartMany, PartText, PartCounted, PartCountedText, SpotOne, SpotCounted}
 
@@ -28,3 +29,11 @@ is_evaluating instruction = false
 abbrev pub as_list : Option ℕ → List ℕ
 as_list None = []
 as_list (Some place) = place ∷ []
+
+abbrev pub is_among : ℕ → List ℕ → Bool
+is_among p [] = false
+is_among p (q ∷ qs) = nat_eq q p || is_among p qs
+
+-- what the code of a body has done before a place
+abbrev pub code_before : Body → ℕ → List (Instr ℕ)
+code_before b p = take (min p (length b.code)) b.code

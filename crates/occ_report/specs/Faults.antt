@@ -1,6 +1,6 @@
 -- What is told of a fault: its line of the source, and the variables that were read there.
 -- Manual: nothing; this is (own).
-use Rattle.std.specs.Prelude.{Bool, List, None, Option, Some, [], codes, false, if◌then◌else◌, length, min, nat_eq, slice_get, take, true, ℕ, ℤ, ◌+◌, ◌++◌, ◌||◌, ◌∷◌}
+use Rattle.std.specs.Prelude.{Bool, List, None, Option, Some, [], codes, if◌then◌else◌, slice_get, ℕ, ℤ, ◌+◌, ◌++◌, ◌||◌, ◌∷◌}
 use Rattle.occ_term.specs.Frames.{Variables, at, place_among}
 use Rattle.occ_term.specs.declared.names.Cell.{Cell}
 use Rattle.occ_machine.specs.Machine.{Body}
@@ -10,9 +10,12 @@ use Rattle.occ_machine.specs.declared.task.Task.{Task}
 use Rattle.occ_machine.specs.declared.task.Wait.{Wait}
 use Rattle.occ_machine.specs.declared.task.Wait.TheVariants.{Ready, Took, Offers, Awaits, Chooses, Joins, Halted, Done, Faulted}
 use Rattle.occ_shown.specs.Answers.{value_text}
+use Rattle.occ_report.specs.Calls.{fault_call}
 use Rattle.occ_report.specs.Components.{components_in}
-use Rattle.occ_report.specs.Evaluating.{as_list, is_evaluating}
+use Rattle.occ_report.specs.Evaluating.{as_list, code_before, is_among, is_evaluating}
+use Rattle.occ_report.specs.Formals.{told_within}
 use Rattle.occ_report.specs.Written.{numbered_line, plain_text, unspaced}
+use Rattle.occ_report.specs.declared.calls.Call.{Call}
 
 -- ---- what was read for an evaluation
 
@@ -31,49 +34,47 @@ reads_in (i ∷ others) read = reads_in others (with_read i read)
 
 -- ---- what is told of it
 
-abbrev pub is_among : ℕ → List ℕ → Bool
-is_among p [] = false
-is_among p (q ∷ qs) = nat_eq q p || is_among p qs
-
-abbrev pub value_line : Cell → ℤ → List ℕ
-value_line c v = codes "    " ++ c.name ++ codes " = " ++ value_text c.primitive v ++ codes "\n"
+-- the value of a variable, by how its name is told
+abbrev pub value_line : (List ℕ → List ℕ) → Cell → ℤ → List ℕ
+value_line told c v = codes "    " ++ told c.name ++ codes " = " ++ value_text c.primitive v ++ codes "\n"
 
 -- whether a variable is at one of these places of what a process holds, or has one of these numbers
 abbrev pub was_read : (held : List ℕ) → (read components : List ℕ) → ℕ → Bool
 was_read held read components n = is_among (place_among held n) read || is_among n components
 
 -- of the variables, the first of which has this number, those that were read
-abbrev pub variables_text : (held : List ℕ) → Variables → (read components : List ℕ) → ℕ → List Cell → List ℕ
-variables_text held f read components n [] = []
-variables_text held f read components n (c ∷ others) =
-    (if was_read held read components n then value_line c (at f n) else []) ++ variables_text held f read components (n + 1) others
+abbrev pub variables_text : (told : List ℕ → List ℕ) → (held : List ℕ) → Variables → (read components : List ℕ) → ℕ → List Cell → List ℕ
+variables_text told held f read components n [] = []
+variables_text told held f read components n (c ∷ others) =
+    (if was_read held read components n then value_line told c (at f n) else []) ++ variables_text told held f read components (n + 1) others
 
--- what the code of a body has done before a place
-abbrev pub code_before : Body → ℕ → List (Instr ℕ)
-code_before b p = take (min p (length b.code)) b.code
+-- how this line tells a variable, in a process of this body that goes through these calls
+abbrev pub told_at : (source : List ℕ) → List Call → Body → (place line : ℕ) → (name : List ℕ) → List ℕ
+told_at source calls b p line name = told_within source calls (fault_call calls (Some b) p line) line name
 
 -- those that were read up to the place where a process of this body stands
-abbrev pub read_text : Body → List Cell → Task → List ℕ
-read_text b cells t = variables_text b.cells t.frame (reads_in (code_before b t.pc) []) (components_in t.frame [] (code_before b t.pc)) 0 cells
+abbrev pub read_text : (source : List ℕ) → List Call → (line : ℕ) → Body → List Cell → Task → List ℕ
+read_text source calls line b cells t =
+    variables_text (told_at source calls b t.pc line) b.cells t.frame (reads_in (code_before b t.pc) []) (components_in t.frame [] (code_before b t.pc)) 0 cells
 
 abbrev pub fault_line : (source : List ℕ) → ℕ → List ℕ
 fault_line source line = codes "    " ++ plain_text (unspaced (numbered_line source line)) ++ codes "\n"
 
-abbrev pub body_text : Option Body → List Cell → Task → List ℕ
-body_text None cells t = []
-body_text (Some b) cells t = read_text b cells t
+abbrev pub body_text : (source : List ℕ) → List Call → (line : ℕ) → Option Body → List Cell → Task → List ℕ
+body_text source calls line None cells t = []
+body_text source calls line (Some b) cells t = read_text source calls line b cells t
 
 -- the lines below that of the process of this number, where it met a fault
-abbrev pub faulted_text : Wait → (source : List ℕ) → List Cell → Option Body → Task → List ℕ
-faulted_text Ready source cells body t = []
-faulted_text (Took arm indices m) source cells body t = []
-faulted_text (Offers c m) source cells body t = []
-faulted_text (Awaits c) source cells body t = []
-faulted_text (Chooses pri arms) source cells body t = []
-faulted_text (Joins ns) source cells body t = []
-faulted_text Halted source cells body t = []
-faulted_text Done source cells body t = []
-faulted_text (Faulted e) source cells body t = fault_line source e.line ++ body_text body cells t
+abbrev pub faulted_text : Wait → (source : List ℕ) → List Call → List Cell → Option Body → Task → List ℕ
+faulted_text Ready source calls cells body t = []
+faulted_text (Took arm indices m) source calls cells body t = []
+faulted_text (Offers c m) source calls cells body t = []
+faulted_text (Awaits c) source calls cells body t = []
+faulted_text (Chooses pri arms) source calls cells body t = []
+faulted_text (Joins ns) source calls cells body t = []
+faulted_text Halted source calls cells body t = []
+faulted_text Done source calls cells body t = []
+faulted_text (Faulted e) source calls cells body t = fault_line source e.line ++ body_text source calls e.line body cells t
 
-abbrev pub fault_told : (source : List ℕ) → List Cell → List Body → ℕ → Task → List ℕ
-fault_told source cells bodies n t = faulted_text t.wait source cells (slice_get bodies n) t
+abbrev pub fault_told : (source : List ℕ) → List Call → List Cell → List Body → ℕ → Task → List ℕ
+fault_told source calls cells bodies n t = faulted_text t.wait source calls cells (slice_get bodies n) t

@@ -1,7 +1,8 @@
 pub mod Located
+pub mod Evaluating
 pub mod Calls
 pub mod Written
-pub mod Evaluating
+pub mod Formals
 pub mod Components
 pub mod Faults
 pub mod Places

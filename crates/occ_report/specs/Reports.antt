@@ -31,7 +31,8 @@ use Rattle.occ_report.specs.declared.stop.Kind.{Kind as Place}
 use Rattle.occ_report.specs.declared.stop.Kind.TheVariants as kinds
 use Rattle.occ_report.specs.declared.stop.Stop.{Stop}
 use Rattle.occ_report.specs.Calls.{calls_text}
-use Rattle.occ_report.specs.Faults.{fault_told, variables_text}
+use Rattle.occ_report.specs.Faults.{fault_told, read_text, variables_text}
+use Rattle.occ_report.specs.Formals.{told_by}
 use Rattle.occ_term.specs.Frames.{Variables}
 use Rattle.occ_report.specs.Places.{Known, arm_opened, calls_of, name_of, stop_of, stops_of}
 use Rattle.occ_report.specs.Written.{channel_told, written_at, written_in_arm}
@@ -44,6 +45,7 @@ use Rattle.occ_net_tables.specs.Holding.{HeldBy}
 use Rattle.occ_ends.specs.declared.uses.ProcessUses.{ProcessUses}
 use Rattle.occ_report.specs.declared.standing.Ends.{Ends as Sides}
 use Rattle.occ_report.specs.declared.standing.Spot.{Spot}
+use Rattle.occ_report.specs.declared.formals.Naming.{Naming}
 use Rattle.occ_report.specs.declared.process_lines.Told.{Told}
 
 -- by channel: the process that may input from it, or that may output to it, of those that are left
@@ -162,7 +164,7 @@ calls_told bodies known n t stop = calls_text (calls_of known n) bodies n stop t
 
 abbrev pub lines_told_at : Names → (readers writers : Noted) → (source : List ℕ) → List Cell → List Body → List Known → ℕ → Task → Option Stop → List ℕ
 lines_told_at names readers writers source cells bodies known n t stop =
-    process_line names readers writers source known n t.wait stop ++ fault_told source cells bodies n t ++ calls_told bodies known n t stop
+    process_line names readers writers source known n t.wait stop ++ fault_told source (calls_of known n) cells bodies n t ++ calls_told bodies known n t stop
 
 -- the line of a process, and those below it
 abbrev pub lines_told : Names → (readers writers : Noted) → (source : List ℕ) → List Cell → List Body → List Known → ℕ → Task → List ℕ
@@ -375,10 +377,13 @@ AddsLines cs ends told n t old new =
     AddsText old new (lines_told (names_of cs) ends.readers.now ends.writers.now told.source.now told.unfolded.now.cells told.code.now.bodies told.places.now n t)
 
 abbrev pub AddsFault : {A : Type 0} → Told → ℕ → Task → (old new : Vec ℕ A) → Type 0
-AddsFault told n t old new = AddsText old new (fault_told told.source.now told.unfolded.now.cells told.code.now.bodies n t)
+AddsFault told n t old new = AddsText old new (fault_told told.source.now (calls_of told.places.now n) told.unfolded.now.cells told.code.now.bodies n t)
 
-abbrev pub AddsVariables : {A : Type 0} → (held : List ℕ) → Variables → (read components : List ℕ) → List Cell → (old new : Vec ℕ A) → Type 0
-AddsVariables held f read components cells old new = AddsText old new (variables_text held f read components 0 cells)
+abbrev pub AddsRead : {A : Type 0} → Told → ℕ → (line : ℕ) → Body → Task → (old new : Vec ℕ A) → Type 0
+AddsRead told n line b t old new = AddsText old new (read_text told.source.now (calls_of told.places.now n) line b told.unfolded.now.cells t)
+
+abbrev pub AddsCells : {A : Type 0} → Naming → (held : List ℕ) → Variables → (read components : List ℕ) → UnfoldedProgram → (old new : Vec ℕ A) → Type 0
+AddsCells naming held f read components program old new = AddsText old new (variables_text (told_by naming) held f read components 0 program.cells)
 
 -- of whatever network the tables hold, the lines of one process, and those of the first so many
 abbrev pub AddsTaskLine : {A : Type 0} → List Channel → Sides → Told → Tables → ℕ → (old new : Vec ℕ A) → Type 0

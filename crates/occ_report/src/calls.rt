@@ -118,7 +118,7 @@ impl Calls {
 }
 
 /// The call of this number.
-fn call_at(calls: &[Call], number: usize) -> Option<Call>
+pub(crate) fn call_at(calls: &[Call], number: usize) -> Option<Call>
     ensures { result ≡ call_at calls.now number }
 {
     let place = number.checked_sub(1)?;
@@ -213,7 +213,11 @@ fn holders(alloc: Global, line: u32, done: usize, calls: &[Call]) -> Result<Vec<
 }
 
 /// The call of this number and those within whose PROCs it stands, innermost first.
-fn outwards(alloc: Global, calls: &[Call], number: usize) -> Result<Vec<usize>, AllocError>
+pub(crate) fn outwards(
+    alloc: Global,
+    calls: &[Call],
+    number: usize,
+) -> Result<Vec<usize>, AllocError>
     ensures { IfOk result (λ found. found.items ≡ outwards (length calls.now) calls.now number) }
 {
     let mut found = Vec::new(alloc);
@@ -271,7 +275,7 @@ fn innermost_call(alloc: Global, calls: &[Call], numbers: &[usize]) -> Result<us
 }
 
 /// The number of the call within whose PROC a process of this body met a fault in this line; 0 where it is none, or it isn't known.
-fn fault_call(
+pub(crate) fn fault_call(
     alloc: Global,
     calls: &[Call],
     body: &Body,

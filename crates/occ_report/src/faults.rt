@@ -1,10 +1,14 @@
 //! What is told of a fault: the line that it stands in, and the values of the variables that were read there.
 ghost use Rattle.std.specs.Prelude.{◌≡◌, [], IfOk, OnOk};
 ghost use Rattle.occ_shown.specs.Answers.{AddsText};
-ghost use Rattle.occ_report.specs.Faults.{code_before, fault_line, is_among, was_read, read_by, reads_in, read_text, value_line, with_read};
-ghost use Rattle.occ_report.specs.Reports.{AddsFault, AddsVariables};
+ghost use Rattle.occ_report.specs.Evaluating.{code_before, is_among};
+ghost use Rattle.occ_report.specs.Faults.{fault_line, was_read, read_by, reads_in, read_text, value_line, with_read};
+ghost use Rattle.occ_report.specs.Formals.{told_by};
+ghost use Rattle.occ_report.specs.Reports.{AddsCells, AddsFault, AddsRead};
 
+use crate::calls::{fault_call, outwards};
 use crate::components::{components_in, is_evaluating};
+use crate::formals::{Naming, write_told};
 use crate::process_lines::Told;
 use crate::source_lines::{numbered_line, plain_text, unspaced};
 use occ_machine::{Body, Instr, Slot, Task, Wait};
@@ -52,13 +56,17 @@ fn reads_in(alloc: Global, code: &[Instr<Slot>]) -> Result<Vec<usize>, AllocErro
 fn write_variable(
     alloc: Global,
     out: &mut Vec<u8>,
+    naming: Naming<'_>,
     cell: &Cell,
     value: i64,
 ) -> Result<(), AllocError>
-    ensures { OnOk result (AddsText out.old out.new (value_line cell.now value)) }
+    ensures { OnOk result
+        (AddsText out.old out.new (value_line (told_by naming.entry) cell.now value)) }
 {
+    let mut name = Vec::new(alloc);
+    cell.name.write(alloc, &mut name)?;
     out.extend_from_slice(b"    ")?;
-    cell.name.write(alloc, out)?;
+    write_told(alloc, out, naming, name.as_slice())?;
     out.extend_from_slice(b" = ")?;
     write_value(out, cell.primitive, value)?;
     out.extend_from_slice(b"\n")
@@ -89,21 +97,22 @@ fn was_read(held: &FrameCells, read: &[usize], found: &[usize], number: u32) -> 
 fn write_variables(
     alloc: Global,
     out: &mut Vec<u8>,
+    line: Naming<'_>,
     held: &FrameCells,
     frame: &Frame,
     read: &[usize],
     found: &[usize],
-    unfolded: &Unfolded,
+    program: &Unfolded,
 ) -> Result<(), AllocError>
-    ensures { OnOk result (AddsVariables
-        held.now frame.now read.now found.now unfolded.now.cells out.old out.new) }
+    ensures { OnOk result (AddsCells line.entry
+        held.now frame.now read.now found.now program.now out.old out.new) }
 {
-    unfolded.well_formed();
+    program.well_formed();
     let mut number: u32 = 0;
-    let mut rest = unfolded.cells();
+    let mut rest = program.cells();
     while let Some((cell, others)) = rest.split_first() {
         if was_read(held, read, found, number) {
-            write_variable(alloc, out, cell, frame.value(number))?;
+            write_variable(alloc, out, line, cell, frame.value(number))?;
         }
         number += 1;
         rest = others;
@@ -124,24 +133,35 @@ pub(crate) fn code_before(body: &Body, place: u32) -> &[Instr<Slot>]
 fn write_read(
     alloc: Global,
     out: &mut Vec<u8>,
+    told: Told<'_>,
+    number: u32,
+    line: u32,
     body: &Body,
-    unfolded: &Unfolded,
     task: &Task,
 ) -> Result<(), AllocError>
-    ensures { OnOk result (AddsText out.old out.new
-        (read_text body.now unfolded.now.cells task.now)) }
+    ensures { OnOk result (AddsRead told.entry number line body.now task.now out.old out.new) }
 {
+    let calls = told.places.calls(number);
+    let call = fault_call(alloc, calls, body, task.pc, line)?;
+    let numbers = outwards(alloc, calls, call)?;
+    let naming = Naming {
+        source: told.source,
+        line: numbered_line(told.source, line),
+        calls,
+        numbers: numbers.as_slice(),
+    };
     let code = code_before(body, task.pc);
     let read = reads_in(alloc, code)?;
     let found = components_in(alloc, &task.frame, code)?;
     write_variables(
         alloc,
         out,
+        naming,
         body.cells(),
         &task.frame,
         read.as_slice(),
         found.as_slice(),
-        unfolded,
+        told.unfolded,
     )
 }
 
@@ -170,7 +190,7 @@ pub(crate) fn write_faulted(
     };
     write_line(alloc, out, told.source, fault.line)?;
     match told.code.body(number as usize) {
-        Some(body) => write_read(alloc, out, body, told.unfolded, task),
+        Some(body) => write_read(alloc, out, told, number, fault.line, body, task),
         None => Ok(()),
     }
 }

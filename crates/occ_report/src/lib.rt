@@ -10,6 +10,7 @@ pub mod calls;
 mod components;
 mod ended;
 mod faults;
+mod formals;
 mod heads;
 mod kinds;
 mod marks;

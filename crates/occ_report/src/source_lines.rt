@@ -67,7 +67,7 @@ pub(crate) fn unspaced(mut line: &[u8]) -> &[u8]
 }
 
 /// Whether a name may have this byte.
-fn is_name_part(byte: u8) -> bool
+pub(crate) fn is_name_part(byte: u8) -> bool
     ensures { result ≡ is_name_part byte }
 {
     byte.is_ascii_alphanumeric() || byte == b'.'
@@ -91,7 +91,7 @@ fn front_length(mut bytes: &[u8]) -> usize
 
 /// The name with which some bytes begin.
 #[tactic(auto, using(crate::proofs::Fronts::front_is))]
-fn name_in_front(bytes: &[u8]) -> &[u8]
+pub(crate) fn name_in_front(bytes: &[u8]) -> &[u8]
     ensures { result.now ≡ name_in_front bytes.now }
 {
     let count = front_length(bytes);
@@ -109,7 +109,7 @@ pub(crate) fn written_at(source: &[u8], stop: Option<Stop>) -> &[u8]
 }
 
 /// Whether a quote or a comment begins with this byte, before these.
-fn hides(byte: u8, rest: &[u8]) -> bool
+pub(crate) fn hides(byte: u8, rest: &[u8]) -> bool
     ensures { result ≡ hides byte rest.now }
 {
     match byte {

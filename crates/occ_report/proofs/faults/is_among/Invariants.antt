@@ -1,5 +1,5 @@
 use Rattle.std.proofs.Common.{◌≡◌, length}
-use Rattle.occ_report.specs.Faults.{is_among}
+use Rattle.occ_report.specs.Evaluating.{is_among}
 use Rattle.occ_report.proofs.faults.is_among.Given as goal
 
 abbrev pub invariant-loop-first : goal.invariant-loop-first
