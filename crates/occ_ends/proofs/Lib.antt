@@ -1,3 +1,4 @@
+pub mod Circles
 pub mod ClosedSets
 pub mod ComingAgain
 pub mod Flagging

@@ -2,6 +2,8 @@
 -- Manual: the usage rules check list, for who may be at the other end of a channel. The rest is (own).
 use Rattle.std.specs.Prelude.{Bool, IsFalse, IsTrue, List, None, Option, Some, [], false, length, map, not, slice_get, true, ℕ, ◌&&◌, ◌+◌, ◌++◌, ◌<◌, ◌^◌, ◌||◌, ◌∷◌, ◌≡◌, ◌≤◌, ◌⊎◌, Vec}
 use Rattle.occ_term.specs.Frames.{is_held}
+use Rattle.occ_term.specs.Processes.{numbered, processes_of}
+use Rattle.occ_term.specs.Terms.{Term}
 use Rattle.occ_term.specs.UnfoldedProgram.{UnfoldedProgram, meaning}
 use Rattle.occ_machine.specs.Compiled.{Program}
 use Rattle.occ_machine.specs.declared.task.Arm.{Arm}
@@ -16,7 +18,7 @@ use Rattle.occ_net_tables.specs.declared.tables.Tables.{Tables}
 use Rattle.occ_usage.specs.Noted.{uses_in}
 use Rattle.occ_ends.specs.declared.kinds.Left.{Left}
 use Rattle.occ_ends.specs.declared.uses.ProcessUses.{ProcessUses}
-use Rattle.occ_term.specs.Uses.{Numbers, Uses}
+use Rattle.occ_term.specs.Uses.{Numbers, Uses, uses_of}
 use Rattle.occ_ends.specs.Ends.{Using, all_using, is_unended, noted_for, task_is}
 use Rattle.occ_ends.specs.Endless.{HeldIn, flag}
 use Rattle.occ_ends.specs.Kinds.{AreThose, HasCircle, IsUnfinished, SomeHalted, is_at_channel}
@@ -75,6 +77,30 @@ abbrev pub ClosedSetsWaitForGood : Type 0
 ClosedSetsWaitForGood =
     (u : UnfoldedProgram) (p : Program) (quantum : ℕ) (keyboard : List ℕ) (cs : List Choice) (net : Net) (most : ℕ) (set : Set)
     → IsReplay u p quantum keyboard cs net → length cs + most < 2 ^ 64 → IsClosedSet (all_using (meaning u)) net.tasks set → WaitForGood p most net set
+
+-- ---- who waits for one another
+
+-- one of the set, with its branches, uses the channel so
+pub record IsUsedWithin (t : Term) (set : Set) (kind : Uses → Numbers) (c : ℕ) : Type 0 where
+  pub number : ℕ
+  pub term : Term
+  pub there : slice_get (processes_of t) number ≡ Some (numbered number term)
+  pub inside : IsTrue (set number)
+  pub uses : IsTrue (kind (uses_of term) c)
+
+-- It stands at a channel. One of the set inputs from that on which it offers a message, and one outputs to each on which it listens.
+pub record WaitsWithin (t : Term) (tasks : Tasks) (set : Set) (n : ℕ) : Type 0 where
+  pub task : Task
+  pub there : HasTask tasks n task
+  pub at : IsTrue (is_at_channel task.wait)
+  pub read : (c : ℕ) → IsTrue (offers_on task.wait c) → IsUsedWithin t set (λ u. u.ins) c
+  pub written : (c : ℕ) → IsTrue (listens_on task.wait c) → IsUsedWithin t set (λ u. u.outs) c
+
+-- Each of the set waits for others of it, as in a circle. By the usage rules nobody outside comes to the other ends of their channels.
+abbrev pub CirclesWaitForGood : Type 0
+CirclesWaitForGood =
+    (u : UnfoldedProgram) (p : Program) (quantum : ℕ) (keyboard : List ℕ) (cs : List Choice) (net : Net) (most : ℕ) (set : Set)
+    → IsReplay u p quantum keyboard cs net → length cs + most < 2 ^ 64 → ((n : ℕ) → IsTrue (set n) → WaitsWithin (meaning u) net.tasks set n) → WaitForGood p most net set
 
 -- ---- the greatest closed set
 

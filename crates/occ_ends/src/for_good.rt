@@ -4,7 +4,7 @@ ghost use Rattle.occ_net_tables.specs.Holding.{HeldBy};
 ghost use Rattle.occ_term.specs.Frames.{is_held};
 ghost use Rattle.occ_usage.specs.Noted.{between, use_of, uses_in};
 ghost use Rattle.occ_ends.specs.Ends.{noted_for};
-ghost use Rattle.occ_ends.specs.ForGood.{AreLeftBy, AreOutWithAll, AreStuckIn, AreWaitingIn, ClearsWithin, ClosedSetsWaitForGood, IsClosedIn, IsGreatestIn, KeepsBeside, KeepsClosed, KeepsWhole, LeftBy, NoneWithin, OutWithAll, TaskLeftBy, amiss_by, arm_used, arms_used, branch_left, reads_outside, some_held, some_left, used_outside, waits_at, writes_outside};
+ghost use Rattle.occ_ends.specs.ForGood.{AreLeftBy, AreOutWithAll, AreStuckIn, AreWaitingIn, CirclesWaitForGood, ClearsWithin, ClosedSetsWaitForGood, IsClosedIn, IsGreatestIn, KeepsBeside, KeepsClosed, KeepsWhole, LeftBy, NoneWithin, OutWithAll, TaskLeftBy, amiss_by, arm_used, arms_used, branch_left, reads_outside, some_held, some_left, used_outside, waits_at, writes_outside};
 ghost use Rattle.occ_ends.specs.Kinds.{AreThoseIn};
 
 use crate::endless::is_flagged;
@@ -19,6 +19,11 @@ use std::alloc::{AllocError, Global};
 /// A closed set of processes waits for good: none of it takes a turn, whatever choices follow.
 pub fn closed_sets_wait_for_good()
     ensures { ClosedSetsWaitForGood }
+{}
+
+/// Processes that wait for one another at channels, as in a circle, wait for good, whatever choices follow.
+pub fn circles_wait_for_good()
+    ensures { CirclesWaitForGood }
 {}
 
 // ---- who is outside a set

@@ -11,6 +11,6 @@ pub mod kinds;
 pub mod uses;
 
 pub use ends::{Ends, ends_of};
-pub use for_good::{closed_sets_wait_for_good, stuck_in, waiting_in};
+pub use for_good::{circles_wait_for_good, closed_sets_wait_for_good, stuck_in, waiting_in};
 pub use kinds::{Kind, Left, kind_in, left_in};
 pub use uses::{ProcessUses, process_uses};
