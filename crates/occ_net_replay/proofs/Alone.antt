@@ -1,5 +1,5 @@
 -- A turn that ends at an offer, at an input, at a choice or at a fork.
-use Rattle.std.proofs.Common.{◌≡◌, ◌∙◌, refl, sym, ap, subst, false, IsTrue, ℕ, ℤ, zero, suc, ◌+◌, ◌<◌, ◌≤◌, ◌⊎◌, inl, inr, List, [], ◌∷◌, Option, Some, None, length, arith}
+use Rattle.std.proofs.Common.{◌≡◌, ◌∙◌, refl, sym, ap, subst, Bool, true, false, IsTrue, ℕ, ℤ, zero, suc, ◌+◌, ◌<◌, ◌≤◌, ◌⊎◌, inl, inr, List, [], ◌∷◌, Option, Some, None, length, arith}
 use Rattle.std.specs.Prelude.{All, slice_get, nat_eq, map}
 use Rattle.std.proofs.lemmas.Bool.{eq-eqb, eqb-true}
 use Rattle.std.proofs.lemmas.Option.{slice_get_within}
@@ -10,7 +10,7 @@ use Rattle.occ_term.specs.declared.primitive.Primitive.TheVariants.{Byte}
 use Rattle.occ_term.specs.declared.protocol.Protocol.{Protocol}
 use Rattle.occ_term.specs.declared.protocol.Protocol.TheVariants.{Simple}
 use Rattle.occ_term.specs.Frames.{is_held}
-use Rattle.occ_term.specs.Processes.{Numbered, numbered}
+use Rattle.occ_term.specs.Processes.{Numbered, numbered, processes_of}
 use Rattle.occ_term.specs.Selecting.{Enabled, SkipArm, InputArm}
 use Rattle.occ_term.specs.StepUses.{uses_of_left, uses_of_contexts, uses_of_all, uses_of_enabled, uses_of_settings}
 use Rattle.occ_term.specs.Steps.{Offering, Awaiting, Choosing, Forking, Context, Left, left}
@@ -18,7 +18,7 @@ use Rattle.occ_term.specs.System.{Processes, no_processes, System}
 use Rattle.occ_term.specs.TermTyping.{Declared}
 use Rattle.occ_term.specs.Terms.{Term, Branches, no_branches, and_branch, Reception}
 use Rattle.occ_term.specs.TypedSteps.{LeftHas, EnabledHave}
-use Rattle.occ_term.specs.UnfoldedProgram.{UnfoldedProgram}
+use Rattle.occ_term.specs.UnfoldedProgram.{UnfoldedProgram, meaning}
 use Rattle.occ_term.specs.Uses.{uses_of, uses_of_reception}
 use Rattle.occ_machine.specs.SameStop.{AreAbove, IsRising, SameArms, SameStop, numbers_of}
 use Rattle.occ_machine.specs.Alike.{Alike}
@@ -33,7 +33,7 @@ use Rattle.occ_net_replay.specs.Replay.{Net, HasTask, may_go}
 use Rattle.occ_net_replay.specs.Waiting.{IsReplay, IsTurn, TurnsAreFew, OffersAlone, TurnsOfferAlone, and_channel, channels_of, listens_on, ListensAlone, TurnsListenAlone, TurnsNeverTake, ForksAlone, TurnsForkAlone}
 use Rattle.occ_net_replay.specs.Moments.{Among, Quiet, below}
 use Rattle.occ_net_replay.proofs.Beside.{ChannelsApart, Related, are_one, is_inside, is_around, are_beside, related}
-use Rattle.occ_net_replay.proofs.Holding.{Belongs, Stands, Own, branches_placed}
+use Rattle.occ_net_replay.proofs.Holding.{Belongs, Stands, Own, branches_placed, one_term}
 use Rattle.occ_net_replay.proofs.Joining.{JoinsAs, joins_as}
 use Rattle.occ_net_replay.proofs.Law.{d, procs, keyboard_protocol, belongs, all_followed}
 use Rattle.occ_net_replay.proofs.Parents.{number_within, not_inside}
@@ -118,6 +118,23 @@ none_among {n = n} {own = own} {ps = ps} e x = absurd_none (subst (Among n own p
 
 one_body : {a b : Body} → Some a ≡ Some b → a ≡ b
 one_body e = cc
+
+-- it offers a message, awaits one, or chooses
+abbrev pub stands_at_channel : Wait → Bool
+stands_at_channel W.Ready = false
+stands_at_channel (W.Took arm is m) = false
+stands_at_channel (W.Offers c m) = true
+stands_at_channel (W.Awaits c) = true
+stands_at_channel (W.Chooses pri arms) = true
+stands_at_channel (W.Joins ns) = false
+stands_at_channel W.Halted = false
+stands_at_channel W.Done = false
+stands_at_channel (W.Faulted e) = false
+
+-- a stop that is no input from a channel from which the term inputs, and no output to one to which it outputs
+pub record OtherEnds (v : Term) (w : Wait) : Type 0 where
+  pub ins : (c : ℕ) → IsTrue (listens_on w c) → IsTrue ((uses_of v).ins c) → ⊥
+  pub outs : (c : ℕ) (x : Message) → w ≡ W.Offers c x → IsTrue ((uses_of v).outs c) → ⊥
 
 not_done : {w v : Wait} → w ≡ v → w ≡ W.Done → v ≡ W.Done
 not_done e f = sym e ∙ f
@@ -235,6 +252,51 @@ module _ (d : Declared) (p : Program) (procs : List Numbered) (protocol : d.prot
           let y = hears i c t h t.wait refl w in
           let a = apart_from i t t.wait h refl y.still y.undone y.live y.none in
           a.ins c (r.uses.ins c ins) y.ins
+
+  -- ---- a process that stands at a channel
+
+  -- it waits, and has no branches now
+  record StandsAt (i : ℕ) (t : Task) : Type 0 where
+    live : Live d p procs 1 net.tasks f.proc f.store i t
+    none : live.branches ≡ no_processes
+    still : may_go t.wait ≡ false
+    undone : t.wait ≡ W.Done → ⊥
+
+  stands_at : (i : ℕ) (t : Task) → HasTask net.tasks i t → (w : Wait) → t.wait ≡ w → IsTrue (stands_at_channel w) → StandsAt i t
+  stands_at i t h W.Ready e q = absurd (true≢false (sym q))
+  stands_at i t h (W.Took arm is v) e q = absurd (true≢false (sym q))
+  stands_at i t h (W.Offers k v) e q =
+      let undone : t.wait ≡ W.Done → ⊥ = (λ z. let r : W.Offers k v ≡ W.Done = sym e ∙ z in cc) in
+      let y = live_at d p procs 1 net.tasks f.proc f.store i t f.state h undone in
+      let g = gives_as d p procs 1 y.mine.belongs.body t y.own y.branches y.mine.but k v (subst (λ z. Stands d p procs 1 y.mine.belongs.body z y.own y.branches y.mine.but) y.same y.mine.stands) e in
+      record { live = y; none = g.none; still = ap may_go e; undone = undone }
+  stands_at i t h (W.Awaits k) e q =
+      let undone : t.wait ≡ W.Done → ⊥ = (λ z. let r : W.Awaits k ≡ W.Done = sym e ∙ z in cc) in
+      let y = live_at d p procs 1 net.tasks f.proc f.store i t f.state h undone in
+      let g = gets_as d p procs 1 y.mine.belongs.body t y.own y.branches y.mine.but k (subst (λ z. Stands d p procs 1 y.mine.belongs.body z y.own y.branches y.mine.but) y.same y.mine.stands) e in
+      record { live = y; none = g.none; still = ap may_go e; undone = undone }
+  stands_at i t h (W.Chooses pri arms) e q =
+      let undone : t.wait ≡ W.Done → ⊥ = (λ z. let r : W.Chooses pri arms ≡ W.Done = sym e ∙ z in cc) in
+      let y = live_at d p procs 1 net.tasks f.proc f.store i t f.state h undone in
+      let g = chooses_as d p procs 1 y.mine.belongs.body t y.own y.branches y.mine.but pri arms (subst (λ z. Stands d p procs 1 y.mine.belongs.body z y.own y.branches y.mine.but) y.same y.mine.stands) e in
+      record { live = y; none = g.none; still = ap may_go e; undone = undone }
+  stands_at i t h (W.Joins ns) e q = absurd (true≢false (sym q))
+  stands_at i t h W.Halted e q = absurd (true≢false (sym q))
+  stands_at i t h W.Done e q = absurd (true≢false (sym q))
+  stands_at i t h (W.Faulted x) e q = absurd (true≢false (sym q))
+
+  -- the turn of another process ends at other ends than those that it uses
+  pub other_ends : (i : ℕ) (t : Task) → HasTask net.tasks i t → IsTrue (stands_at_channel t.wait) → (v : Term) → slice_get procs i ≡ Some (numbered i v) → OtherEnds v after.wait
+  other_ends i t h q v entry =
+      let x = stands_at i t h t.wait refl q in
+      let a = apart_from i t t.wait h refl x.still x.undone x.live x.none in
+      let same : x.live.mine.belongs.term ≡ v = one_term (sym x.live.mine.belongs.entry ∙ entry) in
+      record {
+        ins = λ c g e. a.ins c (r.uses.ins c (listener c after.wait refl g).ins) (subst (λ z. IsTrue ((uses_of z).ins c)) (sym same) e);
+        outs = λ c u g e.
+            let z = at_wait (W.Offers c u) g in
+            a.outs c (r.uses.outs c (subst (λ k. IsTrue ((uses_of_left k).outs c)) (sym z.1) (output_on c u z.0))) (subst (λ z. IsTrue ((uses_of z).outs c)) (sym same) e);
+      }
 
   pub never_takes : (arm : ℕ) (is : List ℤ) (x : Option Message) → after.wait ≡ W.Took arm is x → ⊥
   never_takes arm is x e = at_wait (W.Took arm is x) e
@@ -355,3 +417,11 @@ turns_fork_alone u p quantum kb cs net n after ns z o e =
     let x = all_followed u p quantum kb z.well_formed z.lawful z.compiled z.bytes cs net 1 z.few z.replays in
     forks_alone (d u p quantum kb z.well_formed z.lawful z.compiled z.bytes) p (procs u p quantum kb z.well_formed z.lawful z.compiled z.bytes) (keyboard_protocol u z.well_formed) quantum z.compiled.quanta
     (belongs u p quantum kb z.well_formed z.lawful z.compiled z.bytes) net x.now x.follows n after o ns e
+
+-- where a process stands at a channel, the turns of others end at other ends than those that it uses
+pub others_use_other_ends : (u : UnfoldedProgram) (p : Program) (quantum : ℕ) (kb : List ℕ) (cs : List Choice) (net : Net) → IsReplay u p quantum kb cs net → (n : ℕ) (after : Task) → IsTurn p net.tasks n after → (i : ℕ) (t : Task) → HasTask net.tasks i t → IsTrue (stands_at_channel t.wait) → (v : Term)
+    → slice_get (processes_of (meaning u)) i ≡ Some (numbered i v) → OtherEnds v after.wait
+others_use_other_ends u p quantum kb cs net z n after o i t h q v entry =
+    let x = all_followed u p quantum kb z.well_formed z.lawful z.compiled z.bytes cs net 1 z.few z.replays in
+    other_ends (d u p quantum kb z.well_formed z.lawful z.compiled z.bytes) p (procs u p quantum kb z.well_formed z.lawful z.compiled z.bytes) (keyboard_protocol u z.well_formed) quantum z.compiled.quanta
+    (belongs u p quantum kb z.well_formed z.lawful z.compiled z.bytes) net x.now x.follows n after o i t h q v entry
