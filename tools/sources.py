@@ -2,10 +2,17 @@
 import pathlib
 import shutil
 import subprocess
+import sys
 
 TOP = pathlib.Path(__file__).resolve().parent.parent
 # what stands beside the sources of a crate and is neither proved nor built with them
 LEFT_OUT = shutil.ignore_patterns("out", "must-fail", "wrong")
+
+
+def need_kit():
+    """Ends the program where the kit is not there."""
+    if not shutil.which("rt"):
+        sys.exit("there is no rt: put the Rattle kit on the PATH")
 
 
 def read_crates():
