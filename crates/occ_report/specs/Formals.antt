@@ -1,13 +1,15 @@
 -- What the formals by reference of PROCs stand for, by the words of the lines of PROCs and of calls.
 -- Manual: formals and actuals, and the scope of a name.
-use Rattle.std.specs.Prelude.{Bool, List, None, Option, Some, [], bytes_eq, codes, false, if◌then◌else◌, length, nat_abs, nat_eq, nat_lt, not, option_map, slice_get, true, ℕ, ◌&&◌, ◌++◌, ◌-◌, ◌||◌, ◌∷◌}
+use Rattle.std.specs.Prelude.{Bool, List, None, Option, Some, [], bytes_eq, codes, false, if◌then◌else◌, length, nat_abs, nat_eq, nat_lt, not, option_map, slice_get, true, Vec, ℕ, ◌&&◌, ◌++◌, ◌-◌, ◌||◌, ◌∷◌}
+use Rattle.std.specs.Borrow.{Bor}
 use Rattle.std.specs.Fmt.{decimal}
 use Rattle.std.specs.List.{list_any}
 use Rattle.std.specs.Option.{option_map_or}
 use Rattle.occ_text.specs.Spelling.{is_name_part}
-use Rattle.occ_text.specs.Words.{LogicalLine, Word, key, lit, logical_line, mark, name, number}
+use Rattle.occ_text.specs.Words.{LogicalLine, Word, key, lit, logical_line, mark, name, number, words}
 use Rattle.occ_text.specs.declared.token.Key.TheVariants as keys
 use Rattle.occ_text.specs.declared.token.Sym.TheVariants as signs
+use Rattle.occ_text.specs.declared.token.Token.{Token}
 use Rattle.occ_report.specs.Calls.{call_at, has_line}
 use Rattle.occ_report.specs.Written.{name_in_front}
 use Rattle.occ_report.specs.declared.calls.Call.{Call}
@@ -86,13 +88,13 @@ abbrev pub actual_text : List Word → List ℕ
 actual_text (name x ∷ ws) = subscripts_text x ws
 actual_text ws = []
 
-abbrev pub actuals_in : List Word → List Word
-actuals_in (proc ∷ paren ∷ ws) = ws
-actuals_in ws = []
+abbrev pub call_actuals : List Word → List Word
+call_actuals (proc ∷ paren ∷ ws) = ws
+call_actuals ws = []
 
 -- the actual of the formal by reference of this name of a call
 abbrev pub actual_at : List LogicalLine → Call → (own : List ℕ) → Option (List ℕ)
-actual_at lines c own = option_map actual_text (actual_for own false (line_words lines c.first) (actuals_in (line_words lines c.line)))
+actual_at lines c own = option_map actual_text (actual_for own false (line_words lines c.first) (call_actuals (line_words lines c.line)))
 
 -- whether it isn't known for what a text stands: for which component of an array, or for anything
 abbrev pub is_unsure : List ℕ → Bool
@@ -107,11 +109,10 @@ is_declaring (key keys.Proc) = true
 is_declaring (key keys.For) = true
 is_declaring w = false
 
--- whether these words may stand there behind a name that is declared
+-- whether these words may stand there behind a variable, a value, an index or a formal that is declared
 abbrev pub follow_declared : List Word → Bool
 follow_declared (key keys.Is ∷ ws) = true
 follow_declared (mark signs.Equal ∷ ws) = true
-follow_declared (mark signs.OpenParen ∷ ws) = true
 follow_declared ws = ends_element ws
 
 abbrev pub is_declared : (own : List ℕ) → Word → List Word → Bool
@@ -156,3 +157,11 @@ outside lines (Some c) at = at_call c (meant_by lines c at.0 (name_in_front at.1
 abbrev pub stands_for : List LogicalLine → List Call → (numbers : List ℕ) → ℕ × List ℕ → List ℕ
 stands_for lines calls [] at = at.1
 stands_for lines calls (n ∷ ns) at = stands_for lines calls ns (outside lines (call_at calls n) at)
+
+-- ---- of what code has; private contracts alone cite it
+
+abbrev pub text_found : {A : Type 0} → Option (Vec ℕ A) → Option (List ℕ)
+text_found found = option_map (λ v. v.items) found
+
+abbrev pub lent_words : Option (Bor (List Token)) → Option (List Word)
+lent_words found = option_map (λ tokens. words tokens.now) found

@@ -53,12 +53,7 @@ fn reads_in(alloc: Global, code: &[Instr<Slot>]) -> Result<Vec<usize>, AllocErro
 }
 
 /// A variable, as it is told, and its value; nothing of one that is left out.
-fn write_told(
-    out: &mut Vec<u8>,
-    name: &[u8],
-    cell: &Cell,
-    value: i64,
-) -> Result<(), AllocError>
+fn write_told(out: &mut Vec<u8>, name: &[u8], cell: &Cell, value: i64) -> Result<(), AllocError>
     ensures { OnOk result (AddsText out.old out.new (told_value name.now cell.now value)) }
 {
     if name.is_empty() {

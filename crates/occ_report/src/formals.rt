@@ -1,10 +1,10 @@
 //! What the formals by reference of PROCs stand for, by the words of the lines of PROCs and of calls.
-ghost use Rattle.std.specs.Prelude.{◌≡◌, false, IfOk, option_map};
+ghost use Rattle.std.specs.Prelude.{◌≡◌, false, IfOk};
 ghost use Rattle.std.specs.List.{list_any};
 ghost use Rattle.occ_text.specs.Words.{logical_lines, word, words};
-ghost use Rattle.occ_report.specs.Formals.{actual_at, actual_for, actual_text, actuals_in, begins_with_close, begins_with_name, behind_comma, behind_name, declares_between, declares_name, ends_element, ends_with, follow_declared, is_by_value, is_comma, is_declared, is_declaring, is_unsure, line_words, meant_by, next_actuals, number_bytes, outside, stands_for, subscript_bytes, subscripts_text, with_actual};
+ghost use Rattle.occ_report.specs.Formals.{actual_at, actual_for, actual_text, call_actuals, begins_with_close, begins_with_name, behind_comma, behind_name, declares_between, declares_name, ends_element, ends_with, follow_declared, is_by_value, is_comma, is_declared, is_declaring, is_unsure, line_words, meant_by, next_actuals, number_bytes, outside, subscript_bytes, subscripts_text, text_found, with_actual, lent_words};
 
-use crate::calls::{Call, call_at, has_line};
+use crate::calls::{Call, has_line};
 use crate::source_lines::{is_name_part, name_in_front};
 use occ_text::{Key, Line, Sym, Token};
 use std::alloc::{AllocError, Global};
@@ -91,7 +91,7 @@ fn next_actuals<'a>(token: &Token, actuals: &'a [Token]) -> &'a [Token]
 
 /// The words from the actual on of the formal by reference of this name.
 fn actual_for<'a>(own: &[u8], formals: &[Token], actuals: &'a [Token]) -> Option<&'a [Token]>
-    ensures { option_map (λ a. words a.now) result
+    ensures { lent_words result
         ≡ actual_for own.now false (words formals.now) (words actuals.now) }
 {
     let mut value = false;
@@ -116,7 +116,7 @@ fn begins_with_close(tokens: &[Token]) -> bool
 
 /// The bytes of a number, if a subscript ends behind it.
 fn number_bytes(alloc: Global, number: u32, rest: &[Token]) -> Result<Option<Vec<u8>>, AllocError>
-    ensures { IfOk result (λ bytes. option_map (λ v. v.items) bytes
+    ensures { IfOk result (λ bytes. text_found bytes
         ≡ number_bytes number (words rest.now)) }
 {
     if begins_with_close(rest) {
@@ -134,7 +134,7 @@ fn subscript_bytes(
     token: &Token,
     rest: &[Token],
 ) -> Result<Option<Vec<u8>>, AllocError>
-    ensures { IfOk result (λ bytes. option_map (λ v. v.items) bytes
+    ensures { IfOk result (λ bytes. text_found bytes
         ≡ subscript_bytes (word token.now) (words rest.now)) }
 {
     match token {
@@ -172,8 +172,8 @@ fn actual_text(alloc: Global, tokens: &[Token]) -> Result<Vec<u8>, AllocError>
 }
 
 /// The actuals of a line that is a call.
-fn actuals_in(tokens: &[Token]) -> &[Token]
-    ensures { words result.now ≡ actuals_in (words tokens.now) }
+fn call_actuals(tokens: &[Token]) -> &[Token]
+    ensures { words result.now ≡ call_actuals (words tokens.now) }
 {
     match tokens {
         [_, _, rest @ ..] => rest,
@@ -188,11 +188,11 @@ pub(crate) fn actual_at(
     call: Call,
     own: &[u8],
 ) -> Result<Option<Vec<u8>>, AllocError>
-    ensures { IfOk result (λ a. option_map (λ v. v.items) a
+    ensures { IfOk result (λ a. text_found a
         ≡ actual_at (logical_lines lines.now) call own.now) }
 {
     let formals = line_words(lines, call.first);
-    let actuals = actuals_in(line_words(lines, call.line));
+    let actuals = call_actuals(line_words(lines, call.line));
     match actual_for(own, formals, actuals) {
         Some(actual) => Ok(Some(actual_text(alloc, actual)?)),
         None => Ok(None),
@@ -237,8 +237,7 @@ fn follow_declared(tokens: &[Token]) -> bool
     ensures { result ≡ follow_declared (words tokens.now) }
 {
     match tokens {
-        [Token::Key(Key::Is), ..] => true,
-        [Token::Sym(Sym::Equal | Sym::OpenParen), ..] => true,
+        [Token::Key(Key::Is) | Token::Sym(Sym::Equal), ..] => true,
         _ => ends_element(tokens),
     }
 }
@@ -291,7 +290,7 @@ fn meant_by(
     line: u32,
     own: &[u8],
 ) -> Result<Option<Vec<u8>>, AllocError>
-    ensures { IfOk result (λ a. option_map (λ v. v.items) a
+    ensures { IfOk result (λ a. text_found a
         ≡ meant_by (logical_lines lines.now) call line own.now) }
 {
     if !has_line(line, &call) {
@@ -332,7 +331,7 @@ fn with_actual(actual: Vec<u8>, text: &[u8]) -> Result<Vec<u8>, AllocError>
 }
 
 /// A text, and the line in which it stands, as outside of the PROC of a call.
-fn outside(
+pub(crate) fn outside(
     alloc: Global,
     lines: &[Line],
     call: Option<Call>,
@@ -349,28 +348,4 @@ fn outside(
         Some(actual) => Ok((call.line, with_actual(actual, text.as_slice())?)),
         None => Ok((line, text)),
     }
-}
-
-/// What a name stands for in a line to which these calls led, the innermost one first.
-pub(crate) fn stands_for(
-    alloc: Global,
-    lines: &[Line],
-    calls: &[Call],
-    numbers: &[usize],
-    line: u32,
-    name: &[u8],
-) -> Result<Vec<u8>, AllocError>
-    ensures { IfOk result (λ v. v.items
-        ≡ stands_for (logical_lines lines.now) calls.now numbers.now (line, name.now)) }
-{
-    let mut at = line;
-    let mut text = Vec::from_slice(alloc, name)?;
-    let mut rest = numbers;
-    while let Some((number, others)) = rest.split_first() {
-        let (next, meant) = outside(alloc, lines, call_at(calls, *number), at, text)?;
-        at = next;
-        text = meant;
-        rest = others;
-    }
-    Ok(text)
 }

@@ -1,13 +1,11 @@
 //! How variables are told by the names in a line.
-ghost use Rattle.std.specs.Prelude.{◌≡◌, IfOk, OnOk, option_map};
-ghost use Rattle.std.specs.List.{list_any};
+ghost use Rattle.std.specs.Prelude.{◌≡◌, IfOk, OnOk};
 ghost use Rattle.occ_text.specs.Words.{logical_lines, word, words};
 ghost use Rattle.occ_shown.specs.Answers.{AddsText};
-ghost use Rattle.occ_report.specs.Calls.{call_at};
-ghost use Rattle.occ_report.specs.Naming.{all_same, begins_subscript, behind_front, if_all_same, keeps_subscript, may_be_kept, may_mean, meaning_by, name_of_word, names_it, only_name, told_as, told_by, told_by_name};
+ghost use Rattle.occ_report.specs.Naming.{all_same, begins_subscript, behind_front, if_same, keeps_subscript, may_be_kept, may_mean, means, lent, name_of_word, names_it, one_keeps, only_name, told_as, told_by, by_name};
 
 use crate::calls::{Call, call_at, outwards};
-use crate::formals::{actual_at, is_unsure, line_words, stands_for};
+use crate::formals::{actual_at, is_unsure, line_words, outside};
 use occ_text::{Line, Token};
 use std::alloc::{AllocError, Global};
 
@@ -50,16 +48,19 @@ fn may_mean(text: &[u8], own: &[u8]) -> bool
 
 /// What a name in the line stands for.
 fn meaning(alloc: Global, naming: Naming<'_>, name: &[u8]) -> Result<Vec<u8>, AllocError>
-    ensures { IfOk result (λ v. v.items ≡ meaning_by naming.entry name.now) }
+    ensures { IfOk result (λ v. v.items ≡ means naming.entry name.now) }
 {
-    stands_for(
-        alloc,
-        naming.lines,
-        naming.calls,
-        naming.numbers,
-        naming.line,
-        name,
-    )
+    let mut line = naming.line;
+    let mut text = Vec::from_slice(alloc, name)?;
+    let mut rest = naming.numbers;
+    while let Some((number, others)) = rest.split_first() {
+        let call = call_at(naming.calls, *number);
+        let (next, meant) = outside(alloc, naming.lines, call, line, text)?;
+        line = next;
+        text = meant;
+        rest = others;
+    }
+    Ok(text)
 }
 
 /// Whether a word may name the variable of this name.
@@ -70,7 +71,7 @@ fn names_it(
     token: &Token,
 ) -> Result<bool, AllocError>
     ensures { IfOk result
-        (λ b. b ≡ names_it (meaning_by naming.entry) own.now (word token.now)) }
+        (λ b. b ≡ names_it (means naming.entry) own.now (word token.now)) }
 {
     match token {
         Token::Name(name) => {
@@ -100,7 +101,7 @@ fn all_same(
     tokens: &[Token],
 ) -> Result<bool, AllocError>
     ensures { IfOk result
-        (λ b. b ≡ all_same (meaning_by naming.entry) own.now name.now (words tokens.now)) }
+        (λ b. b ≡ all_same (means naming.entry) own.now name.now (words tokens.now)) }
 {
     let mut rest = tokens;
     while let [token, others @ ..] = rest {
@@ -113,15 +114,15 @@ fn all_same(
 }
 
 /// The name itself, if each of these words that may name a variable is this name.
-fn if_all_same<'a>(
+fn if_same<'a>(
     alloc: Global,
     naming: Naming<'_>,
     own: &[u8],
     name: &'a [u8],
     tokens: &[Token],
 ) -> Result<Option<&'a [u8]>, AllocError>
-    ensures { IfOk result (λ found. option_map (λ x. x.now) found
-        ≡ if_all_same (meaning_by naming.entry) own.now name.now (words tokens.now)) }
+    ensures { IfOk result (λ x. lent x
+        ≡ if_same (means naming.entry) own.now name.now (words tokens.now)) }
 {
     if all_same(alloc, naming, own, name, tokens)? {
         Ok(Some(name))
@@ -137,13 +138,13 @@ fn only_name<'a>(
     own: &[u8],
     tokens: &'a [Token],
 ) -> Result<Option<&'a [u8]>, AllocError>
-    ensures { IfOk result (λ found. option_map (λ x. x.now) found
-        ≡ only_name (meaning_by naming.entry) own.now (words tokens.now)) }
+    ensures { IfOk result (λ x. lent x
+        ≡ only_name (means naming.entry) own.now (words tokens.now)) }
 {
     let mut rest = tokens;
     while let [token, others @ ..] = rest {
         if names_it(alloc, naming, own, token)? {
-            return if_all_same(alloc, naming, own, name_of_word(token), others);
+            return if_same(alloc, naming, own, name_of_word(token), others);
         }
         rest = others;
     }
@@ -151,12 +152,7 @@ fn only_name<'a>(
 }
 
 /// A variable by a name with this meaning.
-fn write_as(
-    out: &mut Vec<u8>,
-    name: &[u8],
-    meaning: &[u8],
-    own: &[u8],
-) -> Result<(), AllocError>
+fn write_as(out: &mut Vec<u8>, name: &[u8], meaning: &[u8], own: &[u8]) -> Result<(), AllocError>
     ensures { OnOk result (AddsText out.old out.new (told_as name.now meaning.now own.now)) }
 {
     if name == meaning || is_unsure(meaning) {
@@ -178,7 +174,7 @@ fn write_by_name(
     found: Option<&[u8]>,
 ) -> Result<(), AllocError>
     ensures { OnOk result (AddsText out.old out.new
-        (told_by_name (meaning_by naming.entry) own.now (option_map (λ x. x.now) found.entry))) }
+        (by_name (means naming.entry) own.now (lent found.entry))) }
 {
     match found {
         Some(name) => {
@@ -216,7 +212,7 @@ fn one_keeps(
     numbers: &[usize],
 ) -> Result<bool, AllocError>
     ensures { IfOk result (λ b. b
-        ≡ list_any (λ m. keeps_subscript (logical_lines lines.now) own.now (call_at calls.now m)) numbers.now) }
+        ≡ one_keeps (logical_lines lines.now) calls.now own.now numbers.now) }
 {
     let mut rest = numbers;
     while let Some((number, others)) = rest.split_first() {
@@ -251,11 +247,7 @@ fn may_be_kept(
 }
 
 /// A variable of this name, as the line tells it; nothing if it is left out.
-pub(crate) fn told(
-    alloc: Global,
-    naming: Naming<'_>,
-    own: &[u8],
-) -> Result<Vec<u8>, AllocError>
+pub(crate) fn told(alloc: Global, naming: Naming<'_>, own: &[u8]) -> Result<Vec<u8>, AllocError>
     ensures { IfOk result (λ v. v.items ≡ told_by naming.entry own.now) }
 {
     let mut out = Vec::new(alloc);
