@@ -82,9 +82,13 @@ parts_done (i ∷ others) = (if is_last i then 1 else 0) + parts_done others
 abbrev pub parts_before : Body → ℕ → ℕ
 parts_before b p = parts_done (code_before b p)
 
--- whether the PROC of a call has this line, and something of its body may be evaluated where so many parts are done
+-- whether the PROC of a call has this line
+abbrev pub has_line : (line : ℕ) → Call → Bool
+has_line line c = nat_le c.first line && nat_le line c.last
+
+-- the same, and something of its body may be evaluated where so many parts are done
 abbrev pub may_hold : (line done : ℕ) → Call → Bool
-may_hold line done c = nat_le c.first line && nat_le line c.last && nat_le c.before done && nat_le done c.behind
+may_hold line done c = has_line line c && nat_le c.before done && nat_le done c.behind
 
 -- the numbers of the calls that may, the first of which has this number
 abbrev pub holders : (line done n : ℕ) → List Call → List ℕ
@@ -103,10 +107,14 @@ last_number n (m ∷ ms) = last_number m ms
 abbrev pub innermost_call : List Call → List ℕ → ℕ
 innermost_call calls ns = if are_among ns (outwards (length calls) calls (last_number 0 ns)) then last_number 0 ns else 0
 
+-- those that may hold a fault in this line, at this place of the code
+abbrev pub fault_holders : List Call → Body → (place line : ℕ) → List ℕ
+fault_holders calls b p line = holders line (parts_before b p) 1 calls
+
 -- The innermost call whose PROC has a fault in this line, at this place of the code; 0 where there is none, or more than one may be meant.
 abbrev pub fault_call : List Call → Option Body → (place line : ℕ) → ℕ
 fault_call calls None p line = 0
-fault_call calls (Some b) p line = innermost_call calls (holders line (parts_before b p) 1 calls)
+fault_call calls (Some b) p line = innermost_call calls (fault_holders calls b p line)
 
 abbrev pub stop_call : Option Stop → ℕ
 stop_call None = 0

@@ -10,10 +10,11 @@ use Rattle.occ_machine.specs.declared.task.Task.{Task}
 use Rattle.occ_machine.specs.declared.task.Wait.{Wait}
 use Rattle.occ_machine.specs.declared.task.Wait.TheVariants.{Ready, Took, Offers, Awaits, Chooses, Joins, Halted, Done, Faulted}
 use Rattle.occ_shown.specs.Answers.{value_text}
-use Rattle.occ_report.specs.Calls.{fault_call}
+use Rattle.occ_text.specs.Words.{LogicalLine}
+use Rattle.occ_report.specs.Calls.{fault_holders}
 use Rattle.occ_report.specs.Components.{components_in}
 use Rattle.occ_report.specs.Evaluating.{as_list, code_before, is_among, is_evaluating}
-use Rattle.occ_report.specs.Formals.{told_within}
+use Rattle.occ_report.specs.Naming.{told_within}
 use Rattle.occ_report.specs.Written.{numbered_line, plain_text, unspaced}
 use Rattle.occ_report.specs.declared.calls.Call.{Call}
 
@@ -34,9 +35,13 @@ reads_in (i ∷ others) read = reads_in others (with_read i read)
 
 -- ---- what is told of it
 
--- the value of a variable, by how its name is told
+-- the value of a variable, by how its name is told; nothing of one that is left out
+abbrev pub told_value : (told : List ℕ) → Cell → ℤ → List ℕ
+told_value [] c v = []
+told_value (b ∷ bs) c v = codes "    " ++ b ∷ bs ++ codes " = " ++ value_text c.primitive v ++ codes "\n"
+
 abbrev pub value_line : (List ℕ → List ℕ) → Cell → ℤ → List ℕ
-value_line told c v = codes "    " ++ told c.name ++ codes " = " ++ value_text c.primitive v ++ codes "\n"
+value_line told c v = told_value (told c.name) c v
 
 -- whether a variable is at one of these places of what a process holds, or has one of these numbers
 abbrev pub was_read : (held : List ℕ) → (read components : List ℕ) → ℕ → Bool
@@ -49,32 +54,32 @@ variables_text told held f read components n (c ∷ others) =
     (if was_read held read components n then value_line told c (at f n) else []) ++ variables_text told held f read components (n + 1) others
 
 -- how this line tells a variable, in a process of this body that goes through these calls
-abbrev pub told_at : (source : List ℕ) → List Call → Body → (place line : ℕ) → (name : List ℕ) → List ℕ
-told_at source calls b p line name = told_within source calls (fault_call calls (Some b) p line) line name
+abbrev pub told_at : List LogicalLine → List Call → Body → (place line : ℕ) → (name : List ℕ) → List ℕ
+told_at lines calls b p line name = told_within lines calls (fault_holders calls b p line) line name
 
 -- those that were read up to the place where a process of this body stands
-abbrev pub read_text : (source : List ℕ) → List Call → (line : ℕ) → Body → List Cell → Task → List ℕ
-read_text source calls line b cells t =
-    variables_text (told_at source calls b t.pc line) b.cells t.frame (reads_in (code_before b t.pc) []) (components_in t.frame [] (code_before b t.pc)) 0 cells
+abbrev pub read_text : List LogicalLine → List Call → (line : ℕ) → Body → List Cell → Task → List ℕ
+read_text lines calls line b cells t =
+    variables_text (told_at lines calls b t.pc line) b.cells t.frame (reads_in (code_before b t.pc) []) (components_in t.frame [] (code_before b t.pc)) 0 cells
 
 abbrev pub fault_line : (source : List ℕ) → ℕ → List ℕ
 fault_line source line = codes "    " ++ plain_text (unspaced (numbered_line source line)) ++ codes "\n"
 
-abbrev pub body_text : (source : List ℕ) → List Call → (line : ℕ) → Option Body → List Cell → Task → List ℕ
-body_text source calls line None cells t = []
-body_text source calls line (Some b) cells t = read_text source calls line b cells t
+abbrev pub body_text : List LogicalLine → List Call → (line : ℕ) → Option Body → List Cell → Task → List ℕ
+body_text lines calls line None cells t = []
+body_text lines calls line (Some b) cells t = read_text lines calls line b cells t
 
 -- the lines below that of the process of this number, where it met a fault
-abbrev pub faulted_text : Wait → (source : List ℕ) → List Call → List Cell → Option Body → Task → List ℕ
-faulted_text Ready source calls cells body t = []
-faulted_text (Took arm indices m) source calls cells body t = []
-faulted_text (Offers c m) source calls cells body t = []
-faulted_text (Awaits c) source calls cells body t = []
-faulted_text (Chooses pri arms) source calls cells body t = []
-faulted_text (Joins ns) source calls cells body t = []
-faulted_text Halted source calls cells body t = []
-faulted_text Done source calls cells body t = []
-faulted_text (Faulted e) source calls cells body t = fault_line source e.line ++ body_text source calls e.line body cells t
+abbrev pub faulted_text : Wait → (source : List ℕ) → List LogicalLine → List Call → List Cell → Option Body → Task → List ℕ
+faulted_text Ready source lines calls cells body t = []
+faulted_text (Took arm indices m) source lines calls cells body t = []
+faulted_text (Offers c m) source lines calls cells body t = []
+faulted_text (Awaits c) source lines calls cells body t = []
+faulted_text (Chooses pri arms) source lines calls cells body t = []
+faulted_text (Joins ns) source lines calls cells body t = []
+faulted_text Halted source lines calls cells body t = []
+faulted_text Done source lines calls cells body t = []
+faulted_text (Faulted e) source lines calls cells body t = fault_line source e.line ++ body_text lines calls e.line body cells t
 
-abbrev pub fault_told : (source : List ℕ) → List Call → List Cell → List Body → ℕ → Task → List ℕ
-fault_told source calls cells bodies n t = faulted_text t.wait source calls cells (slice_get bodies n) t
+abbrev pub fault_told : (source : List ℕ) → List LogicalLine → List Call → List Cell → List Body → ℕ → Task → List ℕ
+fault_told source lines calls cells bodies n t = faulted_text t.wait source lines calls cells (slice_get bodies n) t

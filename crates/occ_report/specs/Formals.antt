@@ -1,142 +1,167 @@
--- The formals by reference that variables have in a line.
--- Manual: formals and actuals.
-use Rattle.std.specs.Prelude.{Bool, List, None, Option, Some, [], bytes_eq, codes, drop, false, if◌then◌else◌, length, min, nat_eq, not, take, true, ℕ, ◌&&◌, ◌+◌, ◌++◌, ◌-◌, ◌||◌, ◌∷◌}
+-- What the formals by reference of PROCs stand for, by the words of the lines of PROCs and of calls.
+-- Manual: formals and actuals, and the scope of a name.
+use Rattle.std.specs.Prelude.{Bool, List, None, Option, Some, [], bytes_eq, codes, false, if◌then◌else◌, length, nat_abs, nat_eq, nat_lt, not, option_map, slice_get, true, Vec, ℕ, ◌&&◌, ◌++◌, ◌-◌, ◌||◌, ◌∷◌}
+use Rattle.std.specs.Borrow.{Bor}
+use Rattle.std.specs.Fmt.{decimal}
+use Rattle.std.specs.List.{list_any}
+use Rattle.std.specs.Option.{option_map_or}
 use Rattle.occ_text.specs.Spelling.{is_name_part}
-use Rattle.occ_report.specs.Calls.{call_at, outwards}
-use Rattle.occ_report.specs.Written.{hides, name_in_front, numbered_line, unspaced}
+use Rattle.occ_text.specs.Words.{LogicalLine, Word, key, lit, logical_line, mark, name, number, words}
+use Rattle.occ_text.specs.declared.token.Key.TheVariants as keys
+use Rattle.occ_text.specs.declared.token.Sym.TheVariants as signs
+use Rattle.occ_text.specs.declared.token.Token.{Token}
+use Rattle.occ_report.specs.Calls.{call_at, has_line}
+use Rattle.occ_report.specs.Written.{name_in_front}
 use Rattle.occ_report.specs.declared.calls.Call.{Call}
-use Rattle.occ_report.specs.declared.formals.Naming.{Naming}
 
--- ---- the formals of a PROC and the actuals of a call, in their lines
+-- the words of the line of this number; none where there is no such line
+abbrev pub line_words : List LogicalLine → ℕ → List Word
+line_words [] n = []
+line_words (logical_line m level ws ∷ lines) n = if nat_eq m n then ws else line_words lines n
 
--- what stands behind the first bracket of a line
-abbrev pub behind_bracket : List ℕ → List ℕ
-behind_bracket [] = []
-behind_bracket (b ∷ bs) = if nat_eq b 40 then bs else behind_bracket bs
+-- ---- a formal and its actual
 
--- in how many brackets stands what follows a byte
-abbrev pub depth_after : ℕ → ℕ → ℕ
-depth_after d b = if nat_eq b 40 || nat_eq b 91 then d + 1 else (if nat_eq b 41 || nat_eq b 93 then d - 1 else d)
+abbrev pub is_comma : Word → Bool
+is_comma (mark signs.Comma) = true
+is_comma w = false
 
--- An element ends before this byte: at a comma or at the bracket behind all, and where a quote or a comment begins.
-abbrev pub ends_element : ℕ → ℕ → List ℕ → Bool
-ends_element d b bs = (nat_eq d 0 && (nat_eq b 44 || nat_eq b 41)) || hides b bs
+-- what stands behind the first comma
+abbrev pub behind_comma : List Word → List Word
+behind_comma [] = []
+behind_comma (w ∷ ws) = if is_comma w then ws else behind_comma ws
 
-abbrev pub first_element : ℕ → List ℕ → List ℕ
-first_element d [] = []
-first_element d (b ∷ bs) = if ends_element d b bs then [] else b ∷ first_element (depth_after d b) bs
+-- whether an element of a list ends before these words; the bracket or the colon behind all elements is the last word of the line
+abbrev pub ends_element : List Word → Bool
+ends_element (mark signs.Comma ∷ ws) = true
+ends_element (mark signs.CloseParen ∷ []) = true
+ends_element (mark signs.Colon ∷ []) = true
+ends_element ws = false
 
-abbrev pub other_elements : ℕ → List ℕ → List ℕ
-other_elements d [] = []
-other_elements d (b ∷ bs) = if ends_element d b bs then (if nat_eq b 44 then bs else []) else other_elements (depth_after d b) bs
+-- whether a word is this name, and an element ends with it, before these words
+abbrev pub ends_with : (own : List ℕ) → Word → List Word → Bool
+ends_with own (name x) ws = bytes_eq x own && ends_element ws
+ends_with own w ws = false
 
--- what stands behind the last space of a text
-abbrev pub last_word : (found : List ℕ) → List ℕ → List ℕ
-last_word found [] = found
-last_word found (b ∷ bs) = last_word (if nat_eq b 32 then bs else found) bs
+abbrev pub begins_with_name : List Word → Bool
+begins_with_name (name x ∷ ws) = true
+begins_with_name ws = false
 
--- whether a formal is by value: a name alone is as the formal before it
-abbrev pub is_by_value : (before : Bool) → (formal : List ℕ) → Bool
-is_by_value before formal = if bytes_eq (name_in_front formal) formal then before else bytes_eq (name_in_front formal) (codes "VAL")
+-- whether formals are by value behind a word, before these: behind VAL, and then each that is a name alone
+abbrev pub is_by_value : (before : Bool) → Word → List Word → Bool
+is_by_value before (key keys.Val) ws = true
+is_by_value before (mark signs.Comma) ws = before && begins_with_name ws
+is_by_value before w ws = before
 
--- whether a formal is this name by reference
-abbrev pub is_reference : (before : Bool) → (formal name : List ℕ) → Bool
-is_reference before formal name = not (is_by_value before formal) && bytes_eq (last_word formal formal) name
+abbrev pub next_actuals : Word → List Word → List Word
+next_actuals w actuals = if is_comma w then behind_comma actuals else actuals
 
-abbrev pub first_formal : List ℕ → List ℕ
-first_formal formals = unspaced (first_element 0 formals)
+-- the words from the actual on of the formal by reference of this name
+abbrev pub actual_for : (own : List ℕ) → (value : Bool) → (formals actuals : List Word) → Option (List Word)
+actual_for own value [] actuals = None
+actual_for own value (w ∷ ws) actuals =
+    if ends_with own w ws && not value then Some actuals else actual_for own (is_by_value value w ws) ws (next_actuals w actuals)
 
--- the actual of the formal by reference of this name, of at most as many formals as there are bytes
-abbrev pub actual_among : (bytes : List ℕ) → (before : Bool) → (name formals actuals : List ℕ) → Option (List ℕ)
-actual_among [] before name formals actuals = None
-actual_among (b ∷ bytes) before name formals actuals =
-    if is_reference before (first_formal formals) name then Some (first_element 0 actuals)
-    else actual_among bytes (is_by_value before (first_formal formals)) name (other_elements 0 formals) (other_elements 0 actuals)
+abbrev pub begins_with_close : List Word → Bool
+begins_with_close (mark signs.CloseBracket ∷ ws) = true
+begins_with_close ws = false
 
-abbrev pub actual_for : (name formals actuals : List ℕ) → Option (List ℕ)
-actual_for name formals actuals = actual_among formals false name formals actuals
+abbrev pub number_bytes : ℕ → List Word → Option (List ℕ)
+number_bytes n ws = if begins_with_close ws then Some (decimal n) else None
 
--- the same by the lines of a call and of its PROC
-abbrev pub actual_at : (source : List ℕ) → Option Call → (name : List ℕ) → Option (List ℕ)
-actual_at source None name = None
-actual_at source (Some c) name = actual_for name (behind_bracket (numbered_line source c.first)) (behind_bracket (numbered_line source c.line))
+-- the bytes of a word, before these, of subscripts that are written as numbers
+abbrev pub subscript_bytes : Word → List Word → Option (List ℕ)
+subscript_bytes (mark signs.OpenBracket) ws = Some (codes "[")
+subscript_bytes (mark signs.CloseBracket) ws = Some (codes "]")
+subscript_bytes (lit (number n)) ws = number_bytes (nat_abs n) ws
+subscript_bytes w ws = None
+
+abbrev pub with_bytes : Option (List ℕ) → (text : List ℕ) → (List ℕ → List ℕ) → List ℕ
+with_bytes None text more = text
+with_bytes (Some bytes) text more = more (text ++ bytes)
+
+-- a text with the subscripts behind it, up to one that is not written as a number: there it ends with the bracket
+abbrev pub subscripts_text : (text : List ℕ) → List Word → List ℕ
+subscripts_text text [] = text
+subscripts_text text (w ∷ ws) = with_bytes (subscript_bytes w ws) text (λ more. subscripts_text more ws)
+
+abbrev pub actual_text : List Word → List ℕ
+actual_text (name x ∷ ws) = subscripts_text x ws
+actual_text ws = []
+
+abbrev pub call_actuals : List Word → List Word
+call_actuals (proc ∷ paren ∷ ws) = ws
+call_actuals ws = []
+
+-- the actual of the formal by reference of this name of a call
+abbrev pub actual_at : List LogicalLine → Call → (own : List ℕ) → Option (List ℕ)
+actual_at lines c own = option_map actual_text (actual_for own false (line_words lines c.first) (call_actuals (line_words lines c.line)))
+
+-- whether it isn't known for what a text stands: for which component of an array, or for anything
+abbrev pub is_unsure : List ℕ → Bool
+is_unsure text = option_map_or (λ b. nat_eq b 91) (slice_get text (length text - 1)) true
+
+-- ---- names that are declared again
+
+-- a declaration, the head of a PROC or a replicator has such a word, and no other line
+abbrev pub is_declaring : Word → Bool
+is_declaring (mark signs.Colon) = true
+is_declaring (key keys.Proc) = true
+is_declaring (key keys.For) = true
+is_declaring w = false
+
+-- whether these words may stand there behind a variable, a value, an index or a formal that is declared
+abbrev pub follow_declared : List Word → Bool
+follow_declared (key keys.Is ∷ ws) = true
+follow_declared (mark signs.Equal ∷ ws) = true
+follow_declared ws = ends_element ws
+
+abbrev pub is_declared : (own : List ℕ) → Word → List Word → Bool
+is_declared own (name x) ws = bytes_eq x own && follow_declared ws
+is_declared own w ws = false
+
+abbrev pub declares_name : (own : List ℕ) → List Word → Bool
+declares_name own [] = false
+declares_name own (w ∷ ws) = is_declared own w ws || declares_name own ws
+
+-- whether one of the lines between these two may declare a name
+abbrev pub declares_between : (first last : ℕ) → (own : List ℕ) → List LogicalLine → Bool
+declares_between first last own [] = false
+declares_between first last own (logical_line n level ws ∷ lines) =
+    (nat_lt first n && nat_lt n last && list_any is_declaring ws && declares_name own ws) || declares_between first last own lines
 
 -- ---- what a name stands for
 
--- without spaces
-abbrev pub squeezed : List ℕ → List ℕ
-squeezed [] = []
-squeezed (b ∷ bs) = (if nat_eq b 32 then [] else b ∷ []) ++ squeezed bs
+-- for what a formal by reference of a call stands in this line of its PROC: for anything, where the PROC declares the name again
+abbrev pub meant_by : List LogicalLine → Call → (line : ℕ) → (own : List ℕ) → Option (List ℕ)
+meant_by lines c line own =
+    if has_line line c then option_map (λ actual. if declares_between c.first c.last own lines then [] else actual) (actual_at lines c own) else None
 
 abbrev pub behind_name : List ℕ → List ℕ
 behind_name [] = []
 behind_name (b ∷ bs) = if is_name_part b then behind_name bs else b ∷ bs
 
 -- a text with an actual for the name in its front
-abbrev pub replaced : (actual text : List ℕ) → List ℕ
-replaced actual text = squeezed actual ++ behind_name text
+abbrev pub with_actual : (actual text : List ℕ) → List ℕ
+with_actual actual text = if is_unsure actual then actual else actual ++ behind_name text
 
-abbrev pub with_actual : Option (List ℕ) → (text : List ℕ) → (List ℕ → List ℕ) → List ℕ
-with_actual None text outer = text
-with_actual (Some actual) text outer = outer (replaced actual text)
+abbrev pub at_call : Call → Option (List ℕ) → ℕ × List ℕ → ℕ × List ℕ
+at_call c None at = at
+at_call c (Some actual) at = (c.line, with_actual actual at.1)
 
--- What a text stands for where these calls led to, the innermost one first: a formal in its front for the actual, and that outwards in the same way,
--- up to a name that is no formal by reference.
-abbrev pub stands_for : (source : List ℕ) → List Call → (numbers : List ℕ) → (text : List ℕ) → List ℕ
-stands_for source calls [] text = text
-stands_for source calls (n ∷ ns) text = with_actual (actual_at source (call_at calls n) (name_in_front text)) text (stands_for source calls ns)
+-- a text, and the line in which it stands, as outside of the PROC of a call: there an actual stands for its formal
+abbrev pub outside : List LogicalLine → Option Call → ℕ × List ℕ → ℕ × List ℕ
+outside lines None at = at
+outside lines (Some c) at = at_call c (meant_by lines c at.0 (name_in_front at.1)) at
 
--- ---- the names in a line
-
-abbrev pub begins_name : (inside : Bool) → ℕ → Bool
-begins_name inside b = not inside && is_name_part b
-
--- whether a name stands in the rest of a line, which begins inside a name or not
-abbrev pub has_name : (inside : Bool) → (name line : List ℕ) → Bool
-has_name inside name [] = false
-has_name inside name (b ∷ bs) = (begins_name inside b && bytes_eq (name_in_front (b ∷ bs)) name) || has_name (is_name_part b) name bs
-
--- how much of a name a front may be
-abbrev pub front_end : (front name : List ℕ) → ℕ
-front_end front name = min (length front) (length name)
-
-abbrev pub behind_front : (front name : List ℕ) → List ℕ
-behind_front front name = drop (front_end front name) name
-
-abbrev pub begins_subscript : List ℕ → Bool
-begins_subscript [] = true
-begins_subscript (b ∷ bs) = nat_eq b 91
-
--- whether a front is all of a variable's name, or that of an array of which it is a component
-abbrev pub has_front : (front name : List ℕ) → Bool
-has_front front name = bytes_eq (take (front_end front name) name) front && begins_subscript (behind_front front name)
-
--- the line from the first name on that stands for a variable of this name or for its array
-abbrev pub from_formal : (List ℕ → List ℕ) → (inside : Bool) → (name line : List ℕ) → List ℕ
-from_formal meaning inside name [] = []
-from_formal meaning inside name (b ∷ bs) =
-    if begins_name inside b && has_front (meaning (name_in_front (b ∷ bs))) name then b ∷ bs else from_formal meaning (is_name_part b) name bs
-
-abbrev pub formal_text : (List ℕ → List ℕ) → (name found : List ℕ) → List ℕ
-formal_text meaning name [] = name
-formal_text meaning name (b ∷ bs) =
-    name_in_front (b ∷ bs) ++ behind_front (meaning (name_in_front (b ∷ bs))) name ++ codes " (" ++ name ++ codes ")"
-
--- How a variable is told by a line: by its name where that stands in the line, or no formal for it does; else by the formal, and its name.
-abbrev pub told_in : (List ℕ → List ℕ) → (line name : List ℕ) → List ℕ
-told_in meaning line name = if has_name false (name_in_front name) line then name else formal_text meaning name (from_formal meaning false name line)
-
--- the same by the line of this number, within the PROC of this call
-abbrev pub told_within : (source : List ℕ) → List Call → (call line : ℕ) → (name : List ℕ) → List ℕ
-told_within source calls call line name = told_in (stands_for source calls (outwards (length calls) calls call)) (numbered_line source line) name
+-- what a text stands for in a line to which these calls led, the innermost one first
+abbrev pub stands_for : List LogicalLine → List Call → (numbers : List ℕ) → ℕ × List ℕ → List ℕ
+stands_for lines calls [] at = at.1
+stands_for lines calls (n ∷ ns) at = stands_for lines calls ns (outside lines (call_at calls n) at)
 
 -- ---- of what code has; private contracts alone cite it
 
-abbrev pub meaning_by : Naming → List ℕ → List ℕ
-meaning_by naming text = stands_for naming.source.now naming.calls.now naming.numbers.now text
+abbrev pub text_found : {A : Type 0} → Option (Vec ℕ A) → Option (List ℕ)
+text_found found = option_map (λ v. v.items) found
 
-abbrev pub found_by : Naming → (name : List ℕ) → List ℕ
-found_by naming name = from_formal (meaning_by naming) false name naming.line.now
-
-abbrev pub told_by : Naming → List ℕ → List ℕ
-told_by naming name = told_in (meaning_by naming) naming.line.now name
+abbrev pub lent_words : Option (Bor (List Token)) → Option (List Word)
+lent_words found = option_map (λ tokens. words tokens.now) found

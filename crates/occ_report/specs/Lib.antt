@@ -3,6 +3,7 @@ pub mod Evaluating
 pub mod Calls
 pub mod Written
 pub mod Formals
+pub mod Naming
 pub mod Components
 pub mod Faults
 pub mod Places

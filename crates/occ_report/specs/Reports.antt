@@ -32,7 +32,9 @@ use Rattle.occ_report.specs.declared.stop.Kind.TheVariants as kinds
 use Rattle.occ_report.specs.declared.stop.Stop.{Stop}
 use Rattle.occ_report.specs.Calls.{calls_text}
 use Rattle.occ_report.specs.Faults.{fault_told, read_text, variables_text}
-use Rattle.occ_report.specs.Formals.{told_by}
+use Rattle.occ_text.specs.Lines.{LinesOf}
+use Rattle.occ_text.specs.Words.{LogicalLine, logical_lines}
+use Rattle.occ_report.specs.Naming.{told_by}
 use Rattle.occ_term.specs.Frames.{Variables}
 use Rattle.occ_report.specs.Places.{Known, arm_opened, calls_of, name_of, stop_of, stops_of}
 use Rattle.occ_report.specs.Written.{channel_told, written_at, written_in_arm}
@@ -45,7 +47,7 @@ use Rattle.occ_net_tables.specs.Holding.{HeldBy}
 use Rattle.occ_ends.specs.declared.uses.ProcessUses.{ProcessUses}
 use Rattle.occ_report.specs.declared.standing.Ends.{Ends as Sides}
 use Rattle.occ_report.specs.declared.standing.Spot.{Spot}
-use Rattle.occ_report.specs.declared.formals.Naming.{Naming}
+use Rattle.occ_report.specs.declared.naming.Naming.{Naming}
 use Rattle.occ_report.specs.declared.process_lines.Told.{Told}
 
 -- by channel: the process that may input from it, or that may output to it, of those that are left
@@ -162,24 +164,24 @@ process_line names readers writers source known n w stop = on_line n (name_of kn
 abbrev pub calls_told : List Body → List Known → ℕ → Task → Option Stop → List ℕ
 calls_told bodies known n t stop = calls_text (calls_of known n) bodies n stop t
 
-abbrev pub lines_told_at : Names → (readers writers : Noted) → (source : List ℕ) → List Cell → List Body → List Known → ℕ → Task → Option Stop → List ℕ
-lines_told_at names readers writers source cells bodies known n t stop =
-    process_line names readers writers source known n t.wait stop ++ fault_told source (calls_of known n) cells bodies n t ++ calls_told bodies known n t stop
+abbrev pub lines_told_at : Names → (readers writers : Noted) → (source : List ℕ) → List LogicalLine → List Cell → List Body → List Known → ℕ → Task → Option Stop → List ℕ
+lines_told_at names readers writers source lines cells bodies known n t stop =
+    process_line names readers writers source known n t.wait stop ++ fault_told source lines (calls_of known n) cells bodies n t ++ calls_told bodies known n t stop
 
 -- the line of a process, and those below it
-abbrev pub lines_told : Names → (readers writers : Noted) → (source : List ℕ) → List Cell → List Body → List Known → ℕ → Task → List ℕ
-lines_told names readers writers source cells bodies known n t = lines_told_at names readers writers source cells bodies known n t (stop_of known n t.wait t.pc)
+abbrev pub lines_told : Names → (readers writers : Noted) → (source : List ℕ) → List LogicalLine → List Cell → List Body → List Known → ℕ → Task → List ℕ
+lines_told names readers writers source lines cells bodies known n t = lines_told_at names readers writers source lines cells bodies known n t (stop_of known n t.wait t.pc)
 
-abbrev pub task_line : Names → (readers writers : Noted) → (source : List ℕ) → List Cell → List Body → List Known → ℕ → Option (Option Task) → List ℕ
-task_line names readers writers source cells bodies known n None = []
-task_line names readers writers source cells bodies known n (Some None) = []
-task_line names readers writers source cells bodies known n (Some (Some t)) = lines_told names readers writers source cells bodies known n t
+abbrev pub task_line : Names → (readers writers : Noted) → (source : List ℕ) → List LogicalLine → List Cell → List Body → List Known → ℕ → Option (Option Task) → List ℕ
+task_line names readers writers source lines cells bodies known n None = []
+task_line names readers writers source lines cells bodies known n (Some None) = []
+task_line names readers writers source lines cells bodies known n (Some (Some t)) = lines_told names readers writers source lines cells bodies known n t
 
 -- the lines of the first so many processes
-abbrev pub task_lines : Names → (readers writers : Noted) → (source : List ℕ) → List Cell → List Body → List Known → Tasks → ℕ → List ℕ
-task_lines names readers writers source cells bodies known tasks zero = []
-task_lines names readers writers source cells bodies known tasks (suc n) =
-    task_lines names readers writers source cells bodies known tasks n ++ task_line names readers writers source cells bodies known n (slice_get tasks n)
+abbrev pub task_lines : Names → (readers writers : Noted) → (source : List ℕ) → List LogicalLine → List Cell → List Body → List Known → Tasks → ℕ → List ℕ
+task_lines names readers writers source lines cells bodies known tasks zero = []
+task_lines names readers writers source lines cells bodies known tasks (suc n) =
+    task_lines names readers writers source lines cells bodies known tasks n ++ task_line names readers writers source lines cells bodies known n (slice_get tasks n)
 
 -- how many of the first so many processes have ended
 abbrev pub task_ended : Option (Option Task) → Bool
@@ -292,11 +294,15 @@ circle_text tasks ns = ring_text (choosing_among tasks ns) ns
 abbrev pub told_of : Tasks → ℕ
 told_of tasks = min (length tasks) 4294967295
 
--- of a state of a program's network, with who is at the ends of channels, the source and what is known of where its processes stand there,
+-- of a state of a program's network, with who is at the ends of channels, the source, its logical lines and what is known of where its processes stand there,
 -- and the program's cells and bodies
-abbrev pub network_report : Names → (readers writers : Noted) → (source : List ℕ) → List Cell → List Body → List Known → Left → (waiting : List ℕ) → Net → Ending → List ℕ
-network_report names readers writers source cells bodies known left waiting net e =
-    kind_told e left waiting ++ report_head (length net.trace) e ++ task_lines names readers writers source cells bodies known net.tasks (told_of net.tasks) ++ ended_line (ended_among net.tasks (told_of net.tasks)) ++ circle_text net.tasks left.circle.items
+abbrev pub network_report : Names → (readers writers : Noted) → (source : List ℕ) → List LogicalLine → List Cell → List Body → List Known → Left → (waiting : List ℕ) → Net → Ending → List ℕ
+network_report names readers writers source lines cells bodies known left waiting net e =
+    kind_told e left waiting ++ report_head (length net.trace) e ++ task_lines names readers writers source lines cells bodies known net.tasks (told_of net.tasks) ++ ended_line (ended_among net.tasks (told_of net.tasks)) ++ circle_text net.tasks left.circle.items
+
+-- the logical lines of a source, where it has any
+abbrev pub AreItsLines : (source : List ℕ) → List LogicalLine → Type 0
+AreItsLines source lines = (all : List LogicalLine) → LinesOf source all → lines ≡ all
 
 -- The replay of the used choices, which are a beginning of the list, as a run of the list has it, and the report of its state: of what
 -- kind a stop is, or, where the choices are used up, processes that take no turn whatever choices follow; each process that is left, who
@@ -314,7 +320,9 @@ pub record IsReport (t : Term) (p : Program) (keyboard : List ℕ) (list : List 
   pub is_left : IsRest (all_using t) p net.tasks left
   pub waiting : List ℕ
   pub are_waiting : ending_of p.errors net ≡ None → AreWaiting (all_using t) net.tasks waiting
-  pub is : bytes ≡ network_report (names_of p.channels) ends.readers.items ends.writers.items source cells p.bodies known left waiting net (or_limit (ending_of p.errors net))
+  pub lines : List LogicalLine
+  pub are_lines : AreItsLines source lines
+  pub is : bytes ≡ network_report (names_of p.channels) ends.readers.items ends.writers.items source lines cells p.bodies known left waiting net (or_limit (ending_of p.errors net))
 
 -- Processes that wait in a circle in the state that the replay of the used choices comes to, where there are some.
 pub record IsCircleOf (t : Term) (p : Program) (keyboard : List ℕ) (list : List Choice) (circle : List ℕ) : Type 0 where
@@ -374,13 +382,13 @@ AddsCalls told n t stop old new = AddsText old new (calls_told told.code.now.bod
 
 abbrev pub AddsLines : {A : Type 0} → List Channel → Sides → Told → ℕ → Task → (old new : Vec ℕ A) → Type 0
 AddsLines cs ends told n t old new =
-    AddsText old new (lines_told (names_of cs) ends.readers.now ends.writers.now told.source.now told.unfolded.now.cells told.code.now.bodies told.places.now n t)
+    AddsText old new (lines_told (names_of cs) ends.readers.now ends.writers.now told.source.now (logical_lines told.lines.now) told.unfolded.now.cells told.code.now.bodies told.places.now n t)
 
 abbrev pub AddsFault : {A : Type 0} → Told → ℕ → Task → (old new : Vec ℕ A) → Type 0
-AddsFault told n t old new = AddsText old new (fault_told told.source.now (calls_of told.places.now n) told.unfolded.now.cells told.code.now.bodies n t)
+AddsFault told n t old new = AddsText old new (fault_told told.source.now (logical_lines told.lines.now) (calls_of told.places.now n) told.unfolded.now.cells told.code.now.bodies n t)
 
 abbrev pub AddsRead : {A : Type 0} → Told → ℕ → (line : ℕ) → Body → Task → (old new : Vec ℕ A) → Type 0
-AddsRead told n line b t old new = AddsText old new (read_text told.source.now (calls_of told.places.now n) line b told.unfolded.now.cells t)
+AddsRead told n line b t old new = AddsText old new (read_text (logical_lines told.lines.now) (calls_of told.places.now n) line b told.unfolded.now.cells t)
 
 abbrev pub AddsCells : {A : Type 0} → Naming → (held : List ℕ) → Variables → (read components : List ℕ) → UnfoldedProgram → (old new : Vec ℕ A) → Type 0
 AddsCells naming held f read components program old new = AddsText old new (variables_text (told_by naming) held f read components 0 program.cells)
@@ -388,11 +396,11 @@ AddsCells naming held f read components program old new = AddsText old new (vari
 -- of whatever network the tables hold, the lines of one process, and those of the first so many
 abbrev pub AddsTaskLine : {A : Type 0} → List Channel → Sides → Told → Tables → ℕ → (old new : Vec ℕ A) → Type 0
 AddsTaskLine cs ends told tables n old new =
-    HeldBy tables (λ net. new.items ≡ old.items ++ task_line (names_of cs) ends.readers.now ends.writers.now told.source.now told.unfolded.now.cells told.code.now.bodies told.places.now n (slice_get net.tasks n))
+    HeldBy tables (λ net. new.items ≡ old.items ++ task_line (names_of cs) ends.readers.now ends.writers.now told.source.now (logical_lines told.lines.now) told.unfolded.now.cells told.code.now.bodies told.places.now n (slice_get net.tasks n))
 
 abbrev pub AddsTaskLines : {A : Type 0} → List Channel → Sides → Told → Tables → ℕ → (old new : Vec ℕ A) → Type 0
 AddsTaskLines cs ends told tables n old new =
-    HeldBy tables (λ net. new.items ≡ old.items ++ task_lines (names_of cs) ends.readers.now ends.writers.now told.source.now told.unfolded.now.cells told.code.now.bodies told.places.now net.tasks n)
+    HeldBy tables (λ net. new.items ≡ old.items ++ task_lines (names_of cs) ends.readers.now ends.writers.now told.source.now (logical_lines told.lines.now) told.unfolded.now.cells told.code.now.bodies told.places.now net.tasks n)
 
 -- the count of the ended ones among the first so many, of whatever network the tables hold
 abbrev pub AddsEnded : {A : Type 0} → Tables → ℕ → (old new : Vec ℕ A) → Type 0

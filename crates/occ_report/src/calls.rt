@@ -3,7 +3,7 @@ ghost use Rattle.std.specs.Prelude.{◌≡◌, ◌≤◌, IfOk, OnOk, Some, leng
 ghost use Rattle.std.specs.List.{All};
 ghost use Rattle.occ_text.specs.Words.{logical_lines};
 ghost use Rattle.occ_shown.specs.Answers.{AddsText};
-ghost use Rattle.occ_report.specs.Calls.{IsCallIn, are_among, call_at, call_of_task, call_text, calls_text, fault_call, holders, innermost_call, is_last, last_number, lines_of_calls, may_hold, outwards, parts_before, parts_done, text_of_call};
+ghost use Rattle.occ_report.specs.Calls.{IsCallIn, are_among, call_at, call_of_task, call_text, calls_text, fault_call, fault_holders, has_line, holders, innermost_call, is_last, last_number, lines_of_calls, may_hold, outwards, parts_before, parts_done, text_of_call};
 
 use crate::faults::{code_before, is_among};
 use crate::scope::Procedure;
@@ -185,14 +185,18 @@ fn parts_before(body: &Body, place: u32) -> usize
     parts_done(code_before(body, place))
 }
 
-/// Whether the PROC of a call has this line, and something of its body may be evaluated where so many parts are done.
+/// Whether the PROC of a call has this line.
+pub(crate) fn has_line(line: u32, call: &Call) -> bool
+    ensures { result ≡ has_line line call.now }
+{
+    call.first <= line && line <= call.last
+}
+
+/// The same, and something of its body may be evaluated where so many parts are done.
 fn may_hold(line: u32, done: usize, call: &Call) -> bool
     ensures { result ≡ may_hold line done call.now }
 {
-    call.first <= line
-        && line <= call.last
-        && call.before as usize <= done
-        && done <= call.behind as usize
+    has_line(line, call) && call.before as usize <= done && done <= call.behind as usize
 }
 
 /// The numbers of the calls that may.
@@ -262,7 +266,11 @@ fn last_of(numbers: &[usize]) -> usize
 }
 
 /// The last one of these calls, where it stands within the PROCs of all others of them; else 0.
-fn innermost_call(alloc: Global, calls: &[Call], numbers: &[usize]) -> Result<usize, AllocError>
+pub(crate) fn innermost_call(
+    alloc: Global,
+    calls: &[Call],
+    numbers: &[usize],
+) -> Result<usize, AllocError>
     ensures { IfOk result (λ n. n ≡ innermost_call calls.now numbers.now) }
 {
     let last = last_of(numbers);
@@ -274,8 +282,22 @@ fn innermost_call(alloc: Global, calls: &[Call], numbers: &[usize]) -> Result<us
     }
 }
 
+/// The numbers of the calls within whose PROCs a process of this body may have met a fault in this line.
+pub(crate) fn fault_holders(
+    alloc: Global,
+    calls: &[Call],
+    body: &Body,
+    place: u32,
+    line: u32,
+) -> Result<Vec<usize>, AllocError>
+    ensures { IfOk result (λ found. found.items ≡ fault_holders calls.now body.now place line) }
+{
+    let done = parts_before(body, place);
+    holders(alloc, line, done, calls)
+}
+
 /// The number of the call within whose PROC a process of this body met a fault in this line; 0 where it is none, or it isn't known.
-pub(crate) fn fault_call(
+fn fault_call(
     alloc: Global,
     calls: &[Call],
     body: &Body,
@@ -284,8 +306,7 @@ pub(crate) fn fault_call(
 ) -> Result<usize, AllocError>
     ensures { IfOk result (λ n. n ≡ fault_call calls.now (Some body.now) place line) }
 {
-    let done = parts_before(body, place);
-    let found = holders(alloc, line, done, calls)?;
+    let found = fault_holders(alloc, calls, body, place, line)?;
     innermost_call(alloc, calls, found.as_slice())
 }
 

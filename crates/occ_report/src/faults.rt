@@ -2,13 +2,13 @@
 ghost use Rattle.std.specs.Prelude.{◌≡◌, [], IfOk, OnOk};
 ghost use Rattle.occ_shown.specs.Answers.{AddsText};
 ghost use Rattle.occ_report.specs.Evaluating.{code_before, is_among};
-ghost use Rattle.occ_report.specs.Faults.{fault_line, was_read, read_by, reads_in, read_text, value_line, with_read};
-ghost use Rattle.occ_report.specs.Formals.{told_by};
+ghost use Rattle.occ_report.specs.Faults.{fault_line, was_read, read_by, reads_in, read_text, told_value, value_line, with_read};
+ghost use Rattle.occ_report.specs.Naming.{told_by};
 ghost use Rattle.occ_report.specs.Reports.{AddsCells, AddsFault, AddsRead};
 
-use crate::calls::{fault_call, outwards};
+use crate::calls::{fault_holders, innermost_call, outwards};
 use crate::components::{components_in, is_evaluating};
-use crate::formals::{Naming, write_told};
+use crate::naming::{Naming, told};
 use crate::process_lines::Told;
 use crate::source_lines::{numbered_line, plain_text, unspaced};
 use occ_machine::{Body, Instr, Slot, Task, Wait};
@@ -52,6 +52,20 @@ fn reads_in(alloc: Global, code: &[Instr<Slot>]) -> Result<Vec<usize>, AllocErro
     Ok(read)
 }
 
+/// A variable, as it is told, and its value; nothing of one that is left out.
+fn write_told(out: &mut Vec<u8>, name: &[u8], cell: &Cell, value: i64) -> Result<(), AllocError>
+    ensures { OnOk result (AddsText out.old out.new (told_value name.now cell.now value)) }
+{
+    if name.is_empty() {
+        return Ok(());
+    }
+    out.extend_from_slice(b"    ")?;
+    out.extend_from_slice(name)?;
+    out.extend_from_slice(b" = ")?;
+    write_value(out, cell.primitive, value)?;
+    out.extend_from_slice(b"\n")
+}
+
 /// A variable and its value.
 fn write_variable(
     alloc: Global,
@@ -65,11 +79,8 @@ fn write_variable(
 {
     let mut name = Vec::new(alloc);
     cell.name.write(alloc, &mut name)?;
-    out.extend_from_slice(b"    ")?;
-    write_told(alloc, out, naming, name.as_slice())?;
-    out.extend_from_slice(b" = ")?;
-    write_value(out, cell.primitive, value)?;
-    out.extend_from_slice(b"\n")
+    let name = told(alloc, naming, name.as_slice())?;
+    write_told(out, name.as_slice(), cell, value)
 }
 
 /// Whether a place is one of these.
@@ -142,13 +153,16 @@ fn write_read(
     ensures { OnOk result (AddsRead told.entry number line body.now task.now out.old out.new) }
 {
     let calls = told.places.calls(number);
-    let call = fault_call(alloc, calls, body, task.pc, line)?;
-    let numbers = outwards(alloc, calls, call)?;
+    let holding = fault_holders(alloc, calls, body, task.pc, line)?;
+    let holders = holding.as_slice();
+    let call = innermost_call(alloc, calls, holders)?;
+    let led = outwards(alloc, calls, call)?;
     let naming = Naming {
-        source: told.source,
-        line: numbered_line(told.source, line),
+        lines: told.lines,
+        line,
         calls,
-        numbers: numbers.as_slice(),
+        holders,
+        numbers: led.as_slice(),
     };
     let code = code_before(body, task.pc);
     let read = reads_in(alloc, code)?;

@@ -1,182 +1,308 @@
-//! The formals by reference that variables have in a line, by the lines of PROCs and of calls.
-ghost use Rattle.std.specs.Prelude.{◌≡◌, ◌<◌, ◌≤◌, ◌+◌, false, IfOk, OnOk, length, option_map};
-ghost use Rattle.occ_shown.specs.Answers.{AddsText};
-ghost use Rattle.occ_report.specs.Calls.{call_at};
-ghost use Rattle.occ_report.specs.Formals.{actual_at, actual_for, begins_name, begins_subscript, behind_bracket, behind_front, behind_name, depth_after, ends_element, first_element, formal_text, found_by, has_front, has_name, is_by_value, is_reference, last_word, meaning_by, other_elements, replaced, squeezed, stands_for, told_by};
-ghost use Rattle.occ_report.specs.Written.{name_in_front};
+//! What the formals by reference of PROCs stand for, by the words of the lines of PROCs and of calls.
+ghost use Rattle.std.specs.Prelude.{◌≡◌, false, IfOk};
+ghost use Rattle.std.specs.List.{list_any};
+ghost use Rattle.occ_text.specs.Words.{logical_lines, word, words};
+ghost use Rattle.occ_report.specs.Formals.{actual_at, actual_for, actual_text, call_actuals, begins_with_close, begins_with_name, behind_comma, behind_name, declares_between, declares_name, ends_element, ends_with, follow_declared, is_by_value, is_comma, is_declared, is_declaring, is_unsure, line_words, meant_by, next_actuals, number_bytes, outside, subscript_bytes, subscripts_text, text_found, with_actual, lent_words};
 
-use crate::calls::{Call, call_at};
-use crate::source_lines::{hides, is_name_part, name_in_front, numbered_line, unspaced};
+use crate::calls::{Call, has_line};
+use crate::source_lines::{is_name_part, name_in_front};
+use occ_text::{Key, Line, Sym, Token};
 use std::alloc::{AllocError, Global};
 
-/// By what variables are named in a line of the source: the calls, and the numbers of those that led there, innermost first.
-#[derive(Clone, Copy)]
-pub(crate) struct Naming<'a> {
-    pub(crate) source: &'a [u8],
-    pub(crate) line: &'a [u8],
-    pub(crate) calls: &'a [Call],
-    pub(crate) numbers: &'a [usize],
-}
-
-/// What stands behind the first bracket of a line.
-fn behind_bracket(line: &[u8]) -> &[u8]
-    ensures { result.now ≡ behind_bracket line.now }
+/// The words of the line of this number; none where there is no such line.
+pub(crate) fn line_words(mut lines: &[Line], number: u32) -> &[Token]
+    ensures { words result.now ≡ line_words (logical_lines lines.entry.now) number }
 {
-    let mut rest = line;
-    while let [byte, others @ ..] = rest {
-        if *byte == b'(' {
-            return others;
+    while let [line, rest @ ..] = lines {
+        if line.number == number {
+            return line.words.as_slice();
         }
-        rest = others;
+        lines = rest;
     }
     &[]
 }
 
-/// In how many brackets stands what follows a byte.
-fn depth_after(depth: usize, byte: u8) -> usize
-    requires { depth < 18446744073709551615 }
-    ensures is { result ≡ depth_after depth byte }
-    ensures few { result ≤ depth + 1 }
+fn is_comma(token: &Token) -> bool
+    ensures { result ≡ is_comma (word token.now) }
 {
-    match byte {
-        b'(' | b'[' => depth + 1,
-        b')' | b']' => depth.saturating_sub(1),
-        _ => depth,
-    }
+    matches!(token, Token::Sym(Sym::Comma))
 }
 
-/// Whether an element of a list ends before this byte.
-fn ends_element(depth: usize, byte: u8, rest: &[u8]) -> bool
-    ensures { result ≡ ends_element depth byte rest.now }
+/// What stands behind the first comma.
+fn behind_comma(mut tokens: &[Token]) -> &[Token]
+    ensures { words result.now ≡ behind_comma (words tokens.entry.now) }
 {
-    (depth == 0 && (byte == b',' || byte == b')')) || hides(byte, rest)
-}
-
-/// How long the first element of a list is.
-fn element_length(text: &[u8]) -> usize
-    ensures value { result ≡ length (first_element 0 text.now) }
-    ensures within { result ≤ length text.now }
-{
-    let mut depth = 0;
-    let mut count = 0;
-    let mut rest = text;
-    while let [byte, others @ ..] = rest {
-        if ends_element(depth, *byte, others) {
-            break;
+    while let [token, rest @ ..] = tokens {
+        if is_comma(token) {
+            return rest;
         }
-        depth = depth_after(depth, *byte);
-        count += 1;
-        rest = others;
-    }
-    count
-}
-
-/// The first element of a list.
-#[tactic(auto, using(crate::proofs::Fronts::element_is))]
-fn first_element(text: &[u8]) -> &[u8]
-    ensures { result.now ≡ first_element 0 text.now }
-{
-    let count = element_length(text);
-    &text[..count]
-}
-
-/// The elements behind it.
-fn other_elements(text: &[u8]) -> &[u8]
-    ensures { result.now ≡ other_elements 0 text.now }
-{
-    let mut depth = 0;
-    let mut rest = text;
-    while let [byte, others @ ..] = rest {
-        if ends_element(depth, *byte, others) {
-            return if *byte == b',' { others } else { &[] };
-        }
-        depth = depth_after(depth, *byte);
-        rest = others;
+        tokens = rest;
     }
     &[]
 }
 
-/// What stands behind the last space of a text.
-fn last_word(text: &[u8]) -> &[u8]
-    ensures { result.now ≡ last_word text.now text.now }
+/// Whether an element of a list ends before these words.
+fn ends_element(tokens: &[Token]) -> bool
+    ensures { result ≡ ends_element (words tokens.now) }
 {
-    let mut found = text;
-    let mut rest = text;
-    while let [byte, others @ ..] = rest {
-        if *byte == b' ' {
-            found = others;
-        }
-        rest = others;
-    }
-    found
+    matches!(
+        tokens,
+        [Token::Sym(Sym::Comma), ..] | [Token::Sym(Sym::CloseParen | Sym::Colon)]
+    )
 }
 
-/// Whether a formal is by value: a name alone is as the formal before it.
-fn is_by_value(before: bool, formal: &[u8]) -> bool
-    ensures { result ≡ is_by_value before formal.now }
+/// Whether a word is this name, and an element ends with it, before these words.
+fn ends_with(own: &[u8], token: &Token, rest: &[Token]) -> bool
+    ensures { result ≡ ends_with own.now (word token.now) (words rest.now) }
 {
-    let front = name_in_front(formal);
-    if front == formal {
-        before
+    match token {
+        Token::Name(name) => name.as_slice() == own && ends_element(rest),
+        _ => false,
+    }
+}
+
+fn begins_with_name(tokens: &[Token]) -> bool
+    ensures { result ≡ begins_with_name (words tokens.now) }
+{
+    matches!(tokens, [Token::Name(_), ..])
+}
+
+/// Whether formals are by value behind a word, before these.
+fn is_by_value(before: bool, token: &Token, rest: &[Token]) -> bool
+    ensures { result ≡ is_by_value before (word token.now) (words rest.now) }
+{
+    match token {
+        Token::Key(Key::Val) => true,
+        Token::Sym(Sym::Comma) => before && begins_with_name(rest),
+        _ => before,
+    }
+}
+
+/// The actuals behind a comma of the formals.
+fn next_actuals<'a>(token: &Token, actuals: &'a [Token]) -> &'a [Token]
+    ensures { words result.now ≡ next_actuals (word token.now) (words actuals.now) }
+{
+    if is_comma(token) {
+        behind_comma(actuals)
     } else {
-        front == b"VAL".as_slice()
+        actuals
     }
 }
 
-/// Whether a formal is this name by reference.
-fn is_reference(before: bool, formal: &[u8], name: &[u8]) -> bool
-    ensures { result ≡ is_reference before formal.now name.now }
+/// The words from the actual on of the formal by reference of this name.
+fn actual_for<'a>(own: &[u8], formals: &[Token], actuals: &'a [Token]) -> Option<&'a [Token]>
+    ensures { lent_words result
+        ≡ actual_for own.now false (words formals.now) (words actuals.now) }
 {
-    !is_by_value(before, formal) && last_word(formal) == name
-}
-
-/// The actual of the formal by reference of this name.
-fn actual_for<'a>(name: &[u8], formals: &[u8], actuals: &'a [u8]) -> Option<&'a [u8]>
-    ensures { option_map (λ a. a.now) result ≡ actual_for name.now formals.now actuals.now }
-{
-    let mut before = false;
-    let mut formals_left = formals;
-    let mut actuals_left = actuals;
-    let mut bytes = formals;
-    while let [_, fewer @ ..] = bytes {
-        let formal = unspaced(first_element(formals_left));
-        if is_reference(before, formal, name) {
-            return Some(first_element(actuals_left));
+    let mut value = false;
+    let mut left = actuals;
+    let mut rest = formals;
+    while let [token, others @ ..] = rest {
+        if ends_with(own, token, others) && !value {
+            return Some(left);
         }
-        before = is_by_value(before, formal);
-        formals_left = other_elements(formals_left);
-        actuals_left = other_elements(actuals_left);
-        bytes = fewer;
+        value = is_by_value(value, token, others);
+        left = next_actuals(token, left);
+        rest = others;
     }
     None
 }
 
-/// The same by the lines of a call and of its PROC.
-fn actual_at<'a>(source: &'a [u8], call: Option<Call>, name: &[u8]) -> Option<&'a [u8]>
-    ensures { option_map (λ a. a.now) result ≡ actual_at source.now call name.now }
+fn begins_with_close(tokens: &[Token]) -> bool
+    ensures { result ≡ begins_with_close (words tokens.now) }
 {
-    match call {
-        Some(call) => {
-            let formals = behind_bracket(numbered_line(source, call.first));
-            let actuals = behind_bracket(numbered_line(source, call.line));
-            actual_for(name, formals, actuals)
-        }
-        None => None,
+    matches!(tokens, [Token::Sym(Sym::CloseBracket), ..])
+}
+
+/// The bytes of a number, if a subscript ends behind it.
+fn number_bytes(alloc: Global, number: u32, rest: &[Token]) -> Result<Option<Vec<u8>>, AllocError>
+    ensures { IfOk result (λ bytes. text_found bytes
+        ≡ number_bytes number (words rest.now)) }
+{
+    if begins_with_close(rest) {
+        let text = format!(in alloc; "{number}")?;
+        let bytes = Vec::from_slice(alloc, text.as_bytes())?;
+        Ok(Some(bytes))
+    } else {
+        Ok(None)
     }
 }
 
-/// A text without its spaces.
-fn write_squeezed(out: &mut Vec<u8>, text: &[u8]) -> Result<(), AllocError>
-    ensures { OnOk result (AddsText out.old out.new (squeezed text.now)) }
+/// The bytes of a word, before these, of subscripts that are written as numbers.
+fn subscript_bytes(
+    alloc: Global,
+    token: &Token,
+    rest: &[Token],
+) -> Result<Option<Vec<u8>>, AllocError>
+    ensures { IfOk result (λ bytes. text_found bytes
+        ≡ subscript_bytes (word token.now) (words rest.now)) }
 {
-    let mut rest = text;
-    while let [byte, others @ ..] = rest {
-        if *byte != b' ' {
-            out.push(*byte)?;
-        }
+    match token {
+        Token::Sym(Sym::OpenBracket) => Ok(Some(Vec::from_slice(alloc, b"[")?)),
+        Token::Sym(Sym::CloseBracket) => Ok(Some(Vec::from_slice(alloc, b"]")?)),
+        Token::Number(number) => number_bytes(alloc, number.unsigned_abs(), rest),
+        _ => Ok(None),
+    }
+}
+
+/// A name with the subscripts behind it, up to one that is not written as a number.
+fn subscripts_text(alloc: Global, name: &[u8], tokens: &[Token]) -> Result<Vec<u8>, AllocError>
+    ensures { IfOk result (λ v. v.items ≡ subscripts_text name.now (words tokens.now)) }
+{
+    let mut text = Vec::from_slice(alloc, name)?;
+    let mut rest = tokens;
+    while let [token, others @ ..] = rest {
+        let Some(bytes) = subscript_bytes(alloc, token, others)? else {
+            return Ok(text);
+        };
+        text.extend_from_slice(bytes.as_slice())?;
         rest = others;
     }
-    Ok(())
+    Ok(text)
+}
+
+/// The actual with which these words begin.
+fn actual_text(alloc: Global, tokens: &[Token]) -> Result<Vec<u8>, AllocError>
+    ensures { IfOk result (λ v. v.items ≡ actual_text (words tokens.now)) }
+{
+    match tokens {
+        [Token::Name(name), rest @ ..] => subscripts_text(alloc, name.as_slice(), rest),
+        _ => Ok(Vec::new(alloc)),
+    }
+}
+
+/// The actuals of a line that is a call.
+fn call_actuals(tokens: &[Token]) -> &[Token]
+    ensures { words result.now ≡ call_actuals (words tokens.now) }
+{
+    match tokens {
+        [_, _, rest @ ..] => rest,
+        _ => &[],
+    }
+}
+
+/// The actual of the formal by reference of this name of a call.
+pub(crate) fn actual_at(
+    alloc: Global,
+    lines: &[Line],
+    call: Call,
+    own: &[u8],
+) -> Result<Option<Vec<u8>>, AllocError>
+    ensures { IfOk result (λ a. text_found a
+        ≡ actual_at (logical_lines lines.now) call own.now) }
+{
+    let formals = line_words(lines, call.first);
+    let actuals = call_actuals(line_words(lines, call.line));
+    match actual_for(own, formals, actuals) {
+        Some(actual) => Ok(Some(actual_text(alloc, actual)?)),
+        None => Ok(None),
+    }
+}
+
+/// Whether it isn't known for what a text stands.
+pub(crate) fn is_unsure(text: &[u8]) -> bool
+    ensures { result ≡ is_unsure text.now }
+{
+    match text {
+        [.., last] => *last == b'[',
+        [] => true,
+    }
+}
+
+/// Whether a declaration, the head of a PROC or a replicator has such a word, and no other line.
+fn is_declaring(token: &Token) -> bool
+    ensures { result ≡ is_declaring (word token.now) }
+{
+    matches!(
+        token,
+        Token::Sym(Sym::Colon) | Token::Key(Key::Proc | Key::For)
+    )
+}
+
+/// Whether one of these words is such a word.
+fn has_declaring(mut tokens: &[Token]) -> bool
+    ensures { result ≡ list_any is_declaring (words tokens.entry.now) }
+{
+    while let [token, rest @ ..] = tokens {
+        if is_declaring(token) {
+            return true;
+        }
+        tokens = rest;
+    }
+    false
+}
+
+/// Whether these words may stand there behind a name that is declared.
+fn follow_declared(tokens: &[Token]) -> bool
+    ensures { result ≡ follow_declared (words tokens.now) }
+{
+    match tokens {
+        [Token::Key(Key::Is) | Token::Sym(Sym::Equal), ..] => true,
+        _ => ends_element(tokens),
+    }
+}
+
+/// Whether a word is this name, and may be declared, before these words.
+fn is_declared(own: &[u8], token: &Token, rest: &[Token]) -> bool
+    ensures { result ≡ is_declared own.now (word token.now) (words rest.now) }
+{
+    match token {
+        Token::Name(name) => name.as_slice() == own && follow_declared(rest),
+        _ => false,
+    }
+}
+
+fn declares_name(own: &[u8], mut tokens: &[Token]) -> bool
+    ensures { result ≡ declares_name own.now (words tokens.entry.now) }
+{
+    while let [token, rest @ ..] = tokens {
+        if is_declared(own, token, rest) {
+            return true;
+        }
+        tokens = rest;
+    }
+    false
+}
+
+/// Whether one of the lines between these two may declare a name.
+fn declares_between(first: u32, last: u32, own: &[u8], mut lines: &[Line]) -> bool
+    ensures { result ≡ declares_between first last own.now (logical_lines lines.entry.now) }
+{
+    while let [line, rest @ ..] = lines {
+        let words = line.words.as_slice();
+        if first < line.number
+            && line.number < last
+            && has_declaring(words)
+            && declares_name(own, words)
+        {
+            return true;
+        }
+        lines = rest;
+    }
+    false
+}
+
+/// For what a formal by reference of a call stands in this line of its PROC.
+fn meant_by(
+    alloc: Global,
+    lines: &[Line],
+    call: Call,
+    line: u32,
+    own: &[u8],
+) -> Result<Option<Vec<u8>>, AllocError>
+    ensures { IfOk result (λ a. text_found a
+        ≡ meant_by (logical_lines lines.now) call line own.now) }
+{
+    if !has_line(line, &call) {
+        return Ok(None);
+    }
+    let Some(actual) = actual_at(alloc, lines, call, own)? else {
+        return Ok(None);
+    };
+    if declares_between(call.first, call.last, own, lines) {
+        return Ok(Some(Vec::new(alloc)));
+    }
+    Ok(Some(actual))
 }
 
 /// What stands behind the name in front of a text.
@@ -193,146 +319,33 @@ fn behind_name(mut text: &[u8]) -> &[u8]
 }
 
 /// A text with an actual for the name in its front.
-fn replaced(alloc: Global, actual: &[u8], text: &[u8]) -> Result<Vec<u8>, AllocError>
-    ensures { IfOk result (λ v. v.items ≡ replaced actual.now text.now) }
+fn with_actual(actual: Vec<u8>, text: &[u8]) -> Result<Vec<u8>, AllocError>
+    ensures { IfOk result (λ v. v.items ≡ with_actual actual.items text.now) }
 {
-    let mut out = Vec::new(alloc);
-    write_squeezed(&mut out, actual)?;
-    out.extend_from_slice(behind_name(text))?;
-    Ok(out)
-}
-
-/// What a name stands for where calls led to.
-fn meaning(alloc: Global, naming: Naming<'_>, name: &[u8]) -> Result<Vec<u8>, AllocError>
-    ensures { IfOk result (λ v. v.items ≡ meaning_by naming.entry name.now) }
-{
-    let mut text = Vec::new(alloc);
-    text.extend_from_slice(name)?;
-    let mut rest = naming.numbers;
-    while let Some((number, others)) = rest.split_first() {
-        let call = call_at(naming.calls, *number);
-        let Some(actual) = actual_at(naming.source, call, name_in_front(text.as_slice())) else {
-            return Ok(text);
-        };
-        text = replaced(alloc, actual, text.as_slice())?;
-        rest = others;
+    if is_unsure(actual.as_slice()) {
+        return Ok(actual);
     }
-    Ok(text)
+    let mut replaced = actual;
+    replaced.extend_from_slice(behind_name(text))?;
+    Ok(replaced)
 }
 
-/// Whether a name begins with a byte.
-fn begins_name(inside: bool, byte: u8) -> bool
-    ensures { result ≡ begins_name inside byte }
-{
-    !inside && is_name_part(byte)
-}
-
-/// Whether a name stands in a line.
-fn has_name(name: &[u8], line: &[u8]) -> bool
-    ensures { result ≡ has_name false name.now line.now }
-{
-    let mut inside = false;
-    let mut rest = line;
-    while let [byte, others @ ..] = rest {
-        if begins_name(inside, *byte) && name_in_front(rest) == name {
-            return true;
-        }
-        inside = is_name_part(*byte);
-        rest = others;
-    }
-    false
-}
-
-/// What stands behind the front of a name.
-fn behind_front<'a>(front: &[u8], name: &'a [u8]) -> &'a [u8]
-    ensures { result.now ≡ behind_front front.now name.now }
-{
-    let end = front.len().min(name.len());
-    &name[end..]
-}
-
-/// Whether nothing or a subscript stands there.
-fn begins_subscript(text: &[u8]) -> bool
-    ensures { result ≡ begins_subscript text.now }
-{
-    match text {
-        [byte, ..] => *byte == b'[',
-        [] => true,
-    }
-}
-
-/// Whether a variable, or an array of which it is a component, is in front of its name.
-fn has_front(front: &[u8], name: &[u8]) -> bool
-    ensures { result ≡ has_front front.now name.now }
-{
-    let end = front.len().min(name.len());
-    &name[..end] == front && begins_subscript(behind_front(front, name))
-}
-
-/// Whether the name in front of a text stands for a variable of this name or for its array.
-fn stands_for(
+/// A text, and the line in which it stands, as outside of the PROC of a call.
+pub(crate) fn outside(
     alloc: Global,
-    naming: Naming<'_>,
-    name: &[u8],
-    text: &[u8],
-) -> Result<bool, AllocError>
-    ensures { IfOk result (λ b. b ≡ has_front (meaning_by naming.entry (name_in_front text.now)) name.now) }
+    lines: &[Line],
+    call: Option<Call>,
+    line: u32,
+    text: Vec<u8>,
+) -> Result<(u32, Vec<u8>), AllocError>
+    ensures { IfOk result (λ at. (at.0, at.1.items)
+        ≡ outside (logical_lines lines.now) call (line, text.items)) }
 {
-    let front = meaning(alloc, naming, name_in_front(text))?;
-    Ok(has_front(front.as_slice(), name))
-}
-
-/// The line from the first name on that does.
-fn from_formal<'a>(alloc: Global, naming: Naming<'a>, name: &[u8]) -> Result<&'a [u8], AllocError>
-    ensures { IfOk result (λ found. found.now ≡ found_by naming.entry name.now) }
-{
-    let mut inside = false;
-    let mut rest = naming.line;
-    while let [byte, others @ ..] = rest {
-        if begins_name(inside, *byte) && stands_for(alloc, naming, name, rest)? {
-            return Ok(rest);
-        }
-        inside = is_name_part(*byte);
-        rest = others;
+    let Some(call) = call else {
+        return Ok((line, text));
+    };
+    match meant_by(alloc, lines, call, line, name_in_front(text.as_slice()))? {
+        Some(actual) => Ok((call.line, with_actual(actual, text.as_slice())?)),
+        None => Ok((line, text)),
     }
-    Ok(&[])
-}
-
-/// A variable of this name by the formal with which this text begins, if it is not empty.
-fn write_formal(
-    alloc: Global,
-    out: &mut Vec<u8>,
-    naming: Naming<'_>,
-    name: &[u8],
-    found: &[u8],
-) -> Result<(), AllocError>
-    ensures { OnOk result
-        (AddsText out.old out.new (formal_text (meaning_by naming.entry) name.now found.now)) }
-{
-    if found.is_empty() {
-        return out.extend_from_slice(name);
-    }
-    let written = name_in_front(found);
-    let front = meaning(alloc, naming, written)?;
-    out.extend_from_slice(written)?;
-    out.extend_from_slice(behind_front(front.as_slice(), name))?;
-    out.extend_from_slice(b" (")?;
-    out.extend_from_slice(name)?;
-    out.extend_from_slice(b")")
-}
-
-/// A variable of this name, as the line tells it.
-pub(crate) fn write_told(
-    alloc: Global,
-    out: &mut Vec<u8>,
-    naming: Naming<'_>,
-    name: &[u8],
-) -> Result<(), AllocError>
-    ensures { OnOk result (AddsText out.old out.new (told_by naming.entry name.now)) }
-{
-    if has_name(name_in_front(name), naming.line) {
-        return out.extend_from_slice(name);
-    }
-    let found = from_formal(alloc, naming, name)?;
-    write_formal(alloc, out, naming, name, found)
 }

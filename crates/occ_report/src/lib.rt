@@ -14,6 +14,7 @@ mod formals;
 mod heads;
 mod kinds;
 mod marks;
+mod naming;
 mod parts;
 mod past;
 pub mod places;

@@ -10,12 +10,15 @@ use crate::{Places, Stop};
 use occ_machine::{Code, Task, Wait};
 use occ_net_tables::Tables;
 use occ_term::{Channel, Unfolded};
+use occ_text::Line;
 use std::alloc::{AllocError, Global};
 
-/// By what it is told where processes stand: the source, its program and its code, and where the processes of that stand in it.
+/// By what it is told where processes stand: the source, its logical lines, its program and its code, and where the processes of that
+/// stand in it.
 #[derive(Clone, Copy)]
 pub(crate) struct Told<'a> {
     pub(crate) source: &'a [u8],
+    pub(crate) lines: &'a [Line],
     pub(crate) unfolded: &'a Unfolded,
     pub(crate) code: &'a Code,
     pub(crate) places: &'a Places,

@@ -1,7 +1,8 @@
 //! Reports of runs.
 ghost use Rattle.std.specs.Prelude.{◌≡◌, IfOk, OnOk};
-ghost use Rattle.occ_report.specs.Reports.{IsCircleBy, IsReportBy, WaitingAt, count_text, report_head, report_tail};
+ghost use Rattle.occ_report.specs.Reports.{AreItsLines, IsCircleBy, IsReportBy, WaitingAt, count_text, report_head, report_tail};
 ghost use Rattle.occ_shown.specs.Answers.{AddsText};
+ghost use Rattle.occ_text.specs.Words.{logical_lines};
 
 use crate::Places;
 use crate::ended::write_ended;
@@ -13,6 +14,7 @@ use occ_ends::{Left, ProcessUses, ends_of, left_in, waiting_in};
 use occ_machine::Code;
 use occ_net_tables::{Keep, Ran, Tables, run_tables};
 use occ_term::{Ending, Unfolded};
+use occ_text::{Line, Source, TextFault, read_lines};
 use std::alloc::{AllocError, Global};
 
 /// How many processes a report tells of at most.
@@ -52,6 +54,17 @@ fn write_head(
     out.extend_from_slice(b"after ")?;
     out.extend_from_slice(count.as_bytes())?;
     out.extend_from_slice(tail(ending))
+}
+
+/// The logical lines of a source; none where it has none.
+fn lines_of(alloc: Global, source: &[u8]) -> Result<Vec<Line>, AllocError>
+    ensures { IfOk result (λ lines. AreItsLines source.now (logical_lines lines.items)) }
+{
+    match read_lines(alloc, source) {
+        Ok(Source { lines }) => Ok(lines),
+        Err(TextFault::Memory) => Err(AllocError),
+        Err(_) => Ok(Vec::new(alloc)),
+    }
 }
 
 /// Who waits for good where the choices are used up; of other endings nobody is told.
@@ -117,8 +130,11 @@ pub fn report(
         readers: reading,
         writers: writing,
     };
+    let read = lines_of(alloc, source)?;
+    let lines = read.as_slice();
     let told = Told {
         source,
+        lines,
         unfolded,
         code,
         places,

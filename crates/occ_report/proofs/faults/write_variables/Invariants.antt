@@ -1,6 +1,6 @@
 use Rattle.std.proofs.Common.{◌≡◌, ◌+◌, ◌++◌, ◌≤◌, length}
 use Rattle.occ_report.specs.Faults.{variables_text}
-use Rattle.occ_report.specs.Formals.{told_by}
+use Rattle.occ_report.specs.Naming.{told_by}
 use Rattle.occ_report.proofs.faults.write_variables.Given as goal
 
 abbrev pub invariant-loop-cell : goal.invariant-loop-cell
