@@ -4,7 +4,7 @@ complete -c occam -l quantum -x -d 'Lets a process go through up to N loop itera
 complete -c occam -l errors -x -a 'halt stop' -d 'Says what a fault does: halt ends the whole run, stop only its process [default: halt]'
 complete -c occam -l workers -x -d 'Runs the processes on N threads, 1 to 64; which process goes on is up to them'
 complete -c occam -l seed -x -d 'Makes a schedule from the number N, 0 to 1000000000; the same number gives the same run'
-complete -c occam -l tries -x -d 'Tries N seeds, 1 to 1000000, from that of --seed on, until a run does not end [default: 1]'
+complete -c occam -l tries -x -d 'Tries N seeds, 1 to 1000000, from that of --seed on, until a run stops, faults or comes to its limit [default: 1]'
 complete -c occam -l choices -r -d 'Plays the schedule in FILE, as --record writes it; --limit and --workers have no effect then'
 complete -c occam -l record -r -d 'Writes the schedule of the run into FILE; with --explore that of answer 1 into FILE.1.choices, and so on'
 complete -c occam -l typed -r -d 'Writes what was typed, as far as the run read it, into FILE'

@@ -21,7 +21,7 @@ LONGER = LONG.replace("1000", str(LETTERS))
 FULL, LATER = 4096, 100_000
 WRITTEN = ["--record", "--typed", "--chart", "--trace-to", "--steps", "--page"]
 FAILED = b"write failed\n"
-OWN_FILE = b"--record, --typed, --chart, --trace-to, --steps, --page and --graph each write into a file of their own\n"
+OWN_FILE = b"a file to be written is the source, that of --choices, or another one to be written: --record, --typed, --chart, --trace-to, --steps, --page and --graph each write into a file of their own\n"
 NOBODY = 65534
 
 

@@ -56,6 +56,15 @@ WRONG = [
     "--typed=f --record=f", "--typed=f --chart=f", "--typed=f --trace-to=f", "--typed=f --steps=f", "--page=x.occ", "--page=c --choices=c",
     "--page=f --record=f", "--page=f --chart=f", "--page=f --trace-to=f", "--page=f --steps=f", "--page=f --typed=f",
 ]
+# words that are wrong, and what is told of them
+TOLD = [
+    ("--states=5", "--states needs --explore or --within"), ("--memory=5", "--memory needs --explore or --within"),
+    ("--json", "--json needs --trace-to or --check"),
+    ("--explore --trace", "--explore has no run to trace: add --record STEM, and trace answer 1 by --choices STEM.1.choices --trace"),
+    *((f"--{word}=x.occ", f"--{word} would overwrite the source") for word in ("record", "typed", "chart", "trace-to", "steps", "page")),
+    *((f"--{word}=c --choices=c", f"--{word} would overwrite the file of --choices") for word in ("record", "typed", "chart", "trace-to", "steps", "page")),
+    ("--record=c c", "--record would overwrite the source"), ("--record=f --chart=f", "each write into a file of their own"),
+]
 # words that are allowed
 ALLOWED = [
     "--limit 10000000 --trace", "--trace --limit=2", "--errors halt", "--quantum=65536 --errors=stop --workers=64 --watch --explain",
@@ -89,6 +98,15 @@ def by_words(program, words, is_wrong):
             yield f"status {status}, {err[:80]!r}"
 
 
+def by_told(program, words, told):
+    """What is wrong with what is told of these words."""
+    with room({"x.occ": LETTER}) as folder:
+        put(folder, {"c": "0 0\n0 0\n"})
+        status, out, err = run(program, folder, ["x.occ", *words.split()])
+        if (status, out) != (7, b"") or told not in err.decode():
+            yield f"status {status}, {err[:120]!r}, and not {told!r}"
+
+
 def jobs():
     """A test for each file of choices, and for each list of words."""
     for text, wanted in CHOICES:
@@ -96,3 +114,5 @@ def jobs():
     for is_wrong, lists in ((True, WRONG), (False, ALLOWED)):
         for words in lists:
             yield Job(f"words: {words}", lambda program, words=words, is_wrong=is_wrong: by_words(program, words, is_wrong))
+    for words, told in TOLD:
+        yield Job(f"told: {words}", lambda program, words=words, told=told: by_told(program, words, told))

@@ -150,11 +150,11 @@ def unwritten(program):
     with room({"x.occ": TALK}) as folder:
         for words, wanted, told in (
             (["--explore=full", "--graph", "g.aut", "--states", "3", "x.occ"], 4, UNDRAWN),
-            (["--explore=full", "--graph", "g.txt", "x.occ"], 7, "the file of --graph has a name that ends in .aut, .dot or .gv"),
-            (["--explore=full", "--graph", "aut", "x.occ"], 7, "the file of --graph has a name that ends in .aut, .dot or .gv"),
-            (["--explore", "--graph", "g.aut", "x.occ"], 7, "--graph stands beside --explore=full"),
-            (["--explore=endings", "--graph", "g.dot", "x.occ"], 7, "--graph stands beside --explore=full"),
-            (["--graph", "g.gv", "x.occ"], 7, "--graph stands beside --explore=full"),
+            (["--explore=full", "--graph", "g.txt", "x.occ"], 7, "the name of the file of --graph must end in .aut, .dot or .gv"),
+            (["--explore=full", "--graph", "aut", "x.occ"], 7, "the name of the file of --graph must end in .aut, .dot or .gv"),
+            (["--explore", "--graph", "g.aut", "x.occ"], 7, "--graph needs --explore=full"),
+            (["--explore=endings", "--graph", "g.dot", "x.occ"], 7, "--graph needs --explore=full"),
+            (["--graph", "g.gv", "x.occ"], 7, "--graph needs --explore=full"),
             (["--explore=full", "--graph", "g.aut", "--page", "g.aut", "x.occ"], 7, OWN),
             (["--explore=full", "--graph", "none/g.aut", "x.occ"], 6, "write failed"),
         ):
@@ -163,7 +163,7 @@ def unwritten(program):
                 yield f"{words}: {status} {err}"
     with room({"x.aut": TALK}) as folder:
         status, _out, err = run_text(program, folder, ["--explore=full", "--graph", "x.aut", "x.aut"])
-        if status != 7 or OWN not in err or (folder / "x.aut").read_text() != TALK:
+        if status != 7 or "--graph would overwrite the source" not in err or (folder / "x.aut").read_text() != TALK:
             yield f"the source: {status} {err}"
     with room({"x.occ": (TOP / "examples/faults/door.occ").read_bytes()}) as folder:
         status, _out, err = run_text(program, folder, ["--explore=full", "--first", "--graph", "g.aut", "x.occ"])

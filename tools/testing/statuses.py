@@ -97,7 +97,7 @@ WAITING = """  p0 main, line 3: waits for p1 p2
   in a circle, each waits for the next: p1 p2
 """
 NOTICE = "the program reads the keyboard: type its input, then Ctrl-D on a line of its own\n"
-USAGE = "Compiles and runs an occam 2 program.\n\nUsage: occam [FILE] [OPTIONS]\n\n`occam FILE` runs the program in FILE, `occam --help` lists the options\n"
+USAGE = "Compiles and runs an occam 2 program.\n\nUsage: occam [FILE..] [OPTIONS]\n\n`occam FILE` runs the program in FILE, `occam --help` lists the options\n"
 MISSING = "no such file or folder\n"
 NO_SOURCE = MISSING + "  `occam FILE` runs the program in FILE, `occam --help` lists the options\n"
 ENDED_AT = "the search ended here, after {} states: there may be other answers\n"
@@ -184,7 +184,7 @@ CASES = [
     of(LETTER, ["--record", "x.occ"], 7, "", None),
     of(LETTER, ["--record", "a", "--chart", "a"], 7, "", None),
     of(LETTER, ["--choices", "a", "--chart", "a"], 7, "", None, files={"a": "0 0\n"}),
-    of(LETTER, ["--record", "./x.occ"], 7, "", "--record, --typed, --chart, --trace-to, --steps, --page and --graph each write into a file of their own\n"),
+    of(LETTER, ["--record", "./x.occ"], 7, "", "a file to be written is the source, that of --choices, or another one to be written: --record, --typed, --chart, --trace-to, --steps, --page and --graph each write into a file of their own\n"),
     of(LETTER, ["--choices", "a"], 7, "", "refused 90 BadChoice line 2\n", files={"a": "0 0\n0\n"}),
     of(LETTER, ["--choices", "a\x1b", "--explain"], 7, "", f"refused 90 BadChoice line 2\na\\x1b:2: {NO_CHOICE}", files={"a\x1b": "0 0\n0\n"}),
     of(LETTER, ["--chart", "a", "--only", "main,screen"], 7, "", NO_PROCESS.format("screen")),

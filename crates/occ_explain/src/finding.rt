@@ -9,7 +9,7 @@ use crate::calls::call_finding;
 use crate::causes::{cause_of, heading_of};
 use crate::class::Class;
 use crate::context::{line_index, start_of};
-use crate::hints::Met;
+use crate::hints::{BREAK_BEHIND, Met, is_operator};
 use crate::kinds::{constant_finding, kind_finding, main_finding, subscript_finding};
 use crate::large::large_finding;
 use crate::leaving::{leaving_of, place_of};
@@ -176,6 +176,7 @@ fn unexpected(text: &Text<'_>, line: usize, reader: Reader) -> Option<Told> {
 /// Where a refusal points to whose cause is told, as far as the words tell, and a hint beside it.
 fn beside_cause(words: &[Word<'_>], number: u32) -> (usize, &'static str) {
     let (sign, hint) = match number {
+        3 if is_operator(class_at(words, 0)) => (usize::MAX, BREAK_BEHIND),
         3 => (usize::MAX, "each level is two spaces"),
         32 => (usize::MAX, "@1"),
         33 => (index_of(words, Class::Assign), "@1"),

@@ -11,7 +11,8 @@ use crate::words::{bytes_at, class_at, word_from};
 /// The hints, each behind all that has to hold where it is given. `wanted` is the part that is wanted, and `first` the line's first
 /// word. `met` is the word that is met, `before` the one before it and `next` the one behind it. `like` is a word of the class of
 /// the one that is met, `after` of the one before, and `two.before` of the one before that. `some` is any word of the line. Where it
-/// `ends`, the line has to end; where something is `over`, no more of it can stand; and what `joins` is an operator.
+/// `ends`, the line has to end; where something is `over`, no more of it can stand; and what `joins` is an operator. With a `prefix`
+/// the word that is met begins.
 static HINTS: &str = "\
 some=TIMER / this profile of occam 2 has no timers
 some=AFTER some=? / this profile of occam 2 has no timers
@@ -31,8 +32,12 @@ some=ANY / this profile of occam 2 has no ANY: write a type, or declare a PROTOC
 before=PRI met=PAR / this profile of occam 2 has no PRI PAR: write PAR
 first=INITIAL / there is no INITIAL: declare the variable, and assign it in a SEQ
 first=VAR / declare a variable with its type: INT x:
+first=DATA some=TYPE / there is no DATA TYPE: use INT, BYTE, BOOL and arrays of them
+before=0 prefix=x / a number in hexadecimal digits begins with #: #1F
+before=0 prefix=X / a number in hexadecimal digits begins with #: #1F
 wanted=fifth / a type has four sizes at most, and a name four subscripts
 met=[ after=\"s\" / a string takes no subscript: name it first by VAL s IS \"abc\":
+before== met=[ some=FOR / leave the brackets of a replicator out: i = 0 FOR 10
 wanted=expression met=[ / this profile of occam 2 has no lists of values in brackets: assign the components one by one, or use a string for bytes
 met=IS / this profile of occam 2 has no abbreviations of variables: use the variable itself, or name a value by VAL x IS y:
 met=/ next=/ / a comment begins with two hyphens: -- like this
@@ -43,6 +48,27 @@ met=! next== / write <> for unequal
 met=& over / write AND for both
 before=+ met=+ / write x := x + 1 to add one
 met=+ next== / write x := x + 1 to add one
+met=- next== / write x := x - 1 to subtract one
+wanted=expression met=MINUS / write - for a sign: -x
+wanted=operand met=MINUS / write - for a sign, in brackets behind an operator: 3 * (-x)
+wanted=expression met=! / write NOT for the opposite of a condition: NOT x
+wanted=choice met=! / write NOT for the opposite of a condition: NOT x
+wanted=arm met=! / write NOT for the opposite of a condition: NOT x
+wanted=operand met=! / write NOT for the opposite of a condition, in brackets behind an operator: a AND (NOT b)
+wanted=( met=- / a name has letters, digits and dots: write my.var
+wanted=( / write brackets behind the name of a PROC, also if they are empty: PROC p ()
+wanted=names met=; / end the declaration with a colon
+wanted=: met=; / end the declaration with a colon
+wanted=formals met=; / put commas between formals: (CHAN OF BYTE a, b)
+wanted=actuals met=; / put commas between actuals: f (x, y)
+met=; / leave `;` out: each process stands in a line of its own, with nothing behind it
+wanted=] met=, / write each subscript, and each size, in brackets of its own: a[0][1]
+wanted=parts met=, / put semicolons between the parts of a message: INT; BYTE
+ends met=, some=! / put semicolons between the parts of a message: c ! x; y
+ends met=, some=? / put semicolons between the parts of a message: c ? x; y
+over met=? some=:= / an input is no value: write keyboard ? b
+wanted=input / an input names the variable that takes the message: c ? x
+first=CASE wanted=expression met= / write behind CASE what it chooses by: CASE x
 met=MOD / write \\ or REM for the remainder
 over met=:= / write = to compare, and := to assign
 wanted=action met== / write := to assign, and = to compare
@@ -54,6 +80,8 @@ wanted=arm first=PAR / an arm begins with a guard, such as c ? x: write that fir
 first=PROC ends met=: / leave this colon out: the one that ends a PROC stands below its body, in a line of its own
 ends met=( after=name / a PROC has no value: let it set a formal, and call it in a line of its own: f (3, x)
 wanted=choice met=ELSE / write TRUE for the last choice of an IF; ELSE is for CASE alone
+wanted=process met=ELSE / ELSE stands two spaces deeper than its CASE; for IF write TRUE there, its last condition
+wanted=process joins / break a line behind an operator, not before it
 first=IF / write IF alone, each condition in a line below it, and its process below that
 wanted=arm met=SKIP / write TRUE & SKIP for a guard that is always ready
 wanted=guard met=! / a guard is an input: an output cannot be one
@@ -61,6 +89,7 @@ wanted=guard / a guard is an input, or a condition with & and an input or SKIP: 
 wanted=FOR / a replicator has a base and a count, not a last value: i = 0 FOR 10
 wanted=top met=: / leave this colon out: each PROC, and each PROTOCOL with tags, ends with one
 wanted=top / write processes within a PROC, two spaces deeper than its first line
+wanted=action after=name met=- / a name has letters, digits and dots: write my.var
 wanted=action met= / write brackets behind the name in a call, also if they are empty: f ()
 wanted=action / an assignment is x := y, an input is c ? x, an output is c ! x, a call is f (x)
 wanted=) met= / close the bracket: write `)`
@@ -68,6 +97,7 @@ ends met=) / leave this bracket out: none is open here
 over met=: / leave the colon out: only declarations end with one
 wanted=names met=[ / write the size of an array before its type: [10]INT a:
 wanted=names met= / end the declaration with a colon
+wanted=names like=name / put commas between names: INT x, y:
 wanted=names met=:= / a declaration gives no value: assign it in a SEQ below
 wanted=: met= / end the declaration with a colon
 wanted=parts met= / end the PROTOCOL with a colon
@@ -76,6 +106,10 @@ met=:: after=INT / a counted array is the type of the count, two colons, and the
 wanted=OF / write OF behind CHAN: CHAN OF BYTE c:
 wanted=formals met=? / this profile of occam 2 has no direction marks: leave ? out
 wanted=formals met=! / this profile of occam 2 has no direction marks: leave ! out
+wanted=formals like=name / put commas between formals: (CHAN OF BYTE a, b)
+wanted=formals like=INT / put commas between formals: (CHAN OF BYTE a, b)
+wanted=formals met= / close the bracket: write `)`
+wanted=actuals like=name / put commas between actuals: f (x, y)
 wanted=expression met=] / give the array its size: [10]BYTE s:
 wanted=operand like=- / put brackets round a sign behind an operator: 3 * (-1)
 wanted=operand like=MOSTPOS / put brackets round it behind an operator: p <> (MOSTPOS INT)
@@ -85,7 +119,8 @@ over two.before=NOT / put brackets round an operator with one operand: (SIZE b) 
 over two.before=INT / put brackets round a conversion: (INT b) + 1
 over like=AND / operators have no precedence: put brackets round each side of AND
 over like=OR / operators have no precedence: put brackets round each side of OR
-over joins / operators have no precedence: write (a + b) * c or a + (b * c)";
+over joins / operators have no precedence: write (a + b) * c or a + (b * c)
+after=name met=- / a name has letters, digits and dots: write my.var";
 
 /// A place where a line leaves the grammar.
 #[derive(Clone, Copy)]
@@ -140,6 +175,7 @@ impl Met<'_> {
             [b'e', ..] => leaving.wanted.1.is_empty(),
             [b'o', ..] => !leaving.over.is_empty(),
             [b'j', ..] => is_operator(class),
+            [b'p', ..] => bytes_at(self.words, place).starts_with(spelling.as_bytes()),
             [b's', ..] => word_from(self.words, 0, spelling.as_bytes()) < self.words.len(),
             [b'l' | b'a' | b't', ..] => class_in(spelling) == Some(class),
             _ => bytes_at(self.words, place) == spelling.as_bytes(),
@@ -261,6 +297,9 @@ impl Met<'_> {
         }
     }
 }
+
+/// How a line that begins with an operator is mended.
+pub(crate) const BREAK_BEHIND: &str = "break a line behind an operator, not before it";
 
 /// How a PROC and a PROTOCOL are ended.
 pub(crate) const LAST_COLON: &str =

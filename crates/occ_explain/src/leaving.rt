@@ -25,7 +25,7 @@ pub(crate) struct Leaving {
 fn first_part(start: Start) -> Part {
     match start {
         Start::Top => ("top", "PROC, PROTOCOL or VAL"),
-        Start::Process => ("", "a process or a declaration"),
+        Start::Process => ("process", "a process or a declaration"),
         Start::Choice => ("choice", "a condition, a declaration or IF"),
         Start::Arm => ("arm", "a guard, a declaration or ALT"),
         Start::Option => ("", "a constant, ELSE or a declaration"),
@@ -73,7 +73,7 @@ fn part_at(words: &[Word<'_>], at: usize, wanted: Wanted) -> Part {
         Wanted::Begin | Wanted::End | Wanted::ExpressionEnd => ("", ""),
         Wanted::Operand if is_behind_operator(words, at) => ("operand", "an operand"),
         Wanted::Operand => ("expression", "an expression"),
-        Wanted::Variable if before == Class::Question => ("", "a variable or CASE"),
+        Wanted::Variable if before == Class::Question => ("input", "a variable or CASE"),
         Wanted::Variable if before == Class::Ampersand => ("", "SKIP or an input"),
         Wanted::Variable => ("", "a variable"),
         Wanted::NewName => ("new.name", "a new name"),
@@ -92,9 +92,9 @@ fn part_at(words: &[Word<'_>], at: usize, wanted: Wanted) -> Part {
         Wanted::For => ("FOR", "FOR"),
         Wanted::Alt => ("", "ALT"),
         Wanted::Equal => ("", "`=`"),
-        Wanted::OpenParen => ("", "`(`"),
+        Wanted::OpenParen => ("(", "`(`"),
         Wanted::CloseParen => (")", "`)`"),
-        Wanted::CloseBracket => ("", "`]`"),
+        Wanted::CloseBracket => ("]", "`]`"),
         Wanted::Question => ("", "`?`"),
         Wanted::Ampersand => ("guard", "`&`"),
         Wanted::Guard if class_at(words, 0) == Class::Primitive => ("names", "`,` or `:`"),
@@ -104,7 +104,7 @@ fn part_at(words: &[Word<'_>], at: usize, wanted: Wanted) -> Part {
         Wanted::Parts => ("parts", "`;` or `:`"),
         Wanted::Colon => (":", "`:`"),
         Wanted::LastColon => ("end", "`:`"),
-        Wanted::Actuals => ("", "`,` or `)`"),
+        Wanted::Actuals => ("actuals", "`,` or `)`"),
         Wanted::Formals => ("formals", "`,` or `)`"),
     }
 }

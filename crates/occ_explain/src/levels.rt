@@ -2,7 +2,7 @@
 
 use crate::class::Class;
 use crate::context::takes_variants;
-use crate::hints::LAST_COLON;
+use crate::hints::{BREAK_BEHIND, LAST_COLON, is_operator};
 use crate::refusal::Reader;
 use crate::scan::{Text, Word};
 use crate::sentence::{Nothing, Piece, Told};
@@ -30,7 +30,8 @@ pub(crate) fn level_finding(text: &Text<'_>, line: usize, reader: Reader) -> Tol
     let is_under = has_to_follow(text, last, reader);
     let deeper = text.indent_at(line) > text.indent_at(last);
     let is_beside = text.indent_at(line) == text.indent_at(last);
-    let is_colon = class_at(text.words_at(line), 0) == Class::Colon;
+    let first = class_at(text.words_at(line), 0);
+    let is_colon = first == Class::Colon;
     let second = "a second process, where only one may stand";
     let under_proc = "write the colon under the first letter of its PROC";
     let (wrong, hint) = match class_at(text.words_at(last), 0) {
@@ -59,6 +60,10 @@ pub(crate) fn level_finding(text: &Text<'_>, line: usize, reader: Reader) -> Tol
             "`:` does not stand under the first letter of a PROC or a PROTOCOL",
             under_proc,
         ),
+        _ if first == Class::Else => (
+            second,
+            "ELSE stands two spaces deeper than its CASE; for IF write TRUE there, its last condition",
+        ),
         Class::Seq | Class::Par if is_beside => (
             second,
             "write the parts of a SEQ or a PAR two spaces deeper than it",
@@ -72,7 +77,11 @@ pub(crate) fn level_finding(text: &Text<'_>, line: usize, reader: Reader) -> Tol
         line,
         at: 0,
         wrong,
-        hint,
+        hint: if is_operator(first) {
+            BREAK_BEHIND
+        } else {
+            hint
+        },
         pieces: [Piece::Short(last, 0), Piece::Line(last), Nothing, Nothing],
     }
 }

@@ -101,7 +101,9 @@ pub(crate) fn unknown(text: &Text<'_>, line: usize, name: &[u8]) -> Told {
     let hint = match behind {
         _ if !hint.is_empty() => hint,
         Class::Of => "declare the protocol above: `PROTOCOL @1 IS INT:`",
-        Class::OpenParen => "write this PROC above: no library is read, so copy it from there",
+        Class::OpenParen => {
+            "write this PROC above, or name the file that has it before yours: `occam lib.occ my.occ`"
+        }
         Class::Exclamation | Class::Question => "declare the channel above: `CHAN OF INT @1:`",
         _ => "declare it above, with its type: `INT @1:`",
     };

@@ -137,9 +137,16 @@ fn literal_text(class: Class, bytes: &[u8]) -> (&'static str, &'static str) {
             "`@1` has more than eight digits",
             "a hexadecimal number has 1 to 8 digits: #FF",
         ),
+        (_, [b'#', name @ ..]) if name == b"USE".as_slice() || name == b"INCLUDE".as_slice() => (
+            "`@1` is not read",
+            "name the file that has it before yours: `occam lib.occ my.occ`",
+        ),
+        (_, [b'#', name @ ..]) if name == b"PRAGMA".as_slice() => {
+            ("`@1` is not read", "leave the line out")
+        }
         (_, [b'#', ..]) => (
             "`@1` is no hexadecimal number",
-            "there are no directives: copy the PROCs of a library into the program",
+            "a hexadecimal number has 1 to 8 digits: #FF",
         ),
         _ => (
             "`@1` is too large for an INT",

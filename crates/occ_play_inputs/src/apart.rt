@@ -9,7 +9,7 @@ use occ_files::are_one_file;
 use std::rt::Files;
 
 /// Whether two words do not name one path.
-fn differ(one: Option<&str>, other: Option<&str>) -> bool
+pub(crate) fn differ(one: Option<&str>, other: Option<&str>) -> bool
     ensures { IsTrue result → Differ one.entry other.entry }
 {
     match (one, other) {

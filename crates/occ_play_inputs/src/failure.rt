@@ -65,13 +65,13 @@ pub enum Failure {
     #[error("{0}")]
     Words(clap::Error),
     /// There are no words, and standard input is a terminal: nothing is read then.
-    #[error("Compiles and runs an occam 2 program.\n\nUsage: occam [FILE] [OPTIONS]\n\n`occam FILE` runs the program in FILE, `occam --help` lists the options")]
+    #[error("Compiles and runs an occam 2 program.\n\nUsage: occam [FILE..] [OPTIONS]\n\n`occam FILE` runs the program in FILE, `occam --help` lists the options")]
     Bare,
     /// An argument is no UTF-8.
     #[error("an argument is no UTF-8")]
     Arguments,
     /// A file that is to be written is one that is read, or another that is written.
-    #[error("--record, --typed, --chart, --trace-to, --steps, --page and --graph each write into a file of their own")]
+    #[error("a file to be written is the source, that of --choices, or another one to be written: --record, --typed, --chart, --trace-to, --steps, --page and --graph each write into a file of their own")]
     Paths,
     /// A file or a stream could not be read.
     #[error("read failed")]

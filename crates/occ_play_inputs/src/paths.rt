@@ -4,7 +4,7 @@ ghost use Rattle.std.specs.Option.{option_copied};
 ghost use Rattle.occ_play_inputs.specs.Paths.{AreApart, HasOwnFile, IsPageApart, IsSourcePath, IsUnread, IsUntyped, IsUnwritten};
 
 use crate::apart::{
-    are_apart, are_undrawn, are_untyped, are_unwritten, has_own_file, is_graph_apart,
+    are_apart, are_undrawn, are_untyped, are_unwritten, differ, has_own_file, is_graph_apart,
     is_page_apart, is_unread,
 };
 use clap::ArgMatches;
@@ -12,9 +12,40 @@ use clap::ArgMatches;
 /// What is told where standard input is the source and files are named beside it.
 const ALONE: &str = "- is standard input as the source, and stands alone";
 
-/// What is told where two words name one file.
+/// What is told where two words name one file to be written.
 const ONE_FILE: &str =
     "--record, --typed, --chart, --trace-to, --steps, --page and --graph each write into a file of their own";
+
+/// The words that name a file to be written, and what is told of each where that is the source, and where it is that of --choices.
+#[rattlefmt::skip]
+static WRITTEN: [(&str, &str, &str); 7] = [
+    ("record", "--record would overwrite the source", "--record would overwrite the file of --choices"),
+    ("typed", "--typed would overwrite the source", "--typed would overwrite the file of --choices"),
+    ("chart", "--chart would overwrite the source", "--chart would overwrite the file of --choices"),
+    ("trace-to", "--trace-to would overwrite the source", "--trace-to would overwrite the file of --choices"),
+    ("steps", "--steps would overwrite the source", "--steps would overwrite the file of --choices"),
+    ("page", "--page would overwrite the source", "--page would overwrite the file of --choices"),
+    ("graph", "--graph would overwrite the source", "--graph would overwrite the file of --choices"),
+];
+
+/// What is told where files are not apart: that a file which is read would be overwritten, or else that two words name one.
+fn overwritten(
+    matches: &ArgMatches<'_>,
+    file: Option<&str>,
+    others: &[&str],
+    choices: Option<&str>,
+) -> &'static str {
+    for (word, source, schedule) in WRITTEN.as_slice() {
+        let path = matches.get_str(*word);
+        if !differ(path, file) || !are_untyped(others, path) {
+            return *source;
+        }
+        if !differ(path, choices) {
+            return *schedule;
+        }
+    }
+    ONE_FILE
+}
 
 /// The paths of the files, as [`Words`](crate::Words) has them.
 #[derive(Drop)]
@@ -64,7 +95,7 @@ pub(crate) fn paths_of<'a>(
         || !is_graph_apart(graph, file, choices, record, chart, trace_to, steps, page)
         || !are_undrawn(others, graph)
     {
-        return Err(ONE_FILE);
+        return Err(overwritten(matches, file, others, choices));
     }
     Ok(Paths {
         file,

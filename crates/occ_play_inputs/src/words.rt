@@ -52,6 +52,10 @@ pub const DEFAULT_MEMORY: u32 = 1_024;
 /// The most megabytes that a word may ask for.
 pub const MOST_MEMORY: u32 = 1_000_000;
 
+/// What is told where the trace of a search is asked for.
+const NO_TRACE: &str =
+    "--explore has no run to trace: add --record STEM, and trace answer 1 by --choices STEM.1.choices --trace";
+
 /// What the words of the command line say.
 #[derive(Debug, Drop)]
 pub struct Words<'a> {
@@ -80,7 +84,7 @@ pub struct Words<'a> {
     /// The number from which the choices of the run are made, as many as the limit has, 0 to 1,000,000,000; none where no word
     /// says so.
     pub seed: Option<u32>,
-    /// How many such numbers are tried, one after the other, until a run doesn't end, 1 to 1,000,000.
+    /// How many such numbers are tried, one after the other, until the ending of a run is not `ended`, 1 to 1,000,000.
     pub tries: u32,
     /// The path of a file of choices, by which the run is played; then the limit and the workers say
     /// nothing.
@@ -252,18 +256,21 @@ fn refused<'a>(command: &mut Command<'a>, told: &str) -> Error {
     }
 }
 
-/// What is told where a word stands without one that it needs.
+/// What is told where a word stands without one that it needs, or beside a search as if that were one run.
 fn needed(matches: &ArgMatches<'_>) -> Option<&'static str> {
+    if matches.get_str("explore").is_some() && matches.get_flag("trace") {
+        return Some(NO_TRACE);
+    }
     let searches = matches.get_str("explore").is_some() || matches.get_str("within").is_some();
     if !searches && matches.get_one::<u32>("states").is_some() {
-        return Some("--states stands beside --explore or --within");
+        return Some("--states needs --explore or --within");
     }
     if !searches && matches.get_one::<u32>("memory").is_some() {
-        return Some("--memory stands beside --explore or --within");
+        return Some("--memory needs --explore or --within");
     }
     let tells = matches.get_str("trace-to").is_some() || matches.get_flag("check");
     if !tells && matches.get_flag("json") {
-        return Some("--json stands beside --trace-to or --check");
+        return Some("--json needs --trace-to or --check");
     }
     unwritten(
         matches.get_str("graph"),
@@ -275,9 +282,9 @@ fn needed(matches: &ArgMatches<'_>) -> Option<&'static str> {
 fn unwritten(graph: Option<&str>, full: bool) -> Option<&'static str> {
     match graph {
         Some(path) if !is_graph_name(path) => {
-            Some("the file of --graph has a name that ends in .aut, .dot or .gv")
+            Some("the name of the file of --graph must end in .aut, .dot or .gv")
         }
-        Some(_) if !full => Some("--graph stands beside --explore=full"),
+        Some(_) if !full => Some("--graph needs --explore=full"),
         _ => None,
     }
 }
