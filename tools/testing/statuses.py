@@ -96,6 +96,7 @@ WAITING = """  p0 main, line 3: waits for p1 p2
   p2 main, line 11: awaits d, which p1 writes
   in a circle, each waits for the next: p1 p2
 """
+TYPED = "no FILE is named: type the source, then Ctrl-D on a line of its own\n"
 NOTICE = "the program reads the keyboard: type its input, then Ctrl-D on a line of its own\n"
 USAGE = "Compiles and runs an occam 2 program.\n\nUsage: occam [FILE..] [OPTIONS]\n\n`occam FILE` runs the program in FILE, `occam --help` lists the options\n"
 MISSING = "no such file or folder\n"
@@ -376,7 +377,7 @@ def typed(program):
             (["x.occ", "--workers=2"], "abc\n\x04", (0, "abc", NOTICE)),
             (["x.occ", "--explore"], "abc\n\x04", (0, '1 ended "abc" by 10 choices\neach run ends after 10 turns\none answer: the program has no ALT\n', NOTICE)),
             ([], "", (7, "", USAGE)),
-            (["--trace"], f"{LETTER}\x04", (0, "A\n1 c1 screen p0>screen 65\nended\n", "")),
+            (["--trace"], f"{LETTER}\x04", (0, "A\n1 c1 screen p0>screen 65\nended\n", TYPED)),
             (["x.occ", "--check"], "", (0, "", "")),
             (["none.occ"], "", (6, "", "read failed\n")),
         ]

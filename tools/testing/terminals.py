@@ -7,7 +7,7 @@ import re
 import subprocess
 
 from .running import SECONDS, TOP, Job, room, run_text, shown_on
-from .statuses import ECHO, ENDLESS, FAULTS, HEAD, LETTER, NOTICE, NO_SOURCE, SHARED, SHARED_TOLD, STOPS, USAGE
+from .statuses import ECHO, ENDLESS, FAULTS, HEAD, LETTER, NOTICE, NO_SOURCE, SHARED, SHARED_TOLD, STOPS, TYPED, USAGE
 
 MISSING = f"none.occ: {NO_SOURCE}"
 STUCK = "halted: p0 was halted\nafter 0 communications no process can go on:\n  p0 main, line 2: halted by STOP\n"
@@ -53,7 +53,7 @@ CASES = [
     ("a missing file of choices", LETTER, ["--choices", "none", "x.occ"], "", ALL, {"NO_COLOR": "1"}, (6, "read failed\nnone: no such file or folder\n", "")),
     ("no words at all", LETTER, [], "", ALL, {}, (7, USAGE, "")),
     ("no words, and no terminal but standard input", LETTER, [], "", (0,), {}, (7, "", USAGE)),
-    ("a source that is typed", LETTER, ["--trace"], f"{LETTER}\x04", ALL, {}, (0, "A\n1 c1 screen p0>screen 65\nended\n", "")),
+    ("a source that is typed", LETTER, ["--trace"], f"{LETTER}\x04", ALL, {}, (0, TYPED + "A\n1 c1 screen p0>screen 65\nended\n", "")),
     ("hello needs no Ctrl-D", LETTER, ["x.occ"], "", ALL, {}, (0, "A", "")),
     ("nor does its search", LETTER, ["--explore=endings", "x.occ"], "", ALL, {}, (0, "1 ended by 2 choices\neach run ends after 2 turns\none answer: the program has no ALT\n", "")),
     ("nor does a program that is refused", READS, ["--plain", "x.occ"], "", ALL, {}, (1, "refused 50 SharedVariable line 8 x\n", "")),

@@ -27,5 +27,5 @@ pub use lines::{MOST_ANSWERS, answer_line, exploration_text, found_line};
 pub use occ_explore::{
     Answer, Asked, Exploration, Graph, GraphForm, Lasting, Progress, Untold, Waiting,
 };
-pub use only::{only_answer_in, only_text, status_of_only};
+pub use only::{only_answer_in, only_text, status_of_only, turns_within};
 pub use within::{KeepFault, Kept, keep_in, outside_of, status_of_kept};

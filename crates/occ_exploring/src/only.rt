@@ -1,6 +1,6 @@
 //! The one answer of a source without an ALT.
 ghost use Rattle.std.specs.Prelude.{◌≡◌, IfErr, IfNone, IfOk, IfSome};
-ghost use Rattle.occ_exploring.specs.Alone.{IsOnlyFor, IsUntoldFor, only_status, only_text};
+ghost use Rattle.occ_exploring.specs.Alone.{IsOnlyFor, IsUntoldFor, only_status, only_text, turns_within};
 ghost use Rattle.occ_play.specs.Playing.{Refuses};
 
 use crate::lines::{write_answer, write_counted};
@@ -9,6 +9,21 @@ use occ_explore::{Answer, Asked, only_answer};
 use occ_play::{Options, PlayFault, code_of};
 use occ_term::Ending;
 use std::alloc::{AllocError, Global};
+
+/// How many turns of one run a megabyte is reckoned to hold.
+const TURNS: u64 = 16_384;
+
+/// How many turns one run may have that tells the only answer: as many as a search may have states, where so many megabytes hold them.
+pub fn turns_within(most: u32, memory: u32) -> u32
+    ensures { result ≡ turns_within most memory }
+{
+    let turns = u64::from(memory) * TURNS;
+    if turns < u64::from(most) {
+        turns as u32
+    } else {
+        most
+    }
+}
 
 /// The one answer that all lists of choices come to by which a source can be played on the keyboard's bytes, by turns of these
 /// options: where its program has no ALT, and one run of at most `most` turns comes to an end without a fault. None where that

@@ -24,6 +24,9 @@ const MOST_SOURCE: usize = 1_048_577;
 const NOTICE: &str =
     "the program reads the keyboard: type its input, then Ctrl-D on a line of its own\n";
 
+/// What is told before a source is read from a terminal.
+const SOURCE_NOTICE: &str = "no FILE is named: type the source, then Ctrl-D on a line of its own\n";
+
 /// A source: its files, one behind the other.
 #[derive(Drop)]
 pub struct Joined {
@@ -81,22 +84,29 @@ where
     })
 }
 
-/// Reads the source alone: the files that the words name, or standard input.
+/// Reads the source alone: the files that the words name, or standard input. Before one that is typed on a terminal is read, a line
+/// on standard error tells how it is ended.
 ///
 /// # Errors
 ///
 /// `Read` where it could not be read, and `Memory` of a refused growth.
-pub fn read_source<R: Files + Input>(
+pub fn read_source<R: Files + Input + Eprint>(
     rt: &R,
     alloc: Global,
     words: &Words<'_>,
 ) -> Result<Joined, Failure>
+where
+    R::Reader: IsTerminal,
     ensures few { IfOk result (λ source. length source.bytes.items ≤ 1048577) }
     ensures joined { IfOk result (IsSourceBy words.now) }
     ensures failed { IfErr result FailsToReadSource }
 {
     match words.file {
-        None => read_first(alloc, Stream::Source, rt.reader()),
+        None => {
+            let source = rt.reader();
+            let _ = eprint!(rt; "{}", notice_of(words.file, source.is_terminal()));
+            read_first(alloc, Stream::Source, source)
+        }
         Some(path) => read_files(rt, alloc, path, words.more.as_slice()),
     }
 }
@@ -251,14 +261,15 @@ fn read_wanted<K: Read + Drop>(alloc: Global, keyboard: K, wanted: bool) -> Resu
     }
 }
 
-/// What is told before the keyboard is read: the line where a source's file is named and standard input is a terminal, and else
-/// nothing.
+/// What is told before standard input is read, where that is a terminal: how the keyboard is ended, or the source where the words name
+/// no file of it.
 fn notice_of(file: Option<&str>, is_terminal: bool) -> &'static str
     ensures { result.now ≡ notice_of file.entry is_terminal }
 {
     match file {
-        Some(_) if is_terminal => NOTICE,
-        _ => "",
+        _ if !is_terminal => "",
+        Some(_) => NOTICE,
+        None => SOURCE_NOTICE,
     }
 }
 

@@ -20,7 +20,7 @@ use Rattle.occ_explore.specs.declared.exploration.Asked.TheVariants.{Answers}
 use Rattle.occ_explore.specs.declared.exploration.Exploration.{Exploration}
 use Rattle.occ_explore.specs.declared.exploration.Answer.{Answer}
 use Rattle.occ_explore.specs.Exploring.{EndsAtFirst}
-use Rattle.occ_exploring.specs.Alone.{IsOnlyFor, IsUntoldFor, only_status}
+use Rattle.occ_exploring.specs.Alone.{IsOnlyFor, IsUntoldFor, only_status, turns_within}
 use Rattle.occ_exploring.specs.Explored.{IsDrawnFor, IsExplored}
 use Rattle.occ_exploring.specs.Within.{IsComparison, RefusesOne, SaysOfRuns, kept_status}
 use Rattle.occ_exploring.specs.declared.within.KeepFault.{KeepFault}
@@ -107,7 +107,7 @@ found_status (Err fault) = fault_status fault
 
 -- whether one run tells it, as the words ask
 abbrev pub OnlyTo : Words → (source keyboard : List ℕ) → Result (Option Answer) PlayFault → Type 0
-OnlyTo words source keyboard (Ok None) = IsUntoldFor (options_in words) source keyboard words.states
+OnlyTo words source keyboard (Ok None) = IsUntoldFor (options_in words) source keyboard (turns_within words.states words.memory)
 OnlyTo words source keyboard (Ok (Some a)) = IsOnlyFor (options_in words) source keyboard a
 OnlyTo words source keyboard (Err fault) = Refuses (options_in words) source fault
 

@@ -23,7 +23,7 @@ use crate::troubles::answer_path;
 use occ_choices::choices_text;
 use occ_exploring::{
     Answer, Asked, Exploration, MOST_ANSWERS, Progress, Waiting, exploration_text, explore_in,
-    only_answer_in, only_text, status_of_only, status_of_search,
+    only_answer_in, only_text, status_of_only, status_of_search, turns_within,
 };
 use occ_files::{Disk, Folder, Noting, Reason, are_one_file};
 use occ_play::{Choice, PlayFault, status_of};
@@ -157,7 +157,7 @@ fn only(alloc: Global, words: &Words<'_>, inputs: &Inputs) -> Result<Option<Answ
         alloc,
         inputs.source.as_slice(),
         inputs.keyboard.as_slice(),
-        words.states,
+        turns_within(words.states, words.memory),
     )
 }
 

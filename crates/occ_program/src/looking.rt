@@ -12,7 +12,7 @@ use occ_play::{PlayFault, code_of, status_of};
 use occ_play_inputs::{Failure, Joined, Words, read_source};
 use occ_shown::{Counted, write_answer};
 use std::alloc::Global;
-use std::io;
+use std::io::{self, IsTerminal};
 use std::rt::Files;
 
 /// Reads the source that the words name and prints why it is refused, where it is, or which PROCs no call reaches; nothing is played.
@@ -21,6 +21,8 @@ pub(crate) fn look_at_words<R: Files + Input + Print + Eprint>(
     alloc: Global,
     words: &Words<'_>,
 ) -> Result<u8, Failure>
+where
+    R::Reader: IsTerminal,
     ensures looked { IfOk result (IsLookStatus words.now) }
     ensures small { IfOk result (λ status. status ≤ 7) }
 {
