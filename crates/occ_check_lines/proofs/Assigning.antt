@@ -11,14 +11,14 @@ use Rattle.occ_check_meaning.specs.Expressions.{Typed, typed}
 use Rattle.occ_check_meaning.specs.Items.{apart, as_target, assigned_item, assigned_items, some_clash, variable_of}
 use Rattle.occ_check_meaning.specs.Scope.{Names, Stretch, each_of, keep}
 use Rattle.occ_check_meaning.proofs.Steps.{bind_some, some_is}
-use Rattle.occ_check.specs.Action.{side_assigned}
-use Rattle.occ_check.specs.Clash.{stretches_at}
-use Rattle.occ_check.specs.Zipped.{zipped}
-use Rattle.occ_check.specs.View.{Refuses, variable_part}
-use Rattle.occ_check.specs.declared.fault.CheckFault.{CheckFault}
-use Rattle.occ_check.specs.declared.typed.Part.{Part}
-use Rattle.occ_check.proofs.Refusals.{none_then, refused_with}
-use Rattle.occ_check.proofs.Targets.{bare, bare_clash}
+use Rattle.occ_check_lines.specs.Action.{side_assigned}
+use Rattle.occ_check_lines.specs.Clash.{stretches_at}
+use Rattle.occ_check_lines.specs.Zipped.{zipped}
+use Rattle.occ_check_lines.specs.View.{Refuses, variable_part}
+use Rattle.occ_check_lines.specs.declared.fault.CheckFault.{CheckFault}
+use Rattle.occ_check_lines.specs.declared.typed.Part.{Part}
+use Rattle.occ_check_lines.proofs.Refusals.{none_then, refused_with}
+use Rattle.occ_check_lines.proofs.Targets.{bare, bare_clash}
 
 abbrev no_items : Option (List T.Item)
 no_items = None

@@ -6,7 +6,7 @@ use Rattle.std.proofs.lemmas.List.{drop_all}
 use Rattle.occ_tree_grammar.specs.Many.{◌>>=◌}
 use Rattle.occ_check_meaning.specs.Scope.{keep}
 use Rattle.occ_check_meaning.specs.Actions.{Chosen, choosing, has_constant}
-use Rattle.occ_check.proofs.Refusals.{then_nothing}
+use Rattle.occ_check_lines.proofs.Refusals.{then_nothing}
 
 one_first : (v : ℤ) (vs : List ℤ) (c : Chosen) → choosing (v ∷ vs) c ≡ (choosing (v ∷ []) c >>= choosing vs)
 unfolding choosing

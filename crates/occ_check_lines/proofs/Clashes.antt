@@ -5,7 +5,7 @@ use Rattle.occ_term.specs.Values.{Span}
 use Rattle.occ_check_meaning.specs.Calls.{meets_one, some_meet}
 use Rattle.occ_check_meaning.specs.Items.{are_constant, clash, clashes_with_one, have_common, is_named_by, part_span, some_clash}
 use Rattle.occ_check_meaning.specs.Scope.{Stretch}
-use Rattle.occ_check.specs.Clash.{fixed_spans, is_named_with, is_one_named}
+use Rattle.occ_check_lines.specs.Clash.{fixed_spans, is_named_with, is_one_named}
 
 -- whether the one is constant, the other, they meet, a later one meets, one names the other, a later one does
 one_more : (r q meet later named others : Bool)

@@ -9,12 +9,12 @@ use Rattle.occ_check_meaning.specs.Scope.{Name}
 use Rattle.occ_check_meaning.specs.Numbers.{Numbers}
 use Rattle.occ_check_meaning.specs.Declarations as D
 use Rattle.occ_check_meaning.specs.Declarations.{opened, with_others, each_declared}
-use Rattle.occ_check.specs.View.{Refuses, numbers_of}
-use Rattle.occ_check.specs.Declaration.{opened_of, pair_of, pairs_of}
-use Rattle.occ_check.specs.declared.fault.CheckFault.{CheckFault}
-use Rattle.occ_check.proofs.Refusals.{refused_with}
-use Rattle.occ_check.specs.declared.numbers.Numbers.{Numbers as Given}
-use Rattle.occ_check.specs.declared.declaration.Opened.{Opened}
+use Rattle.occ_check_lines.specs.View.{Refuses, numbers_of}
+use Rattle.occ_check_lines.specs.Declaration.{opened_of, pair_of, pairs_of}
+use Rattle.occ_check_lines.specs.declared.fault.CheckFault.{CheckFault}
+use Rattle.occ_check_lines.proofs.Refusals.{refused_with}
+use Rattle.occ_check_lines.specs.declared.numbers.Numbers.{Numbers as Given}
+use Rattle.occ_check_lines.specs.declared.declaration.Opened.{Opened}
 
 -- what follows, after these
 abbrev pub after_these : D.Opened → Option D.Opened → Option D.Opened

@@ -5,9 +5,9 @@ use Rattle.std.proofs.lemmas.List.{drop_all, map-append}
 use mathlib.Core.List.{append-nil}
 use Rattle.occ_tree_grammar.specs.Many.{◌>>=◌}
 use Rattle.occ_check_meaning.specs.Scope.{each_of}
-use Rattle.occ_check.specs.View.{Refuses}
-use Rattle.occ_check.specs.declared.fault.CheckFault.{CheckFault}
-use Rattle.occ_check.proofs.Refusals.{none_then, refused_with, then_nothing, then_then}
+use Rattle.occ_check_lines.specs.View.{Refuses}
+use Rattle.occ_check_lines.specs.declared.fault.CheckFault.{CheckFault}
+use Rattle.occ_check_lines.proofs.Refusals.{none_then, refused_with, then_nothing, then_then}
 
 pub from_here : {X : Type 0} (xs : List X) (i : ℕ) (x : X) → i < length xs → x ≡ get_or xs i x → drop i xs ≡ x ∷ drop (i + 1) xs
 from_here xs i x below here =

@@ -17,9 +17,9 @@ use Rattle.occ_term.specs.View.{expression_of, subscripts}
 use Rattle.occ_term.specs.declared.expression.TermExpr.{TermExpr}
 use Rattle.occ_check_meaning.specs.Scope.{Names}
 use Rattle.occ_check_meaning.specs.Expressions.{joined, single, logic_of, of_type, typed, typed_as, typed_chain, typed_operand, typed_subscripts}
-use Rattle.occ_check.specs.View.{Refuses}
-use Rattle.occ_check.specs.declared.fault.CheckFault.{CheckFault}
-use Rattle.occ_check.proofs.Refusals.{none_then, refused_with, then_nothing, then_then}
+use Rattle.occ_check_lines.specs.View.{Refuses}
+use Rattle.occ_check_lines.specs.declared.fault.CheckFault.{CheckFault}
+use Rattle.occ_check_lines.proofs.Refusals.{none_then, refused_with, then_nothing, then_then}
 
 -- ---- the trees of the code, seen
 

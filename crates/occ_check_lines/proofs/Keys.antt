@@ -4,7 +4,7 @@ use Rattle.std.specs.Prelude.{not, ◌||◌}
 use Rattle.std.specs.List.{list_any}
 use Rattle.std.specs.Map.{keys_of, lookup}
 use Rattle.indexmap.specs.IndexMap.{insert_entry}
-use Rattle.occ_check.specs.Listing.{with_one_more}
+use Rattle.occ_check_lines.specs.Listing.{with_one_more}
 
 module _ {K V : Type 0} (eq : K → K → Bool) (k : K) (v : V) where
   found_or : (b : Bool) (x : V) (o : Option V) (a : Bool) → is_some o ≡ a → is_some (cond b (Some x) o) ≡ (b || a)

@@ -10,9 +10,9 @@ use Rattle.occ_term.specs.declared.expression.TermExpr.{TermExpr}
 use Rattle.occ_check_meaning.specs.Scope.{keep, a_string}
 use Rattle.occ_check_meaning.specs.Constants.{constant, is_within}
 use Rattle.occ_check_meaning.specs.Expressions.{joined, left_by, read}
-use Rattle.occ_check.specs.View.{Refuses}
-use Rattle.occ_check.specs.declared.fault.CheckFault.{CheckFault}
-use Rattle.occ_check.proofs.Refusals.{none_then, refused_with, then_nothing}
+use Rattle.occ_check_lines.specs.View.{Refuses}
+use Rattle.occ_check_lines.specs.declared.fault.CheckFault.{CheckFault}
+use Rattle.occ_check_lines.proofs.Refusals.{none_then, refused_with, then_nothing}
 
 -- ---- subscripts one after another
 

@@ -7,7 +7,7 @@ use Rattle.occ_term.specs.Terms.{Expression, Constant, Cell, Component, Letter, 
 use Rattle.occ_term.specs.Uses.{Numbers, empty_set, named_by, numbers_in, part_named, reads_in_place, reads_in_subscripts, reads_of, union}
 use Rattle.occ_term.specs.Values.{Span, span}
 use Rattle.occ_check_meaning.specs.Items.{has_of, has_some}
-use Rattle.occ_check.specs.Clash.{reads_some, shares, some_in_place, some_in_subscripts}
+use Rattle.occ_check_lines.specs.Clash.{reads_some, shares, some_in_place, some_in_subscripts}
 
 -- ---- one of so many numbers
 

@@ -12,8 +12,8 @@ use Rattle.occ_term.specs.Uses.{part_named}
 use Rattle.occ_term.specs.Values.{Span, span}
 use Rattle.occ_check_meaning.specs.Items.{is_named_by, variable_span}
 use Rattle.occ_check_meaning.specs.Scope.{Stretch}
-use Rattle.occ_check.specs.Clash.{begins_at, below, ends_at, is_named_with, is_one_named, meets_another, one_names_another, reads_some, shares, some_in_place, some_in_subscripts, variable_spans}
-use Rattle.occ_check.proofs.NamedCells.{either_of, named_is, none_share, share_is, share_none, sharing}
+use Rattle.occ_check_lines.specs.Clash.{begins_at, below, ends_at, is_named_with, is_one_named, meets_another, one_names_another, reads_some, shares, some_in_place, some_in_subscripts, variable_spans}
+use Rattle.occ_check_lines.proofs.NamedCells.{either_of, named_is, none_share, share_is, share_none, sharing}
 
 -- ---- each stretch with those before it and those behind it
 

@@ -6,8 +6,8 @@ use Rattle.std.proofs.lemmas.Bool.Decides.{nat_tests}
 use Rattle.occ_term.specs.Values.{Span, span}
 use Rattle.occ_check_meaning.specs.Calls.{meets_one, some_meet}
 use Rattle.occ_check_meaning.specs.Items.{have_common}
-use Rattle.occ_check.specs.Overlap.{end_in_turn, ends_before, neighbours_meet}
-use Rattle.occ_check.proofs.AnyPair.{some_pair, some_pair-permuted, some_with}
+use Rattle.occ_check_lines.specs.Overlap.{end_in_turn, ends_before, neighbours_meet}
+use Rattle.occ_check_lines.proofs.AnyPair.{some_pair, some_pair-permuted, some_with}
 
 pub and_first : (a b : Bool) → (a && b) ≡ true → a ≡ true
 and_first true b e = refl

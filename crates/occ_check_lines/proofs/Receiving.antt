@@ -14,9 +14,9 @@ use Rattle.occ_term.specs.Terms.{Place, Target}
 use Rattle.occ_check_meaning.specs.Scope.{Names}
 use Rattle.occ_check_meaning.specs.Items.{channel_of, stored, tag_in}
 use Rattle.occ_check_meaning.specs.Actions.{plain_list, received, tagged_list}
-use Rattle.occ_check.specs.View.{Refuses}
-use Rattle.occ_check.specs.declared.fault.CheckFault.{CheckFault}
-use Rattle.occ_check.proofs.Refusals.{none_then, refused_with}
+use Rattle.occ_check_lines.specs.View.{Refuses}
+use Rattle.occ_check_lines.specs.declared.fault.CheckFault.{CheckFault}
+use Rattle.occ_check_lines.proofs.Refusals.{none_then, refused_with}
 
 module _ (ns : Names) (line : ℕ) (input : InputTree) (v : VarTree) (p : Protocol) (at : Place) (parts ps : List PartType) (channel : channel_of ns line (lines.var_of v) ≡ Some (p, at)) (same : ps ≡ parts) where
   module _ (ts : OneOrMore TargetTree) (is : input ≡ inputs.Items v ts) (after : parts_after p None ≡ Some parts) where

@@ -1,9 +1,9 @@
 -- What a refusal says.
 use Rattle.std.proofs.Common.{◌≡◌, Option, Some, None, refl, ap}
 use Rattle.occ_tree_grammar.specs.Many.{◌>>=◌}
-use Rattle.occ_check.specs.View.{Refuses}
-use Rattle.occ_check.specs.declared.fault.CheckFault.{CheckFault}
-use Rattle.occ_check.specs.declared.fault.CheckFault.TheVariants.{Unknown, Twice, WrongKind, WrongType, NotConstant, BadCount, Subscript, Protocol, Tag, Arguments, Overlap, ListTarget, NoMain, TooLarge, Memory}
+use Rattle.occ_check_lines.specs.View.{Refuses}
+use Rattle.occ_check_lines.specs.declared.fault.CheckFault.{CheckFault}
+use Rattle.occ_check_lines.specs.declared.fault.CheckFault.TheVariants.{Unknown, Twice, WrongKind, WrongType, NotConstant, BadCount, Subscript, Protocol, Tag, Arguments, Overlap, ListTarget, NoMain, TooLarge, Memory}
 
 -- any fault may say that there is nothing
 pub refused : {A : Type 0} (e : CheckFault) (given : Option A) → given ≡ None → Refuses e given

@@ -13,13 +13,13 @@ use Rattle.std.proofs.lemmas.Bool.Decides.{eqb_tells}
 use Rattle.occ_tree_grammar.specs.Many.{◌>>=◌}
 use Rattle.occ_check_meaning.specs.Scope.{Binding, Known, known, proc, find, as_known, names_of}
 use Rattle.occ_check_meaning.specs.Unfolding.{Procedure, Procedures, found}
-use Rattle.occ_check.specs.declared.scope.Binding.{Binding as BindingCode}
-use Rattle.occ_check.specs.declared.scope.Block.{Block}
-use Rattle.occ_check.specs.declared.scope.Position.{Position}
-use Rattle.occ_check.specs.declared.scope.Binding.TheVariants as bindings
-use Rattle.occ_check.specs.declared.scope.Found.{Found}
-use Rattle.occ_check.specs.declared.scope.Found.TheVariants as founds
-use Rattle.occ_check.specs.View.{binding_of, innermost, pairs_before, scope_in, IsBound, IsFound, IsSeen, IsWithin, Lacks}
+use Rattle.occ_check_lines.specs.declared.scope.Binding.{Binding as BindingCode}
+use Rattle.occ_check_lines.specs.declared.scope.Block.{Block}
+use Rattle.occ_check_lines.specs.declared.scope.Position.{Position}
+use Rattle.occ_check_lines.specs.declared.scope.Binding.TheVariants as bindings
+use Rattle.occ_check_lines.specs.declared.scope.Found.{Found}
+use Rattle.occ_check_lines.specs.declared.scope.Found.TheVariants as founds
+use Rattle.occ_check_lines.specs.View.{binding_of, innermost, pairs_before, scope_in, IsBound, IsFound, IsSeen, IsWithin, Lacks}
 
 -- ---- one block
 

@@ -28,11 +28,11 @@ use Rattle.occ_check_meaning.specs.Scope.{Names, each_of, once}
 use Rattle.occ_check_meaning.specs.Constants.{a_size}
 use Rattle.occ_check_meaning.specs.Expressions.{constant_as}
 use Rattle.occ_check_meaning.specs.Types.{Open, each_size, given_product, open_size, part_of, protocol_of, tag_names, tag_of}
-use Rattle.occ_check.specs.View.{Refuses}
-use Rattle.occ_check.specs.declared.fault.CheckFault.{CheckFault}
-use Rattle.occ_check.specs.Positive.{ArePositive}
-use Rattle.occ_check.proofs.Components.{one_more}
-use Rattle.occ_check.proofs.Refusals.{none_then, refused_with}
+use Rattle.occ_check_lines.specs.View.{Refuses}
+use Rattle.occ_check_lines.specs.declared.fault.CheckFault.{CheckFault}
+use Rattle.occ_check_lines.specs.Positive.{ArePositive}
+use Rattle.occ_check_lines.proofs.Components.{one_more}
+use Rattle.occ_check_lines.proofs.Refusals.{none_then, refused_with}
 use Rattle.occ_term.specs.UnfoldedProgram.{most_cells}
 
 -- ---- sizes that are given

@@ -12,7 +12,7 @@ use Rattle.occ_term.specs.declared.protocol.Tag.{Tag}
 use Rattle.occ_check_meaning.specs.Actions.{has_number, new_tag}
 use Rattle.occ_check_meaning.specs.Items.{tag_in, tag_number}
 use Rattle.occ_check_meaning.specs.Scope.{Name, keep}
-use Rattle.occ_check.specs.Tags.{number_at, tags_of}
+use Rattle.occ_check_lines.specs.Tags.{number_at, tags_of}
 
 -- ---- a name more
 

@@ -4,7 +4,7 @@ use Rattle.std.specs.Prelude.{bytes_eq}
 use Rattle.std.proofs.lemmas.List.{drop_all}
 use Rattle.occ_term.specs.declared.protocol.Tag.{Tag}
 use Rattle.occ_check_meaning.specs.Items.{tag_number}
-use Rattle.occ_check.proofs.EachOf.{from_here}
+use Rattle.occ_check_lines.proofs.EachOf.{from_here}
 
 pub record Numbered (tags : List Tag) (x : List ℕ) (i k : ℕ) : Type 0 where
   pub is : tag_number (drop i tags) x k ≡ tag_number tags x 0

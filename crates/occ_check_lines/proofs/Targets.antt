@@ -11,12 +11,12 @@ use Rattle.occ_term.specs.Terms.{Subscripts}
 use Rattle.occ_check_meaning.specs.Scope.{Names, Stretch, each_of, keep}
 use Rattle.occ_check_meaning.specs.Expressions.{place_of}
 use Rattle.occ_check_meaning.specs.Items.{Aim, aim, aim_of, apart, clash, clashes_with_one, counted_aim, stretches_of, some_clash, stored, target_of, targets_of}
-use Rattle.occ_check.specs.Action.{stored_one}
-use Rattle.occ_check.specs.Clash.{stretches_at}
-use Rattle.occ_check.specs.Zipped.{zipped}
-use Rattle.occ_check.specs.View.{Refuses}
-use Rattle.occ_check.specs.declared.fault.CheckFault.{CheckFault}
-use Rattle.occ_check.proofs.Refusals.{none_then, refused_with}
+use Rattle.occ_check_lines.specs.Action.{stored_one}
+use Rattle.occ_check_lines.specs.Clash.{stretches_at}
+use Rattle.occ_check_lines.specs.Zipped.{zipped}
+use Rattle.occ_check_lines.specs.View.{Refuses}
+use Rattle.occ_check_lines.specs.declared.fault.CheckFault.{CheckFault}
+use Rattle.occ_check_lines.proofs.Refusals.{none_then, refused_with}
 use Rattle.occ_check_meaning.proofs.Steps.{bind_some, some_is}
 
 -- ---- the sizes that are left do not matter

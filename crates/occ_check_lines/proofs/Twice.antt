@@ -8,7 +8,7 @@ use Rattle.std.proofs.lemmas.Slice.Eq.{bytes_eq-Decides}
 use Rattle.std.proofs.lemmas.List.Folds.{list_any-append, list_any_more, list_any_none}
 use Rattle.std.proofs.Math.ListN.{drop_of_length-le}
 use Rattle.occ_check_meaning.specs.Scope.{Name, are_once, is_among}
-use Rattle.occ_check.specs.Declaration.{none_among}
+use Rattle.occ_check_lines.specs.Declaration.{none_among}
 
 -- both together
 abbrev pub apart_from : List Name → List Name → Bool

@@ -7,11 +7,11 @@ use Rattle.occ_tree_grammar.specs.Lines.Trees as L
 use Rattle.occ_term.specs.declared.protocol.PartType.{PartType}
 use Rattle.occ_check_meaning.specs.Scope.{Names}
 use Rattle.occ_check_meaning.specs.Items.{Aim, sent_item, sent_items, target_of, targets_of}
-use Rattle.occ_check.specs.Zipped.{zipped}
-use Rattle.occ_check.specs.View.{Refuses}
-use Rattle.occ_check.specs.declared.fault.CheckFault.{CheckFault}
-use Rattle.occ_check.proofs.EachOf.{from_here}
-use Rattle.occ_check.proofs.Refusals.{none_then, refused_with, then_nothing, then_then}
+use Rattle.occ_check_lines.specs.Zipped.{zipped}
+use Rattle.occ_check_lines.specs.View.{Refuses}
+use Rattle.occ_check_lines.specs.declared.fault.CheckFault.{CheckFault}
+use Rattle.occ_check_lines.proofs.EachOf.{from_here}
+use Rattle.occ_check_lines.proofs.Refusals.{none_then, refused_with, then_nothing, then_then}
 
 no_items : {X : Type 0} (xs : List X) → length xs ≡ 0 → xs ≡ []
 no_items [] h = refl

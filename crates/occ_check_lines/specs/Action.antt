@@ -27,16 +27,16 @@ use Rattle.occ_check_meaning.specs.Types.{are_same_sizes}
 use Rattle.occ_check_meaning.specs.Expressions.{typed}
 use Rattle.occ_check_meaning.specs.Items.{aim, aim_of, assigned_item, counted_aim, stored, target_of, variable_of}
 use Rattle.occ_check_meaning.specs.Actions as A
-use Rattle.occ_check.specs.Reading.{all_of, read_in}
-use Rattle.occ_check.specs.View.{Refuses, part_of, typed_of, variable_part}
-use Rattle.occ_check.specs.declared.context.Context.{Context}
-use Rattle.occ_check.specs.declared.fault.CheckFault.{CheckFault}
-use Rattle.occ_check.specs.declared.action.Listed.{Listed}
-use Rattle.occ_check.specs.declared.action.Listed.TheVariants.{Plain, Tagged}
-use Rattle.occ_check.specs.declared.action.Chosen.{Chosen}
-use Rattle.occ_check.specs.declared.typed.Part.{Part}
-use Rattle.occ_check.specs.declared.typed.Typed.{Typed}
-use Rattle.occ_check.specs.Zipped.{zipped}
+use Rattle.occ_check_lines.specs.Reading.{all_of, read_in}
+use Rattle.occ_check_lines.specs.View.{Refuses, part_of, typed_of, variable_part}
+use Rattle.occ_check_lines.specs.declared.context.Context.{Context}
+use Rattle.occ_check_lines.specs.declared.fault.CheckFault.{CheckFault}
+use Rattle.occ_check_lines.specs.declared.action.Listed.{Listed}
+use Rattle.occ_check_lines.specs.declared.action.Listed.TheVariants.{Plain, Tagged}
+use Rattle.occ_check_lines.specs.declared.action.Chosen.{Chosen}
+use Rattle.occ_check_lines.specs.declared.typed.Part.{Part}
+use Rattle.occ_check_lines.specs.declared.typed.Typed.{Typed}
+use Rattle.occ_check_lines.specs.Zipped.{zipped}
 
 abbrev pub listed_of : Listed → A.Listed
 listed_of (Plain targets) = A.plain_list (targets_of targets)

@@ -12,8 +12,8 @@ use Rattle.occ_term.specs.View.{place_of}
 use Rattle.occ_term.specs.declared.expression.Place.{Place as PlaceTree}
 use Rattle.occ_check_meaning.specs.Scope.{Stretch}
 use Rattle.occ_check_meaning.specs.Items.{are_constant, has_of, is_named_by, part_span, variable_span}
-use Rattle.occ_check.specs.Spans.{span_of}
-use Rattle.occ_check.specs.declared.naming.Others.{Others}
+use Rattle.occ_check_lines.specs.Spans.{span_of}
+use Rattle.occ_check_lines.specs.declared.naming.Others.{Others}
 
 -- the stretch that a place is of, without the sizes that are left
 abbrev pub stretch_at : T.Place → Stretch

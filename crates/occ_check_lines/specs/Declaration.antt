@@ -9,14 +9,14 @@ use Rattle.occ_check_meaning.specs.Constants.{constant}
 use Rattle.occ_check_meaning.specs.Scope.{Name, Known, Pairs, is_among}
 use Rattle.occ_check_meaning.specs.Declarations as D
 use Rattle.occ_check_meaning.specs.Numbers as N
-use Rattle.occ_check.specs.View.{Refuses, carried_of, known_of, numbers_of}
-use Rattle.occ_check.specs.declared.fault.CheckFault.{CheckFault}
-use Rattle.occ_check.specs.declared.known.Carried.{Carried}
-use Rattle.occ_check.specs.declared.known.Known.{Known as KnownCode}
-use Rattle.occ_check.specs.declared.numbers.Numbers.{Numbers}
-use Rattle.occ_check.specs.declared.declaration.Named.{Named}
-use Rattle.occ_check.specs.declared.declaration.Opened.{Opened}
-use Rattle.occ_check.specs.declared.replicator.Indexed.{Indexed}
+use Rattle.occ_check_lines.specs.View.{Refuses, carried_of, known_of, numbers_of}
+use Rattle.occ_check_lines.specs.declared.fault.CheckFault.{CheckFault}
+use Rattle.occ_check_lines.specs.declared.known.Carried.{Carried}
+use Rattle.occ_check_lines.specs.declared.known.Known.{Known as KnownCode}
+use Rattle.occ_check_lines.specs.declared.numbers.Numbers.{Numbers}
+use Rattle.occ_check_lines.specs.declared.declaration.Named.{Named}
+use Rattle.occ_check_lines.specs.declared.declaration.Opened.{Opened}
+use Rattle.occ_check_lines.specs.declared.replicator.Indexed.{Indexed}
 
 -- a name and what it stands for
 abbrev pub pair_of : Named → Name × Known

@@ -6,10 +6,10 @@ use Rattle.occ_tree_grammar.specs.declared.tree.expr.Expr.{Expr}
 use Rattle.occ_tree_grammar.specs.declared.tree.line.OneOrMore.{OneOrMore}
 use Rattle.occ_check_meaning.specs.Numbers as N
 use Rattle.occ_check_meaning.specs.Scope.{Name, Names}
-use Rattle.occ_check.specs.View.{Unfolds, names_in, numbers_of}
-use Rattle.occ_check.specs.declared.context.Context.{Context}
-use Rattle.occ_check.specs.declared.fault.CheckFault.{CheckFault}
-use Rattle.occ_check.specs.declared.numbers.Numbers.{Numbers}
+use Rattle.occ_check_lines.specs.View.{Unfolds, names_in, numbers_of}
+use Rattle.occ_check_lines.specs.declared.context.Context.{Context}
+use Rattle.occ_check_lines.specs.declared.fault.CheckFault.{CheckFault}
+use Rattle.occ_check_lines.specs.declared.numbers.Numbers.{Numbers}
 
 -- what a definition gives under the names of a context, in its line
 abbrev pub read_in : {A : Type 0} → Context → (Names → ℕ → A) → A

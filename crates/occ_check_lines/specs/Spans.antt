@@ -6,7 +6,7 @@ use Rattle.occ_term.specs.Terms.{Expression}
 use Rattle.occ_term.specs.Uses.{part_named}
 use Rattle.occ_term.specs.Values as Values
 use Rattle.occ_term.specs.View.{subscripts}
-use Rattle.occ_check.specs.declared.span.Span.{Span}
+use Rattle.occ_check_lines.specs.declared.span.Span.{Span}
 
 abbrev pub span_of : Span → Values.Span
 span_of s = Values.span s.first s.count

@@ -9,7 +9,7 @@ use Rattle.occ_term.specs.declared.protocol.Tag.{Tag}
 use Rattle.occ_check_meaning.specs.Actions.{new_tag}
 use Rattle.occ_check_meaning.specs.Items.{tag_number}
 use Rattle.occ_check_meaning.specs.Scope.{Name}
-use Rattle.occ_check.specs.declared.tags.Tags.{Tags}
+use Rattle.occ_check_lines.specs.declared.tags.Tags.{Tags}
 
 abbrev pub tags_of : Protocol → List Tag
 tags_of (Variant tags) = tags

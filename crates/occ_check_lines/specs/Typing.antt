@@ -32,13 +32,13 @@ use Rattle.occ_check_meaning.specs.Items as I
 use Rattle.occ_check_meaning.specs.Numbers as N
 use Rattle.occ_check_meaning.specs.Scope as S
 use Rattle.occ_check_meaning.specs.Types as Types
-use Rattle.occ_check.specs.Reading.{names_listed, read_in, trees_of}
-use Rattle.occ_check.specs.View.{names_in, numbers_of, stretch_of, subscripts_of, typed_of}
-use Rattle.occ_check.specs.declared.context.Context.{Context}
-use Rattle.occ_check.specs.declared.known.Stretch.{Stretch}
-use Rattle.occ_check.specs.declared.numbers.Numbers.{Numbers}
-use Rattle.occ_check.specs.declared.scope.Scope.{Scope}
-use Rattle.occ_check.specs.declared.typed.Typed.{Typed}
+use Rattle.occ_check_lines.specs.Reading.{names_listed, read_in, trees_of}
+use Rattle.occ_check_lines.specs.View.{names_in, numbers_of, stretch_of, subscripts_of, typed_of}
+use Rattle.occ_check_lines.specs.declared.context.Context.{Context}
+use Rattle.occ_check_lines.specs.declared.known.Stretch.{Stretch}
+use Rattle.occ_check_lines.specs.declared.numbers.Numbers.{Numbers}
+use Rattle.occ_check_lines.specs.declared.scope.Scope.{Scope}
+use Rattle.occ_check_lines.specs.declared.typed.Typed.{Typed}
 
 -- ---- expressions
 

@@ -14,29 +14,29 @@ use Rattle.occ_check_meaning.specs.Expressions as E
 use Rattle.occ_check_meaning.specs.Numbers as N
 use Rattle.occ_check_meaning.specs.Unfolding as U
 use Rattle.occ_check_meaning.specs.Unfolding.{Procedures, procedure}
-use Rattle.occ_check.specs.declared.fault.CheckFault.{CheckFault}
-use Rattle.occ_check.specs.declared.fault.CheckFault.TheVariants.{Unknown, Twice, WrongKind, WrongType, NotConstant, BadCount, Subscript, Protocol, Tag, Arguments, Overlap, ListTarget, NoMain, TooLarge, Memory}
-use Rattle.occ_check.specs.declared.known.Access.{Access}
-use Rattle.occ_check.specs.declared.known.Access.TheVariants as accesses
-use Rattle.occ_check.specs.declared.known.Evaluated.{Evaluated}
-use Rattle.occ_check.specs.declared.known.Evaluated.TheVariants as evaluateds
-use Rattle.occ_check.specs.declared.known.Stretch.{Stretch}
-use Rattle.occ_check.specs.declared.known.Carried.{Carried}
-use Rattle.occ_check.specs.declared.known.Known.{Known}
-use Rattle.occ_check.specs.declared.known.Known.TheVariants as knowns
-use Rattle.occ_check.specs.declared.numbers.Numbers.{Numbers}
-use Rattle.occ_check.specs.declared.typed.Typed.{Typed}
-use Rattle.occ_check.specs.declared.typed.Typed.TheVariants as typeds
-use Rattle.occ_check.specs.declared.typed.Part.{Part}
-use Rattle.occ_check.specs.declared.scope.Binding.{Binding}
-use Rattle.occ_check.specs.declared.scope.Binding.TheVariants as bindings
-use Rattle.occ_check.specs.declared.scope.Position.{Position}
-use Rattle.occ_check.specs.declared.scope.Block.{Block}
-use Rattle.occ_check.specs.declared.scope.Scope.{Scope}
-use Rattle.occ_check.specs.declared.scope.Looked.{Looked}
-use Rattle.occ_check.specs.declared.scope.Looked.TheVariants as lookeds
-use Rattle.occ_check.specs.declared.scope.Found.{Found}
-use Rattle.occ_check.specs.declared.scope.Found.TheVariants as founds
+use Rattle.occ_check_lines.specs.declared.fault.CheckFault.{CheckFault}
+use Rattle.occ_check_lines.specs.declared.fault.CheckFault.TheVariants.{Unknown, Twice, WrongKind, WrongType, NotConstant, BadCount, Subscript, Protocol, Tag, Arguments, Overlap, ListTarget, NoMain, TooLarge, Memory}
+use Rattle.occ_check_lines.specs.declared.known.Access.{Access}
+use Rattle.occ_check_lines.specs.declared.known.Access.TheVariants as accesses
+use Rattle.occ_check_lines.specs.declared.known.Evaluated.{Evaluated}
+use Rattle.occ_check_lines.specs.declared.known.Evaluated.TheVariants as evaluateds
+use Rattle.occ_check_lines.specs.declared.known.Stretch.{Stretch}
+use Rattle.occ_check_lines.specs.declared.known.Carried.{Carried}
+use Rattle.occ_check_lines.specs.declared.known.Known.{Known}
+use Rattle.occ_check_lines.specs.declared.known.Known.TheVariants as knowns
+use Rattle.occ_check_lines.specs.declared.numbers.Numbers.{Numbers}
+use Rattle.occ_check_lines.specs.declared.typed.Typed.{Typed}
+use Rattle.occ_check_lines.specs.declared.typed.Typed.TheVariants as typeds
+use Rattle.occ_check_lines.specs.declared.typed.Part.{Part}
+use Rattle.occ_check_lines.specs.declared.scope.Binding.{Binding}
+use Rattle.occ_check_lines.specs.declared.scope.Binding.TheVariants as bindings
+use Rattle.occ_check_lines.specs.declared.scope.Position.{Position}
+use Rattle.occ_check_lines.specs.declared.scope.Block.{Block}
+use Rattle.occ_check_lines.specs.declared.scope.Scope.{Scope}
+use Rattle.occ_check_lines.specs.declared.scope.Looked.{Looked}
+use Rattle.occ_check_lines.specs.declared.scope.Looked.TheVariants as lookeds
+use Rattle.occ_check_lines.specs.declared.scope.Found.{Found}
+use Rattle.occ_check_lines.specs.declared.scope.Found.TheVariants as founds
 
 -- ---- what a function answers
 

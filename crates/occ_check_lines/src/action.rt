@@ -4,8 +4,8 @@ ghost use Rattle.std.specs.Prelude.{◌∷◌, [], map};
 ghost use Rattle.occ_term.specs.View.{item_of, items_of, reception_of, targets_of, term_of, test_of, variants_of};
 ghost use Rattle.occ_check_meaning.specs.Actions as meant;
 ghost use Rattle.occ_check_meaning.specs.Items as items;
-ghost use Rattle.occ_check.specs.Action.{Chooses, as_assignment, as_output, as_received, assigned_in, chosen_of, listed_of, output_in, received_in, selector_in, sides_in, test_in, variable_parts, variables_in, all_sides_in, all_variables_in, item_assigned, only_variant, side_in};
-ghost use Rattle.occ_check.specs.View.{Gives, Lends, Makes, one_value};
+ghost use Rattle.occ_check_lines.specs.Action.{Chooses, as_assignment, as_output, as_received, assigned_in, chosen_of, listed_of, output_in, received_in, selector_in, sides_in, test_in, variable_parts, variables_in, all_sides_in, all_variables_in, item_assigned, only_variant, side_in};
+ghost use Rattle.occ_check_lines.specs.View.{Gives, Lends, Makes, one_value};
 
 use crate::context::Context;
 use crate::expression::{as_single, typed, typed_as};
@@ -365,7 +365,7 @@ pub fn choosing_else(line: u32, chosen: &mut Chosen) -> Result<(), CheckFault>
     Ok(())
 }
 
-/// The list of an arm, and the process behind it.
+/// The list of an arm, and the process behind it. The error is a refused growth.
 pub fn as_reception(alloc: Global, listed: Listed, body: Term) -> Result<Reception, AllocError>
     ensures { Makes reception_of result
         (meant.as_reception (listed_of listed) (term_of body)) }
@@ -379,7 +379,7 @@ pub fn as_reception(alloc: Global, listed: Listed, body: Term) -> Result<Recepti
     }
 }
 
-/// An input.
+/// An input. The error is a refused growth.
 pub fn as_input(alloc: Global, channel: Place, listed: Listed) -> Result<Term, AllocError>
     ensures { Makes term_of result (meant.as_input (as_received (channel, listed))) }
 {

@@ -4,10 +4,10 @@
 ghost use Rattle.std.specs.Prelude.{◌≡◌, IfOk, map};
 ghost use Rattle.occ_term.specs.View.{targets_of};
 ghost use Rattle.occ_check_meaning.specs.Items as meant;
-ghost use Rattle.occ_check.specs.Clash.{stretches_at};
-ghost use Rattle.occ_check.specs.Spans.{span_of};
-ghost use Rattle.occ_check.specs.Clash.{fixed_spans, stretches_of};
-ghost use Rattle.occ_check.specs.View.{subscripts_of};
+ghost use Rattle.occ_check_lines.specs.Clash.{stretches_at};
+ghost use Rattle.occ_check_lines.specs.Spans.{span_of};
+ghost use Rattle.occ_check_lines.specs.Clash.{fixed_spans, stretches_of};
+ghost use Rattle.occ_check_lines.specs.View.{subscripts_of};
 
 use crate::constant::constant_of;
 use crate::named::span_named;

@@ -29,6 +29,7 @@ pub fn is_within_size(e: &TermExpr, size: u64) -> bool
     }
 }
 
+/// Whether a value is from 0 on and below the size.
 pub fn is_below(value: i64, size: u64) -> bool
     ensures { result ≡ is_within (Some value) size }
 {

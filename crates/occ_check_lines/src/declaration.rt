@@ -6,10 +6,10 @@ ghost use Rattle.occ_check_meaning.specs.Declarations as meant;
 ghost use Rattle.occ_check_meaning.specs.Declarations.{variable_declared};
 ghost use Rattle.occ_check_meaning.specs.Scope as scopes;
 ghost use Rattle.occ_check_meaning.specs.Types as types;
-ghost use Rattle.occ_check.specs.View.{Allows, Gives, Makes, known_of, stretch_of, typed_of};
-ghost use Rattle.occ_check.specs.Reading.{names_listed};
-ghost use Rattle.occ_check.specs.Declaration.{NamesOnly, Opens, OpensFrom, pair_of, channels_declared, variables_declared, kept_in_cells, one_channel_declared, single_named};
-ghost use Rattle.occ_check.specs.Typing.{given_type_in, declared_in, named_in, protocol_declared_in};
+ghost use Rattle.occ_check_lines.specs.View.{Allows, Gives, Makes, known_of, stretch_of, typed_of};
+ghost use Rattle.occ_check_lines.specs.Reading.{names_listed};
+ghost use Rattle.occ_check_lines.specs.Declaration.{NamesOnly, Opens, OpensFrom, pair_of, channels_declared, variables_declared, kept_in_cells, one_channel_declared, single_named};
+ghost use Rattle.occ_check_lines.specs.Typing.{given_type_in, declared_in, named_in, protocol_declared_in};
 
 use crate::constant::constant_of;
 use crate::context::Context;
@@ -52,7 +52,7 @@ pub struct Opened {
 }
 
 impl Named {
-    /// A copy of the name, with what it stands for.
+    /// A copy of the name, with what it stands for. The error is a refused growth.
     pub fn new(name: &Letters, known: Known) -> Result<Named, AllocError>
         ensures { Makes pair_of result (name.now, known_of known) }
     {
@@ -99,7 +99,7 @@ impl Opened {
         Ok(opened)
     }
 
-    /// One name behind what is set for it.
+    /// One name behind what is set for it. The error is a refused growth.
     pub fn one_behind(
         alloc: Global,
         name: &Letters,
@@ -114,7 +114,7 @@ impl Opened {
         Ok(opened)
     }
 
-    /// Puts others after these.
+    /// Puts others after these. The error is a refused growth.
     pub fn append(&mut self, others: Opened) -> Result<(), AllocError>
         ensures names { OnOk result
             (self.new.names.items ≡ self.old.names.items ++ others.names.items) }
@@ -127,7 +127,7 @@ impl Opened {
     }
 }
 
-/// An array from its first on, or a single one.
+/// An array from its first on, or a single one. The error is a refused growth.
 pub fn stretch_from(alloc: Global, first: u32, sizes: &Sizes) -> Result<Stretch, AllocError>
     ensures { Makes stretch_of result (scopes.stretch_from first sizes.now) }
 {

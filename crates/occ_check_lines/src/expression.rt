@@ -8,9 +8,9 @@ ghost use Rattle.occ_term.specs.View.{expression_of, subscripts};
 ghost use Rattle.occ_term.specs.declared.primitive.Primitive.TheVariants.{Bool as Boolean, Int};
 ghost use Rattle.occ_check_meaning.specs.Expressions as meant;
 ghost use Rattle.occ_check_meaning.specs.Scope.{keep};
-ghost use Rattle.occ_check.specs.View.{Answers, Gives, Makes, known_of, names_in, one_value, subscripts_of, typed_of};
-ghost use Rattle.occ_check.specs.Reading.{name_under, read_in};
-ghost use Rattle.occ_check.specs.Typing.{chain_in, constant_in, operand_in, size_in, subscripts_in, typed_as_in, typed_in, literal_size};
+ghost use Rattle.occ_check_lines.specs.View.{Answers, Gives, Makes, known_of, names_in, one_value, subscripts_of, typed_of};
+ghost use Rattle.occ_check_lines.specs.Reading.{name_under, read_in};
+ghost use Rattle.occ_check_lines.specs.Typing.{chain_in, constant_in, operand_in, size_in, subscripts_in, typed_as_in, typed_in, literal_size};
 
 use crate::constant::constant_of;
 use crate::context::Context;

@@ -1,7 +1,7 @@
 //! Why a program has no unfolding.
 
 ghost use Rattle.std.specs.Prelude.{◌≡◌};
-ghost use Rattle.occ_check.specs.declared.fault.CheckFault.TheVariants.{Memory};
+ghost use Rattle.occ_check_lines.specs.declared.fault.CheckFault.TheVariants.{Memory};
 
 use occ_held::letters::Letters;
 use std::alloc::{AllocError, AllocFailed, Global};

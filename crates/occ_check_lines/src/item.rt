@@ -9,9 +9,9 @@ ghost use Rattle.occ_term.specs.View.{item_of, items_of, place_of};
 ghost use Rattle.occ_term.specs.Messages.{parts_after};
 ghost use Rattle.occ_check_meaning.specs.Items as meant;
 ghost use Rattle.occ_check_meaning.specs.Scope.{keep};
-ghost use Rattle.occ_check.specs.View.{Answers, Gives, Lends, channels_known, known_of, typed_of, variable_known, variable_part};
-ghost use Rattle.occ_check.specs.Reading.{all_of, name_under, read_in};
-ghost use Rattle.occ_check.specs.Typing.{channel_in, sent_in, sent_items_in, variable_in, counted_of};
+ghost use Rattle.occ_check_lines.specs.View.{Answers, Gives, Lends, channels_known, known_of, typed_of, variable_known, variable_part};
+ghost use Rattle.occ_check_lines.specs.Reading.{all_of, name_under, read_in};
+ghost use Rattle.occ_check_lines.specs.Typing.{channel_in, sent_in, sent_items_in, variable_in, counted_of};
 
 use crate::context::Context;
 use crate::expression::{known_name, typed, typed_subscripts};

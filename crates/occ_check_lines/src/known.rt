@@ -2,7 +2,7 @@
 
 ghost use Rattle.std.specs.Prelude.{◌≡◌, IfOk, map};
 ghost use Rattle.occ_term.specs.View.{expression_of};
-ghost use Rattle.occ_check.specs.View.{evaluated_of};
+ghost use Rattle.occ_check_lines.specs.View.{evaluated_of};
 
 use occ_held::parts::Listed;
 use occ_term::{Primitive, Protocol, Sizes, TermExpr, Text};
@@ -93,7 +93,7 @@ impl Drop for Known {
     }
 }
 
-/// Subscripts that are evaluated already, as expressions.
+/// Subscripts that are evaluated already, as expressions. The error is a refused growth.
 pub fn evaluated_subscripts(
     alloc: Global,
     subscripts: &[Evaluated],

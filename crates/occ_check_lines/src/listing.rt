@@ -3,7 +3,7 @@ ghost use Rattle.std.specs.Prelude.{◌≡◌, IfOk, bytes_eq, nat_eq, not};
 ghost use Rattle.std.specs.List.{list_any};
 ghost use Rattle.std.specs.Ordering.{int_eq};
 ghost use Rattle.indexmap.specs.IndexMap.{keys};
-ghost use Rattle.occ_check.specs.Listing.{with_one_more};
+ghost use Rattle.occ_check_lines.specs.Listing.{with_one_more};
 
 use indexmap::IndexMap;
 use occ_held::letters::Letters;

@@ -3,7 +3,7 @@
 ghost use Rattle.std.specs.Prelude.{◌≡◌, IfOk, length, map, pos};
 ghost use Rattle.occ_tree_grammar.specs.Expressions.Trees as trees;
 ghost use Rattle.occ_check_meaning.specs.Expressions as meant;
-ghost use Rattle.occ_check.specs.View.{Gives, Makes, typed_of};
+ghost use Rattle.occ_check_lines.specs.View.{Gives, Makes, typed_of};
 
 use crate::fault::CheckFault;
 use crate::operators::primitive_of;

@@ -2,8 +2,8 @@
 
 ghost use Rattle.occ_term.specs.Sizes.{no_size, size_of_array, size_of_constants, size_of_expression, size_of_item, size_of_items, size_of_place, size_of_replicator, size_of_subscripts, size_of_target, size_of_targets, size_of_test};
 ghost use Rattle.occ_term.specs.View.{array_of, expression_of, item_of, items_of, place_of, replicator_of, target_of, targets_of, test_of};
-ghost use Rattle.occ_check.specs.Measuring.{size_within, assignment_size, declaration_size, input_size, output_size, tagged_input_size};
-ghost use Rattle.occ_check.specs.View.{TakesRoom, subscripts_of, TakesRoomAnyTag};
+ghost use Rattle.occ_check_lines.specs.Measuring.{size_within, assignment_size, declaration_size, input_size, output_size, tagged_input_size};
+ghost use Rattle.occ_check_lines.specs.View.{TakesRoom, subscripts_of, TakesRoomAnyTag};
 
 use crate::fault::CheckFault;
 use crate::numbers::Numbers;

@@ -3,8 +3,8 @@
 ghost use Rattle.std.specs.Prelude.{◌≡◌, ◌+◌, ◌<◌, ◌^◌};
 ghost use Rattle.occ_term.specs.View.{place_of};
 ghost use Rattle.occ_check_meaning.specs.Items as meant;
-ghost use Rattle.occ_check.specs.Clash.{stretch_at};
-ghost use Rattle.occ_check.specs.Spans.{span_of};
+ghost use Rattle.occ_check_lines.specs.Clash.{stretch_at};
+ghost use Rattle.occ_check_lines.specs.Spans.{span_of};
 
 use crate::span;
 use crate::span::{Span, part_of};

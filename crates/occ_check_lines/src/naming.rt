@@ -6,10 +6,10 @@ ghost use Rattle.occ_term.specs.Terms.{Component};
 ghost use Rattle.occ_term.specs.Uses as uses;
 ghost use Rattle.occ_term.specs.Values.{span};
 ghost use Rattle.occ_term.specs.View.{expression_of, place_of};
-ghost use Rattle.occ_check.specs.Clash.{stretch_at};
-ghost use Rattle.occ_check.specs.Clash.{AreSorted, begins_at, below, ends_at, is_one_named, met_by, names_another, reads_some, stretches_of, shares, some_in_subscripts, one_names_another, variable_spans};
-ghost use Rattle.occ_check.specs.Spans.{span_of};
-ghost use Rattle.occ_check.specs.View.{subscripts_of};
+ghost use Rattle.occ_check_lines.specs.Clash.{stretch_at};
+ghost use Rattle.occ_check_lines.specs.Clash.{AreSorted, begins_at, below, ends_at, is_one_named, met_by, names_another, reads_some, stretches_of, shares, some_in_subscripts, one_names_another, variable_spans};
+ghost use Rattle.occ_check_lines.specs.Spans.{span_of};
+ghost use Rattle.occ_check_lines.specs.View.{subscripts_of};
 
 use crate::named::{span_named, whole_of};
 use crate::span::Span;

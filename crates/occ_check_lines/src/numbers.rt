@@ -6,7 +6,7 @@ ghost use Rattle.occ_term.specs.Sizes.{no_size, with_node};
 ghost use Rattle.occ_term.specs.UnfoldedProgram.{byte_channel, most_cells};
 ghost use Rattle.occ_check_meaning.specs.Numbers.{at_start, component_names, deeper, more_cells, more_channels, more_processes, more_protocols, most_depth};
 ghost use Rattle.occ_check_meaning.specs.Scope.{keep};
-ghost use Rattle.occ_check.specs.View.{Answers, Counts, Makes, TakesRoom, numbers_of};
+ghost use Rattle.occ_check_lines.specs.View.{Answers, Counts, Makes, TakesRoom, numbers_of};
 
 use crate::fault::CheckFault;
 use occ_held::letters::Letters;
@@ -39,7 +39,7 @@ pub struct Numbers {
 }
 
 impl Numbers {
-    /// The main process and the first three channels are there.
+    /// The main process and the first three channels are there. The error is a refused growth.
     pub fn at_start(alloc: Global) -> Result<Numbers, AllocError>
         ensures { Makes numbers_of result at_start }
     {

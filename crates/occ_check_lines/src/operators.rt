@@ -4,7 +4,7 @@ ghost use Rattle.std.specs.Prelude.{◌≡◌};
 ghost use Rattle.occ_term.specs.Typing.{is_number};
 ghost use Rattle.occ_check_meaning.specs.Operators as meant;
 ghost use Rattle.occ_check_meaning.specs.Scope.{keep};
-ghost use Rattle.occ_check.specs.View.{Answers};
+ghost use Rattle.occ_check_lines.specs.View.{Answers};
 
 use crate::fault::CheckFault;
 use occ_term::{Monadic, Operator, Primitive};

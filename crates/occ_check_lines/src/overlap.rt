@@ -3,10 +3,10 @@
 ghost use Rattle.std.specs.Prelude.{◌≡◌, ◌+◌, IfOk, map, nat_lt};
 ghost use Rattle.occ_check_meaning.specs.Calls as meant;
 ghost use Rattle.occ_check_meaning.specs.Items.{have_common, part_span};
-ghost use Rattle.occ_check.specs.View.{stretch_of};
-ghost use Rattle.occ_check.specs.Spans.{span_of};
-ghost use Rattle.occ_check.specs.Overlap.{end_in_turn, ends_before, neighbours_meet};
-ghost use Rattle.occ_check.specs.Declaration.{pairs_of};
+ghost use Rattle.occ_check_lines.specs.View.{stretch_of};
+ghost use Rattle.occ_check_lines.specs.Spans.{span_of};
+ghost use Rattle.occ_check_lines.specs.Overlap.{end_in_turn, ends_before, neighbours_meet};
+ghost use Rattle.occ_check_lines.specs.Declaration.{pairs_of};
 
 use crate::declaration::Named;
 use crate::known::{Access, Known, Stretch};

@@ -5,8 +5,8 @@ ghost use Rattle.occ_term.specs.ArraySizes.{AreFew};
 ghost use Rattle.occ_term.specs.View.{expression_of, subscripts};
 ghost use Rattle.occ_check_meaning.specs.Expressions as meant;
 ghost use Rattle.occ_check_meaning.specs.Scope.{a_string, a_value};
-ghost use Rattle.occ_check.specs.View.{Answers, Gives, Lends, Makes, known_of, part_of, stretch_of, subscripts_of, typed_of};
-ghost use Rattle.occ_check.specs.Typing.{joined_under, letter_of, stretch_size};
+ghost use Rattle.occ_check_lines.specs.View.{Answers, Gives, Lends, Makes, known_of, part_of, stretch_of, subscripts_of, typed_of};
+ghost use Rattle.occ_check_lines.specs.Typing.{joined_under, letter_of, stretch_size};
 
 use crate::constant::is_within_size;
 use crate::fault::CheckFault;

@@ -1,9 +1,9 @@
 //! Replicators: an index with its cell, or the copies of a PAR.
 
 ghost use Rattle.occ_check_meaning.specs.Constants.{a_count};
-ghost use Rattle.occ_check.specs.View.{Answers};
-ghost use Rattle.occ_check.specs.Declaration.{Indexes};
-ghost use Rattle.occ_check.specs.Typing.{copies_in, indexed_in};
+ghost use Rattle.occ_check_lines.specs.View.{Answers};
+ghost use Rattle.occ_check_lines.specs.Declaration.{Indexes};
+ghost use Rattle.occ_check_lines.specs.Typing.{copies_in, indexed_in};
 
 use crate::context::Context;
 use crate::declaration::{Named, stretch_from};

@@ -5,8 +5,8 @@
 
 ghost use Rattle.std.specs.Prelude.{ℕ, ◌≡◌, ◌≤◌, ◌+◌, ◌++◌, ◌∷◌, [], IfErr, IfOk, IfSome, IfNone, IsFalse, drop, length, option_map, reverse};
 ghost use Rattle.occ_check_meaning.specs.Unfolding.{found};
-ghost use Rattle.occ_check.specs.declared.fault.CheckFault.TheVariants.{Memory};
-ghost use Rattle.occ_check.specs.View.{binding_of, AreWithin, IsBound, IsFewer, IsFound, IsLooked, IsPart, IsSeen, IsWithin, Lacks, known_of, names_in, scope_in, scope_of, IsBlockWith};
+ghost use Rattle.occ_check_lines.specs.declared.fault.CheckFault.TheVariants.{Memory};
+ghost use Rattle.occ_check_lines.specs.View.{binding_of, AreWithin, IsBound, IsFewer, IsFound, IsLooked, IsPart, IsSeen, IsWithin, Lacks, known_of, names_in, scope_in, scope_of, IsBlockWith};
 
 use crate::fault::CheckFault;
 use crate::known::Known;
@@ -207,7 +207,7 @@ impl<'t> Block<'t> {
         self.names.get_index_of(name).is_some()
     }
 
-    /// The block with one name more.
+    /// The block with one name more. The error is `Memory`.
     pub fn with(self, name: &Letters, binding: Binding<'t>) -> Result<Block<'t>, CheckFault>
         requires { Lacks name.now self.names.entries }
         ensures names { IfOk result (IsBlockWith self.entry name.now binding.entry) }

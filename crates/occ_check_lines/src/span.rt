@@ -6,8 +6,8 @@ ghost use Rattle.occ_term.specs.Messages.{product};
 ghost use Rattle.occ_term.specs.Terms.{Constant, Expression};
 ghost use Rattle.occ_term.specs.Uses.{constant_subscript};
 ghost use Rattle.occ_term.specs.View.{expression_of};
-ghost use Rattle.occ_check.specs.View.{evaluated_of};
-ghost use Rattle.occ_check.specs.Spans.{span_of, all_cells, cells_under};
+ghost use Rattle.occ_check_lines.specs.View.{evaluated_of};
+ghost use Rattle.occ_check_lines.specs.Spans.{span_of, all_cells, cells_under};
 
 use crate::constant::constant_of;
 use crate::known::Evaluated;

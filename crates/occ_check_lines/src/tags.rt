@@ -3,9 +3,9 @@
 ghost use Rattle.std.specs.Prelude.{ℕ, ◌≡◌, ◌∷◌, [], IfErr, IfOk, List};
 ghost use Rattle.occ_term.specs.declared.protocol.Protocol.{Protocol};
 ghost use Rattle.occ_check_meaning.specs.Items.{tag_number};
-ghost use Rattle.occ_check.specs.View.{Answers};
-ghost use Rattle.occ_check.specs.declared.fault.CheckFault.TheVariants.{Memory};
-ghost use Rattle.occ_check.specs.Tags.{AreTagsOf, listed_in, number_at, tags_of, next_tag};
+ghost use Rattle.occ_check_lines.specs.View.{Answers};
+ghost use Rattle.occ_check_lines.specs.declared.fault.CheckFault.TheVariants.{Memory};
+ghost use Rattle.occ_check_lines.specs.Tags.{AreTagsOf, listed_in, number_at, tags_of, next_tag};
 
 use crate::fault::CheckFault;
 use crate::item::word_of;

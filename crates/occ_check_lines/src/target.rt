@@ -1,11 +1,11 @@
 //! Where what is input is stored.
 
 ghost use Rattle.std.specs.Prelude.{◌≡◌, []};
-ghost use Rattle.occ_check.specs.Action.{each_stored_in, stored_in, takes, counted_target, list_stored_in, one_stored_in, plain_target, stored_list_in};
-ghost use Rattle.occ_check.specs.Clash.{stretches_at};
+ghost use Rattle.occ_check_lines.specs.Action.{each_stored_in, stored_in, takes, counted_target, list_stored_in, one_stored_in, plain_target, stored_list_in};
+ghost use Rattle.occ_check_lines.specs.Clash.{stretches_at};
 ghost use Rattle.occ_check_meaning.specs.Expressions as expressions;
 ghost use Rattle.occ_check_meaning.specs.Items as meant;
-ghost use Rattle.occ_check.specs.View.{Allows, Gives, part_of};
+ghost use Rattle.occ_check_lines.specs.View.{Allows, Gives, part_of};
 ghost use Rattle.occ_term.specs.View.{place_of, target_of, targets_of};
 
 use crate::clash::some_clash;

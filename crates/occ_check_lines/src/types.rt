@@ -9,10 +9,10 @@ ghost use Rattle.occ_term.specs.declared.primitive.Primitive.TheVariants.{Int};
 ghost use Rattle.occ_check_meaning.specs.Constants as constants;
 ghost use Rattle.occ_check_meaning.specs.Scope.{each_of, keep, once};
 ghost use Rattle.occ_check_meaning.specs.Types as meant;
-ghost use Rattle.occ_check.specs.View.{Allows, Answers, Gives, carried_of, known_of, names_in};
-ghost use Rattle.occ_check.specs.Reading.{all_of, read_in, trees_of};
-ghost use Rattle.occ_check.specs.Positive.{ArePositive};
-ghost use Rattle.occ_check.specs.Typing.{carried_in, each_part_in, names_of_tags, open_sizes_in, protocol_in, sizes_in, given_size_in};
+ghost use Rattle.occ_check_lines.specs.View.{Allows, Answers, Gives, carried_of, known_of, names_in};
+ghost use Rattle.occ_check_lines.specs.Reading.{all_of, read_in, trees_of};
+ghost use Rattle.occ_check_lines.specs.Positive.{ArePositive};
+ghost use Rattle.occ_check_lines.specs.Typing.{carried_in, each_part_in, names_of_tags, open_sizes_in, protocol_in, sizes_in, given_size_in};
 
 use crate::context::Context;
 use crate::declaration::once as names_once;

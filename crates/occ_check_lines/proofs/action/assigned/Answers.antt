@@ -3,9 +3,9 @@ use Rattle.occ_tree_grammar.specs.Expressions.Trees.{expression_of}
 use Rattle.occ_tree_grammar.specs.Lines.Views.{var_of}
 use Rattle.occ_term.specs.View as terms
 use Rattle.occ_check_meaning.specs.Actions as meant
-use Rattle.occ_check.specs.View.{Refuses, names_in}
-use Rattle.occ_check.proofs.Assigning.{all_assigned, no_sides, no_variables, not_apart}
-use Rattle.occ_check.proofs.action.assigned.Goals as goal
+use Rattle.occ_check_lines.specs.View.{Refuses, names_in}
+use Rattle.occ_check_lines.proofs.Assigning.{all_assigned, no_sides, no_variables, not_apart}
+use Rattle.occ_check_lines.proofs.action.assigned.Goals as goal
 
 pub returns-in_err-variables : goal.returns-in_err-variables
 returns-in_err-variables c =

@@ -3,11 +3,11 @@ use Rattle.std.specs.Prelude.{not}
 use Rattle.indexmap.specs.IndexMap.{keys}
 use Rattle.std.proofs.lemmas.Int.{to_z-of_z}
 use Rattle.occ_check_meaning.specs.Actions.{has_constant}
-use Rattle.occ_check.specs.Action.{chosen_of}
-use Rattle.occ_check.proofs.Among.{constant_told, constants_more}
-use Rattle.occ_check.proofs.CaseConstants.{chosen_before, chosen_now}
-use Rattle.occ_check.proofs.Refusals.{refused}
-use Rattle.occ_check.proofs.action.choosing_one.Goals as goal
+use Rattle.occ_check_lines.specs.Action.{chosen_of}
+use Rattle.occ_check_lines.proofs.Among.{constant_told, constants_more}
+use Rattle.occ_check_lines.proofs.CaseConstants.{chosen_before, chosen_now}
+use Rattle.occ_check_lines.proofs.Refusals.{refused}
+use Rattle.occ_check_lines.proofs.action.choosing_one.Goals as goal
 
 pub returns-then-not-added : goal.returns-then-not-added
 returns-then-not-added c =

@@ -1,5 +1,5 @@
-use Rattle.occ_check.proofs.Zipping.{zipping_first, zipping_last, zipping_long, zipping_next, zipping_nothing, zipping_short}
-use Rattle.occ_check.proofs.action.each_side.Goals as goal
+use Rattle.occ_check_lines.proofs.Zipping.{zipping_first, zipping_last, zipping_long, zipping_next, zipping_nothing, zipping_short}
+use Rattle.occ_check_lines.proofs.action.each_side.Goals as goal
 
 pub loop-variable-init : goal.loop-variable-init
 loop-variable-init c = zipping_first _ _ _ _ _ _ c.new-made.ensures

@@ -1,5 +1,5 @@
-use Rattle.occ_check.proofs.EachOf.{so_far_first, so_far_last, so_far_next, so_far_nothing}
-use Rattle.occ_check.proofs.action.each_variable.Goals as goal
+use Rattle.occ_check_lines.proofs.EachOf.{so_far_first, so_far_last, so_far_next, so_far_nothing}
+use Rattle.occ_check_lines.proofs.action.each_variable.Goals as goal
 
 pub loop-variable-init : goal.loop-variable-init
 loop-variable-init c = so_far_first _ _ _ _ _ c.new-all.ensures.items

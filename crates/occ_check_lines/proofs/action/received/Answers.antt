@@ -1,5 +1,5 @@
-use Rattle.occ_check.proofs.Receiving.{listed_gives, listed_nothing, tagged_gives, tagged_nothing}
-use Rattle.occ_check.proofs.action.received.Goals as goal
+use Rattle.occ_check_lines.proofs.Receiving.{listed_gives, listed_nothing, tagged_gives, tagged_nothing}
+use Rattle.occ_check_lines.proofs.action.received.Goals as goal
 
 pub returns-in-Ok : goal.returns-in-Ok
 returns-in-Ok c =

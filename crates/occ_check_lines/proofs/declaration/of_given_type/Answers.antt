@@ -5,9 +5,9 @@ use Rattle.occ_check_meaning.specs.Declarations as meant
 use Rattle.occ_check_meaning.specs.Operators.{primitive_of}
 use Rattle.occ_check_meaning.specs.Scope.{keep}
 use Rattle.occ_check_meaning.specs.Types.{Open, open_sizes_of}
-use Rattle.occ_check.specs.View.{names_in, typed_of}
-use Rattle.occ_check.proofs.Refusing.{then_none, then_refused}
-use Rattle.occ_check.proofs.declaration.of_given_type.Goals as goal
+use Rattle.occ_check_lines.specs.View.{names_in, typed_of}
+use Rattle.occ_check_lines.proofs.Refusing.{then_none, then_refused}
+use Rattle.occ_check_lines.proofs.declaration.of_given_type.Goals as goal
 
 pub returns-in_err-sizes : goal.returns-in_err-sizes
 returns-in_err-sizes c =

@@ -3,9 +3,9 @@ use Rattle.std.specs.Map.{keys_of}
 use Rattle.std.specs.Prelude.{not}
 use Rattle.indexmap.specs.IndexMap.{keys}
 use Rattle.occ_check_meaning.specs.Scope.{is_among, keep}
-use Rattle.occ_check.proofs.Twice.{begins, clashes, goes_on, keys_more, told_among}
-use Rattle.occ_check.proofs.Refusals.{refused}
-use Rattle.occ_check.proofs.declaration.once.Goals as goal
+use Rattle.occ_check_lines.proofs.Twice.{begins, clashes, goes_on, keys_more, told_among}
+use Rattle.occ_check_lines.proofs.Refusals.{refused}
+use Rattle.occ_check_lines.proofs.declaration.once.Goals as goal
 
 pub loop-name-init : goal.loop-name-init
 loop-name-init c = begins c.args.names.now (keys c.new-seen.result) (ap (λ es. length (keys_of es)) c.new-seen.ensures.empty)

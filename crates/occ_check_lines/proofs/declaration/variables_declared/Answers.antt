@@ -1,8 +1,8 @@
 use Rattle.std.proofs.Common.{rules}
 use Rattle.occ_check_meaning.specs.Declarations as meant
-use Rattle.occ_check.specs.View.{Refuses, numbers_of}
-use Rattle.occ_check.proofs.Declarations.{ends, goes_on, stops}
-use Rattle.occ_check.proofs.declaration.variables_declared.Goals as goal
+use Rattle.occ_check_lines.specs.View.{Refuses, numbers_of}
+use Rattle.occ_check_lines.proofs.Declarations.{ends, goes_on, stops}
+use Rattle.occ_check_lines.proofs.declaration.variables_declared.Goals as goal
 
 pub returns-in_err-one : goal.returns-in_err-one
 returns-in_err-one c =

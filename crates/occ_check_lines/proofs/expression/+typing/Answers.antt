@@ -1,8 +1,8 @@
 use Rattle.std.proofs.Common.{subst}
 use Rattle.occ_check_meaning.specs.Expressions.{size_of_operand, typed_operand}
-use Rattle.occ_check.specs.View.{Gives, names_in, typed_of}
-use Rattle.occ_check.proofs.Expressions.{chain_gives, chain_nothing, variable_given, chained_first, chained_next, chained_nothing, chained_last, subscripted_first, subscripted_next, subscripted_nothing, subscripted_last}
-use Rattle.occ_check.proofs.expression.+typing.Goals as goal
+use Rattle.occ_check_lines.specs.View.{Gives, names_in, typed_of}
+use Rattle.occ_check_lines.proofs.Expressions.{chain_gives, chain_nothing, variable_given, chained_first, chained_next, chained_nothing, chained_last, subscripted_first, subscripted_next, subscripted_nothing, subscripted_last}
+use Rattle.occ_check_lines.proofs.expression.+typing.Goals as goal
 
 pub typed_chain-loop-operand-init : goal.typed_chain-loop-operand-init
 typed_chain-loop-operand-init t c = chained_first _ _ _ _ _

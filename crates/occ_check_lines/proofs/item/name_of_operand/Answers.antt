@@ -2,9 +2,9 @@ use Rattle.std.proofs.Common.{subst}
 use Rattle.occ_tree_grammar.specs.Expressions.Trees.{alone}
 use Rattle.occ_tree_grammar.specs.Lines.Trees.{from}
 use Rattle.occ_check_meaning.specs.Items.{as_name}
-use Rattle.occ_check.specs.View.{Gives}
-use Rattle.occ_check.proofs.Expressions.{variable_given}
-use Rattle.occ_check.proofs.item.name_of_operand.Goals as goal
+use Rattle.occ_check_lines.specs.View.{Gives}
+use Rattle.occ_check_lines.proofs.Expressions.{variable_given}
+use Rattle.occ_check_lines.proofs.item.name_of_operand.Goals as goal
 
 pub returns-in-Variable : goal.returns-in-Variable
 returns-in-Variable c =

@@ -1,8 +1,8 @@
 use Rattle.std.proofs.Common.{map, subst, sym, ◌∙◌}
 use Rattle.occ_tree_grammar.specs.Lines.Views.{out_of}
-use Rattle.occ_check.specs.View.{names_in, Refuses}
-use Rattle.occ_check.proofs.Zipping.{sent_zipped, zipping_first, zipping_last, zipping_long, zipping_next, zipping_nothing, zipping_short}
-use Rattle.occ_check.proofs.item.sent_items.Goals as goal
+use Rattle.occ_check_lines.specs.View.{names_in, Refuses}
+use Rattle.occ_check_lines.proofs.Zipping.{sent_zipped, zipping_first, zipping_last, zipping_long, zipping_next, zipping_nothing, zipping_short}
+use Rattle.occ_check_lines.proofs.item.sent_items.Goals as goal
 
 pub loop-part-init : goal.loop-part-init
 loop-part-init c = zipping_first _ _ _ _ _ _ c.new-made.ensures

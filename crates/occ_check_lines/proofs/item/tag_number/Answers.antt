@@ -1,7 +1,7 @@
 use Rattle.std.proofs.Common.{arith, ap, sym, ◌∙◌}
 use Rattle.std.specs.Prelude.{bytes_eq}
-use Rattle.occ_check.proofs.Tagging.{numbered_first, numbered_next, numbered_here, numbered_none}
-use Rattle.occ_check.proofs.item.tag_number.Goals as goal
+use Rattle.occ_check_lines.proofs.Tagging.{numbered_first, numbered_next, numbered_here, numbered_none}
+use Rattle.occ_check_lines.proofs.item.tag_number.Goals as goal
 
 pub loop-tag-init : goal.loop-tag-init
 loop-tag-init c = (numbered_first c.args.tags.now c.args.name.now, omega arith)

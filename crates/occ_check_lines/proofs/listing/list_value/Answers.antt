@@ -2,8 +2,8 @@ use Rattle.std.proofs.Common.{◌∙◌, ap, rules, w64}
 use Rattle.std.proofs.lemmas.Int.{to_z-of_z}
 use Rattle.std.specs.Map.{lookup}
 use Rattle.std.specs.Ordering.{int_eq}
-use Rattle.occ_check.proofs.Keys.{was_new}
-use Rattle.occ_check.proofs.listing.list_value.Goals as goal
+use Rattle.occ_check_lines.proofs.Keys.{was_new}
+use Rattle.occ_check_lines.proofs.listing.list_value.Goals as goal
 
 pub returns-clause-added : goal.returns-clause-added
 returns-clause-added c =

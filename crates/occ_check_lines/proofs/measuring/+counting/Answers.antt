@@ -1,6 +1,6 @@
 use Rattle.std.proofs.Common.{arith}
 use Rattle.std.proofs.lemmas.Grind.{common_steps}
-use Rattle.occ_check.proofs.measuring.+counting.Goals as goal
+use Rattle.occ_check_lines.proofs.measuring.+counting.Goals as goal
 
 pub count_expression-returns : goal.count_expression-returns
 count_expression-returns t c = grind (arith, common_steps)

@@ -2,7 +2,7 @@ use Rattle.std.proofs.Common.{◌≡◌, ap, arith, drop, pos, ◌+◌}
 use Rattle.std.proofs.lemmas.Grind.{common_steps}
 use Rattle.std.proofs.lemmas.List.{drop_more}
 use Rattle.occ_term.specs.Sizes.{together, no_size, with_node, size_of_constants}
-use Rattle.occ_check.proofs.measuring.count_constants.Goals as goal
+use Rattle.occ_check_lines.proofs.measuring.count_constants.Goals as goal
 
 pub returns-in_err-node : goal.returns-in_err-node
 returns-in_err-node c =

@@ -1,6 +1,6 @@
 use Rattle.std.proofs.Common.{arith}
 use Rattle.std.proofs.lemmas.Grind.{common_steps}
-use Rattle.occ_check.proofs.measuring.count_item.Goals as goal
+use Rattle.occ_check_lines.proofs.measuring.count_item.Goals as goal
 
 pub returns-in_err-count_expression-in-Counted : goal.returns-in_err-count_expression-in-Counted
 returns-in_err-count_expression-in-Counted c = grind (arith, common_steps)

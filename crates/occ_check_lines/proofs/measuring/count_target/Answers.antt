@@ -1,6 +1,6 @@
 use Rattle.std.proofs.Common.{arith}
 use Rattle.std.proofs.lemmas.Grind.{common_steps}
-use Rattle.occ_check.proofs.measuring.count_target.Goals as goal
+use Rattle.occ_check_lines.proofs.measuring.count_target.Goals as goal
 
 pub returns-in_err-node-in-Into : goal.returns-in_err-node-in-Into
 returns-in_err-node-in-Into c = grind (arith, common_steps)

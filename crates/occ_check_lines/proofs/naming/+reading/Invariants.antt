@@ -1,8 +1,8 @@
 use Rattle.std.proofs.Common.{◌≡◌, ◌≤◌, drop, map}
 use Rattle.occ_term.specs.View.{expression_of, subscripts}
-use Rattle.occ_check.specs.Clash.{met_by, reads_some, some_in_subscripts}
+use Rattle.occ_check_lines.specs.Clash.{met_by, reads_some, some_in_subscripts}
 use Rattle.occ_term.proofs.expression.TermExpr.TheLaws.{the_size}
-use Rattle.occ_check.proofs.naming.+reading.Given as goal
+use Rattle.occ_check_lines.proofs.naming.+reading.Given as goal
 
 abbrev pub invariant-some_reads-loop-subscript : goal.invariant-some_reads-loop-subscript
 invariant-some_reads-loop-subscript l =

@@ -1,10 +1,10 @@
 use Rattle.std.proofs.Common.{◌≡◌, ◌∙◌, ap, arith, sym}
 use Rattle.std.specs.Prelude.{◌&&◌}
 use Rattle.occ_term.specs.Uses as uses
-use Rattle.occ_check.specs.Spans.{span_of}
-use Rattle.occ_check.specs.Clash.{shares}
-use Rattle.occ_check.proofs.NamedCells.{common}
-use Rattle.occ_check.proofs.naming.are_shared.Goals as goal
+use Rattle.occ_check_lines.specs.Spans.{span_of}
+use Rattle.occ_check_lines.specs.Clash.{shares}
+use Rattle.occ_check_lines.proofs.NamedCells.{common}
+use Rattle.occ_check_lines.proofs.naming.are_shared.Goals as goal
 
 pub returns-then-is_in : goal.returns-then-is_in
 returns-then-is_in c =

@@ -1,8 +1,8 @@
 use Rattle.std.proofs.Common.{rules, ℕ}
 use Rattle.std.specs.Prelude.{nat_lt}
 use Rattle.std.proofs.lemmas.List.Sorted.{IsPartitionPoint-from_clause, IsPartitionedBy-ltb}
-use Rattle.occ_check.proofs.NamingOthers.{point_below}
-use Rattle.occ_check.proofs.naming.count_below.Goals as goal
+use Rattle.occ_check_lines.proofs.NamingOthers.{point_below}
+use Rattle.occ_check_lines.proofs.naming.count_below.Goals as goal
 
 pub returns : goal.returns
 returns c =

@@ -2,9 +2,9 @@ use Rattle.std.proofs.Common.{◌≡◌, ◌∙◌, ap, map, rules}
 use Rattle.occ_term.specs.View.{expression_of, place_of, subscripts}
 use Rattle.occ_term.specs.declared.expression.TermExpr.{the_lemmas}
 use Rattle.occ_check_meaning.specs.Items.{variable_span}
-use Rattle.occ_check.specs.Clash.{stretch_at}
-use Rattle.occ_check.specs.Clash.{meets_another, some_in_subscripts}
-use Rattle.occ_check.proofs.naming.names_another.Goals as goal
+use Rattle.occ_check_lines.specs.Clash.{stretch_at}
+use Rattle.occ_check_lines.specs.Clash.{meets_another, some_in_subscripts}
+use Rattle.occ_check_lines.proofs.naming.names_another.Goals as goal
 
 pub returns : goal.returns
 returns c =

@@ -1,9 +1,9 @@
 use Rattle.std.proofs.Common.{◌∙◌, List, subst, sym, ℕ}
 use Rattle.std.specs.List.Sorted.{IsNonDecreasingBy}
 use Rattle.std.proofs.lemmas.List.Sorted.{IsNonDecreasingBy-from_sort}
-use Rattle.occ_check.specs.Clash.{one_names_another, stretches_of}
-use Rattle.occ_check.proofs.NamingOthers.{named_by_sorted}
-use Rattle.occ_check.proofs.naming.some_names_another.Goals as goal
+use Rattle.occ_check_lines.specs.Clash.{one_names_another, stretches_of}
+use Rattle.occ_check_lines.proofs.NamingOthers.{named_by_sorted}
+use Rattle.occ_check_lines.proofs.naming.some_names_another.Goals as goal
 
 pub one_names_another-requires-clause-firsts : goal.one_names_another-requires-clause-firsts
 one_names_another-requires-clause-firsts c =

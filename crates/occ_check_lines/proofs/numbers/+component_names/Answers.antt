@@ -1,7 +1,7 @@
 use Rattle.occ_check_meaning.specs.Numbers.{component_names}
 use Rattle.occ_term.specs.Names.{component_name}
-use Rattle.occ_check.proofs.ComponentNames.{names_next, no_more_names}
-use Rattle.occ_check.proofs.numbers.+component_names.Goals as goal
+use Rattle.occ_check_lines.proofs.ComponentNames.{names_next, no_more_names}
+use Rattle.occ_check_lines.proofs.numbers.+component_names.Goals as goal
 
 pub loop-k-preserved : goal.loop-k-preserved
 loop-k-preserved t c =

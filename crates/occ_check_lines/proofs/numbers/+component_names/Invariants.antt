@@ -1,7 +1,7 @@
 use Rattle.std.proofs.Common.{length, ◌≡◌, ◌++◌, ◌-◌}
 use Rattle.occ_check_meaning.specs.Numbers.{component_names, from_number}
 use Rattle.occ_term.specs.Names.{component_name}
-use Rattle.occ_check.proofs.numbers.+component_names.Given as goal
+use Rattle.occ_check_lines.proofs.numbers.+component_names.Given as goal
 
 abbrev pub decreases-component_names : goal.decreases-component_names
 decreases-component_names l = length l.sizes.now

@@ -1,6 +1,6 @@
 use Rattle.std.proofs.Common.{arith}
-use Rattle.occ_check.proofs.ComponentNames.{next_count, all_counted}
-use Rattle.occ_check.proofs.numbers.components.Goals as goal
+use Rattle.occ_check_lines.proofs.ComponentNames.{next_count, all_counted}
+use Rattle.occ_check_lines.proofs.numbers.components.Goals as goal
 
 pub loop-size-preserved : goal.loop-size-preserved
 loop-size-preserved c =

@@ -1,9 +1,9 @@
 use Rattle.std.proofs.Common.{◌∙◌, sym, ap, map}
 use Rattle.std.proofs.lemmas.List.Sorted.{IsPermutation-map}
 use Rattle.occ_check_meaning.specs.Calls.{some_meet}
-use Rattle.occ_check.specs.Spans.{span_of}
-use Rattle.occ_check.proofs.Overlaps.{none_meet, some_meet-permuted, two_meet}
-use Rattle.occ_check.proofs.overlap.some_meet.Goals as goal
+use Rattle.occ_check_lines.specs.Spans.{span_of}
+use Rattle.occ_check_lines.proofs.Overlaps.{none_meet, some_meet-permuted, two_meet}
+use Rattle.occ_check_lines.proofs.overlap.some_meet.Goals as goal
 
 pub returns-then-stand_apart : goal.returns-then-stand_apart
 returns-then-stand_apart c =

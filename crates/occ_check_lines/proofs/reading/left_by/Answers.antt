@@ -1,5 +1,5 @@
-use Rattle.occ_check.proofs.Leaving.{leaves_first, leaves_next, leaves_nothing, leaves_last}
-use Rattle.occ_check.proofs.reading.left_by.Goals as goal
+use Rattle.occ_check_lines.proofs.Leaving.{leaves_first, leaves_next, leaves_nothing, leaves_last}
+use Rattle.occ_check_lines.proofs.reading.left_by.Goals as goal
 
 pub loop-subscript-init : goal.loop-subscript-init
 loop-subscript-init c = (leaves_first c.args.under_these.now c.args.sizes.now, c.requires.few)

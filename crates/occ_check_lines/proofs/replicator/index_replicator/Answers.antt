@@ -1,6 +1,6 @@
 use Rattle.std.proofs.Common.{arith}
 use Rattle.std.proofs.lemmas.Grind.{common_steps}
-use Rattle.occ_check.proofs.replicator.index_replicator.Goals as goal
+use Rattle.occ_check_lines.proofs.replicator.index_replicator.Goals as goal
 
 pub returns-in_err-base : goal.returns-in_err-base
 returns-in_err-base c = grind (arith, common_steps)

@@ -1,7 +1,7 @@
 use Rattle.std.proofs.Common.{◌≡◌, ◌∙◌, ◌+◌, ◌-◌, ◌<◌, ap, arith, drop, length, rules, []}
 use Rattle.occ_check_meaning.specs.Items.{tag_number}
-use Rattle.occ_check.proofs.TagLists.{none_behind, one_before}
-use Rattle.occ_check.proofs.tags.numbers_of.Goals as goal
+use Rattle.occ_check_lines.proofs.TagLists.{none_behind, one_before}
+use Rattle.occ_check_lines.proofs.tags.numbers_of.Goals as goal
 
 pub loop-left-init : goal.loop-left-init
 loop-left-init c =

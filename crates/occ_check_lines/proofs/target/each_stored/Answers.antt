@@ -1,5 +1,5 @@
-use Rattle.occ_check.proofs.Zipping.{zipping_first, zipping_last, zipping_long, zipping_next, zipping_nothing, zipping_short}
-use Rattle.occ_check.proofs.target.each_stored.Goals as goal
+use Rattle.occ_check_lines.proofs.Zipping.{zipping_first, zipping_last, zipping_long, zipping_next, zipping_nothing, zipping_short}
+use Rattle.occ_check_lines.proofs.target.each_stored.Goals as goal
 
 pub loop-part-init : goal.loop-part-init
 loop-part-init c = zipping_first _ _ _ _ _ _ c.new-made.ensures

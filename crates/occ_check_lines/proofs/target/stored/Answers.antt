@@ -1,10 +1,10 @@
 use Rattle.std.proofs.Common.{ap, subst, sym, ◌∙◌}
 use Rattle.occ_term.specs.View.{targets_of}
 use Rattle.occ_check_meaning.specs.Items.{apart}
-use Rattle.occ_check.specs.Clash.{stretches_at}
-use Rattle.occ_check.specs.View.{Refuses}
-use Rattle.occ_check.proofs.Targets.{stored_clashes, stored_gives, stored_nothing}
-use Rattle.occ_check.proofs.target.stored.Goals as goal
+use Rattle.occ_check_lines.specs.Clash.{stretches_at}
+use Rattle.occ_check_lines.specs.View.{Refuses}
+use Rattle.occ_check_lines.proofs.Targets.{stored_clashes, stored_gives, stored_nothing}
+use Rattle.occ_check_lines.proofs.target.stored.Goals as goal
 
 pub returns-in-Err : goal.returns-in-Err
 returns-in-Err c = stored_nothing _ _ _ _ _ c.in-Err.ensures

@@ -1,5 +1,5 @@
-use Rattle.occ_check.proofs.SizeLists.{many_few, one_few}
-use Rattle.occ_check.proofs.types.are_few.Goals as goal
+use Rattle.occ_check_lines.proofs.SizeLists.{many_few, one_few}
+use Rattle.occ_check_lines.proofs.types.are_few.Goals as goal
 
 pub returns-in-len1-clause-few : goal.returns-in-len1-clause-few
 returns-in-len1-clause-few c = λ h. one_few c.args.sizes.now c.in-len1.len_below (c.type_inv.sizes 0).fits

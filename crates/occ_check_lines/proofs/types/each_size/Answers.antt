@@ -1,9 +1,9 @@
 use Rattle.std.proofs.Common.{map, subst, sym, ◌∙◌}
 use Rattle.occ_tree_grammar.specs.Expressions.Trees.{expression_of}
-use Rattle.occ_check.specs.View.{names_in, Refuses}
-use Rattle.occ_check.proofs.EachOf.{so_far_first, so_far_next, so_far_nothing, so_far_same}
-use Rattle.occ_check.proofs.SizeLists.{given_none, given_one, sizes_each}
-use Rattle.occ_check.proofs.types.each_size.Goals as goal
+use Rattle.occ_check_lines.specs.View.{names_in, Refuses}
+use Rattle.occ_check_lines.proofs.EachOf.{so_far_first, so_far_next, so_far_nothing, so_far_same}
+use Rattle.occ_check_lines.proofs.SizeLists.{given_none, given_one, sizes_each}
+use Rattle.occ_check_lines.proofs.types.each_size.Goals as goal
 
 pub loop-size-init : goal.loop-size-init
 loop-size-init c = so_far_first _ _ _ _ _ c.new-made.ensures

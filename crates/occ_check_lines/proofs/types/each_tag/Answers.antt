@@ -1,5 +1,5 @@
-use Rattle.occ_check.proofs.EachOf.{so_far_first, so_far_next, so_far_nothing, so_far_same}
-use Rattle.occ_check.proofs.types.each_tag.Goals as goal
+use Rattle.occ_check_lines.proofs.EachOf.{so_far_first, so_far_next, so_far_nothing, so_far_same}
+use Rattle.occ_check_lines.proofs.types.each_tag.Goals as goal
 
 pub loop-tag-init : goal.loop-tag-init
 loop-tag-init c = so_far_first _ _ _ _ _ c.new-made.ensures

@@ -1,5 +1,5 @@
-use Rattle.occ_check.proofs.SizeLists.{counted_first, counted_next, counted_open, counted_last}
-use Rattle.occ_check.proofs.types.given_components.Goals as goal
+use Rattle.occ_check_lines.proofs.SizeLists.{counted_first, counted_next, counted_open, counted_last}
+use Rattle.occ_check_lines.proofs.types.given_components.Goals as goal
 
 pub loop-size-init : goal.loop-size-init
 loop-size-init c = counted_first c.args.sizes.now

@@ -1,6 +1,6 @@
 use Rattle.std.proofs.Common.{Some, ◌∙◌, ap, sym}
-use Rattle.occ_check.proofs.SizeLists.{sequential_is, sequential_none, tags_are, tags_none}
-use Rattle.occ_check.proofs.types.protocol_of.Goals as goal
+use Rattle.occ_check_lines.proofs.SizeLists.{sequential_is, sequential_none, tags_are, tags_none}
+use Rattle.occ_check_lines.proofs.types.protocol_of.Goals as goal
 
 pub returns-in_ok-new-in-Ok : goal.returns-in_ok-new-in-Ok
 returns-in_ok-new-in-Ok c = sequential_is _ _ _ _ _ _ c.in-Parts.is c.deref.ensures _ (c.in-Ok.ensures ∙ ap Some (sym c.in_ok-new-in-Ok.ensures))

@@ -1,6 +1,6 @@
 use Rattle.std.proofs.Common.{rules}
-use Rattle.occ_check.proofs.Scopes.{not_there, not_yet, is_there}
-use Rattle.occ_check.proofs.scope.Block.seen.Goals as goal
+use Rattle.occ_check_lines.proofs.Scopes.{not_there, not_yet, is_there}
+use Rattle.occ_check_lines.proofs.scope.Block.seen.Goals as goal
 
 pub returns-in-None : goal.returns-in-None
 returns-in-None c = not_there c.args.name.now c.args.self.now.names.entries c.args.seen c.in-None.ensures.found

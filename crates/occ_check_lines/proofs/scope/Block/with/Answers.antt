@@ -1,7 +1,7 @@
 use Rattle.std.proofs.Common.{rules, ◌≡◌, ◌∷◌, List, ap, subst, sym, ◌∙◌, ℕ}
-use Rattle.occ_check.specs.View.{pairs_before, binding_of, Lacks}
-use Rattle.occ_check.proofs.Scopes.{one_more, added}
-use Rattle.occ_check.proofs.scope.Block.with.Goals as goal
+use Rattle.occ_check_lines.specs.View.{pairs_before, binding_of, Lacks}
+use Rattle.occ_check_lines.proofs.Scopes.{one_more, added}
+use Rattle.occ_check_lines.proofs.scope.Block.with.Goals as goal
 
 pub returns-clause-names : goal.returns-clause-names
 returns-clause-names c =

@@ -1,8 +1,8 @@
 use Rattle.std.proofs.Common.{[], Some, refl, sym, subst, reverse}
 use Rattle.std.proofs.lemmas.List.{append-nil}
-use Rattle.occ_check.specs.View.{scope_of, IsFound}
-use Rattle.occ_check.proofs.Scopes.{wider}
-use Rattle.occ_check.proofs.scope.Scope.find.Goals as goal
+use Rattle.occ_check_lines.specs.View.{scope_of, IsFound}
+use Rattle.occ_check_lines.proofs.Scopes.{wider}
+use Rattle.occ_check_lines.proofs.scope.Scope.find.Goals as goal
 
 pub outwards-init : goal.outwards-init
 outwards-init c = (refl, ([], sym (append-nil c.args.self.blocks.now)))

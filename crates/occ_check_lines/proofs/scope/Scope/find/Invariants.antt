@@ -1,8 +1,8 @@
 use Rattle.std.proofs.Common.{◌≡◌, ◌++◌, List, length}
 use Rattle.occ_check_meaning.specs.Unfolding.{found}
-use Rattle.occ_check.specs.View.{scope_of}
-use Rattle.occ_check.specs.declared.scope.Block.{Block}
-use Rattle.occ_check.proofs.scope.Scope.find.Given as goal
+use Rattle.occ_check_lines.specs.View.{scope_of}
+use Rattle.occ_check_lines.specs.declared.scope.Block.{Block}
+use Rattle.occ_check_lines.proofs.scope.Scope.find.Given as goal
 
 abbrev pub decreases-outwards : goal.decreases-outwards
 decreases-outwards l = length l.place.blocks.now

@@ -1,9 +1,9 @@
 use Rattle.std.proofs.Common.{Some, ap, sym, ◌∙◌, drop, reverse}
 use Rattle.occ_check_meaning.specs.Unfolding.{found}
-use Rattle.occ_check.specs.View.{binding_of, scope_in, scope_of}
-use Rattle.occ_check.specs.declared.scope.Position.{Position}
-use Rattle.occ_check.proofs.Scopes.{bound_found, by_own}
-use Rattle.occ_check.proofs.scope.Scope.step.Goals as goal
+use Rattle.occ_check_lines.specs.View.{binding_of, scope_in, scope_of}
+use Rattle.occ_check_lines.specs.declared.scope.Position.{Position}
+use Rattle.occ_check_lines.proofs.Scopes.{bound_found, by_own}
+use Rattle.occ_check_lines.proofs.scope.Scope.step.Goals as goal
 
 pub returns-in-None-clause-found : goal.returns-in-None-clause-found
 unfolding found

@@ -1,10 +1,10 @@
 use Rattle.std.proofs.Common.{◌∙◌, ap, sym}
 use Rattle.std.specs.Prelude.{not}
 use Rattle.indexmap.specs.IndexMap.{keys}
-use Rattle.occ_check.specs.Tags.{listed_in, number_at}
-use Rattle.occ_check.proofs.Among.{number_told}
-use Rattle.occ_check.proofs.TagLists.{listed_before, listed_now}
-use Rattle.occ_check.proofs.tags.Tags.next.Goals as goal
+use Rattle.occ_check_lines.specs.Tags.{listed_in, number_at}
+use Rattle.occ_check_lines.proofs.Among.{number_told}
+use Rattle.occ_check_lines.proofs.TagLists.{listed_before, listed_now}
+use Rattle.occ_check_lines.proofs.tags.Tags.next.Goals as goal
 
 pub returns-then-added-clause-tag : goal.returns-then-added-clause-tag
 returns-then-added-clause-tag c =
