@@ -29,7 +29,7 @@ use Rattle.occ_program.specs.Watched.{CameTo}
 use Rattle.occ_explore.specs.declared.exploration.Asked.{Asked as AskedFor}
 use Rattle.occ_explore.specs.declared.exploration.Exploration.{Exploration}
 use Rattle.occ_explore.specs.declared.exploration.Answer.{Answer}
-use Rattle.occ_exploring.specs.Alone.{IsOnlyFor, IsUntoldFor, only_status}
+use Rattle.occ_exploring.specs.Alone.{IsOnlyFor, IsUntoldFor, only_status, turns_within}
 use Rattle.occ_exploring.specs.Explored.{IsDrawnFor, IsExplored}
 use Rattle.occ_explore.specs.declared.exploration.Verdict.{Verdict}
 use Rattle.occ_explore.specs.declared.exploration.Verdict.TheVariants.{All, First, Heavy, More, OutOfMemory}
@@ -165,14 +165,14 @@ searched_to words source keyboard bytes keys asked options (Err f) same from typ
     subst (λ o. Refuses o source f) same (subst (λ s. Refuses options s f) from g)
 
 -- what one run told, by its two clauses
-pub only_to : (words : Asked) (source keyboard bytes keys : List ℕ) (options : Options) (found : Result (Option Answer) PlayFault)
-    → options ≡ options_in words → bytes ≡ source → keys ≡ keyboard
-    → IfOk found (λ o. IfSome o (IsOnlyFor options bytes keys)) → IfOk found (λ o. IfNone o (IsUntoldFor options bytes keys words.states)) → IfErr found (Refuses options bytes) → OnlyTo words source keyboard found
-only_to words source keyboard bytes keys options (Ok None) same from typed h u g =
-    subst (λ o. IsUntoldFor o source keyboard words.states) same (subst (λ k. IsUntoldFor options source k words.states) typed (subst (λ s. IsUntoldFor options s keys words.states) from u))
-only_to words source keyboard bytes keys options (Ok (Some a)) same from typed h u g =
+pub only_to : (words : Asked) (source keyboard bytes keys : List ℕ) (options : Options) (most : ℕ) (found : Result (Option Answer) PlayFault)
+    → options ≡ options_in words → bytes ≡ source → keys ≡ keyboard → most ≡ turns_within words.states words.memory
+    → IfOk found (λ o. IfSome o (IsOnlyFor options bytes keys)) → IfOk found (λ o. IfNone o (IsUntoldFor options bytes keys most)) → IfErr found (Refuses options bytes) → OnlyTo words source keyboard found
+only_to words source keyboard bytes keys options most (Ok None) same from typed few h u g =
+    subst (IsUntoldFor (options_in words) source keyboard) few (subst (λ o. IsUntoldFor o source keyboard most) same (subst (λ k. IsUntoldFor options source k most) typed (subst (λ s. IsUntoldFor options s keys most) from u)))
+only_to words source keyboard bytes keys options most (Ok (Some a)) same from typed few h u g =
     subst (λ o. IsOnlyFor o source keyboard a) same (subst (λ k. IsOnlyFor options source k a) typed (subst (λ s. IsOnlyFor options s keys a) from h))
-only_to words source keyboard bytes keys options (Err f) same from typed h u g = subst (λ o. Refuses o source f) same (subst (λ s. Refuses options s f) from g)
+only_to words source keyboard bytes keys options most (Err f) same from typed few h u g = subst (λ o. Refuses o source f) same (subst (λ s. Refuses options s f) from g)
 
 pub only_small : (a : Answer) → only_status a ≤ 7
 only_small a = by (is_fault a.ending) (has_stopped a.ending)
