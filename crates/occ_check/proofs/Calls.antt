@@ -17,15 +17,15 @@ use Rattle.occ_check_meaning.specs.Declarations as D
 use Rattle.occ_check_meaning.specs.Declarations.{opened}
 use Rattle.occ_check_meaning.specs.Calls as C
 use Rattle.occ_check_meaning.specs.Calls.{other_formals, all_actuals, actual_of, wanted, spec_after}
-use Rattle.occ_check.specs.View.{Refuses, numbers_of}
-use Rattle.occ_check.specs.Declaration.{opened_of}
+use Rattle.occ_check_lines.specs.View.{Refuses, numbers_of}
+use Rattle.occ_check_lines.specs.Declaration.{opened_of}
 use Rattle.occ_check.specs.Call.{formal_of, formals_of, listed_formals, named_formal, wanted_of}
-use Rattle.occ_check.specs.declared.fault.CheckFault.{CheckFault}
-use Rattle.occ_check.specs.declared.numbers.Numbers.{Numbers}
-use Rattle.occ_check.specs.declared.declaration.Opened.{Opened}
+use Rattle.occ_check_lines.specs.declared.fault.CheckFault.{CheckFault}
+use Rattle.occ_check_lines.specs.declared.numbers.Numbers.{Numbers}
+use Rattle.occ_check_lines.specs.declared.declaration.Opened.{Opened}
 use Rattle.occ_check.specs.declared.formals.WantedFormal.{WantedFormal}
-use Rattle.occ_check.proofs.Refusals.{refused_with}
-use Rattle.occ_check.proofs.Declarations.{after_these, joined, nothing_after, these_and_those}
+use Rattle.occ_check_lines.proofs.Refusals.{refused_with}
+use Rattle.occ_check_lines.proofs.Declarations.{after_these, joined, nothing_after, these_and_those}
 
 abbrev pub Listed : Type 0
 Listed = Option (List (Name × C.Wanted))

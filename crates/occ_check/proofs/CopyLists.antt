@@ -17,13 +17,13 @@ use Rattle.occ_check_meaning.specs.Unfolding.{Procedures}
 use Rattle.occ_check_meaning.specs.Meant.{meant}
 use Rattle.occ_check.specs.Copies.{copies_counted, numbered_copy}
 use Rattle.occ_check.specs.Opened.{copy_for, put}
-use Rattle.occ_check.specs.View.{Refuses}
+use Rattle.occ_check_lines.specs.View.{Refuses}
 use Rattle.occ_check.specs.Weights.{weight}
-use Rattle.occ_check.specs.declared.fault.CheckFault.{CheckFault}
+use Rattle.occ_check_lines.specs.declared.fault.CheckFault.{CheckFault}
 use Rattle.occ_check.proofs.Beside.{all_branches, numbered_as, put_branch}
 use Rattle.occ_check.proofs.PartByPart.{before, one_more}
-use Rattle.occ_check.proofs.Refusals.{none_then, refused_with}
-use Rattle.occ_check.proofs.Refusing.{then_refused}
+use Rattle.occ_check_lines.proofs.Refusals.{none_then, refused_with}
+use Rattle.occ_check_lines.proofs.Refusing.{then_refused}
 
 -- ---- the list of copies
 

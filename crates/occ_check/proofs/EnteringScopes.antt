@@ -39,22 +39,22 @@ use Rattle.occ_check_meaning.specs.Meant.{meaning_of, meant}
 use Rattle.occ_check_meaning.proofs.Names.{found_means, meant_within, means_of, same_names}
 use Rattle.occ_check_meaning.proofs.Steps.{bind_some, some_is}
 use Rattle.occ_check.specs.Entering.{as_procedure, formals_bound, procedure_found, procedure_in}
-use Rattle.occ_check.specs.Declaration.{opened_of, pair_of, pairs_of}
+use Rattle.occ_check_lines.specs.Declaration.{opened_of, pair_of, pairs_of}
 use Rattle.occ_check.specs.Progress.{Enters, innermost_at, meant_innermost, weight_at}
-use Rattle.occ_check.specs.View.{Refuses, known_of, names_in, numbers_of, scope_in, scope_of}
-use Rattle.occ_check.specs.declared.fault.CheckFault.{CheckFault}
-use Rattle.occ_check.specs.declared.scope.Block.{Block}
-use Rattle.occ_check.specs.declared.scope.Position.{Position}
-use Rattle.occ_check.specs.declared.scope.Procedure.{Procedure as ProcedureCode}
-use Rattle.occ_check.specs.declared.scope.Scope.{Scope as ScopeCode}
+use Rattle.occ_check_lines.specs.View.{Refuses, known_of, names_in, numbers_of, scope_in, scope_of}
+use Rattle.occ_check_lines.specs.declared.fault.CheckFault.{CheckFault}
+use Rattle.occ_check_lines.specs.declared.scope.Block.{Block}
+use Rattle.occ_check_lines.specs.declared.scope.Position.{Position}
+use Rattle.occ_check_lines.specs.declared.scope.Procedure.{Procedure as ProcedureCode}
+use Rattle.occ_check_lines.specs.declared.scope.Scope.{Scope as ScopeCode}
 use Rattle.occ_check.specs.declared.unfolder.Call.{Call}
 use Rattle.occ_check.specs.declared.unfolder.Unfolder.{Unfolder}
-use Rattle.occ_check.specs.declared.declaration.Named.{Named}
-use Rattle.occ_check.specs.declared.declaration.Opened.{Opened as OpenedCode}
-use Rattle.occ_check.specs.declared.numbers.Numbers.{Numbers as NumbersCode}
-use Rattle.occ_check.specs.declared.fault.CheckFault.TheVariants.{Memory}
+use Rattle.occ_check_lines.specs.declared.declaration.Named.{Named}
+use Rattle.occ_check_lines.specs.declared.declaration.Opened.{Opened as OpenedCode}
+use Rattle.occ_check_lines.specs.declared.numbers.Numbers.{Numbers as NumbersCode}
+use Rattle.occ_check_lines.specs.declared.fault.CheckFault.TheVariants.{Memory}
 use Rattle.occ_check.specs.Weights.{decl_size, decls_size, item_size, node_size, weight}
-use Rattle.occ_check.proofs.Refusals.{then_then}
+use Rattle.occ_check_lines.proofs.Refusals.{then_then}
 use Rattle.occ_check.proofs.Weights.{lighter}
 
 -- ---- scopes of the code

@@ -4,10 +4,10 @@ use Rattle.std.proofs.lemmas.List.{drop_more}
 use Rattle.std.proofs.Math.ListN.{drop_of_length-le}
 use Rattle.occ_tree_grammar.specs.Many.{◌>>=◌}
 use Rattle.occ_tree_grammar.specs.Processes.Trees.{Kind, Node, nodes}
-use Rattle.occ_check.specs.View.{Refuses}
+use Rattle.occ_check_lines.specs.View.{Refuses}
 use Rattle.occ_check.specs.Weights.{node_size, nodes_size}
-use Rattle.occ_check.specs.declared.fault.CheckFault.{CheckFault}
-use Rattle.occ_check.proofs.Refusals.{refused_with}
+use Rattle.occ_check_lines.specs.declared.fault.CheckFault.{CheckFault}
+use Rattle.occ_check_lines.proofs.Refusals.{refused_with}
 
 -- so much is made, and this is what the whole gives
 pub record Gathered {X S A R : Type 0} (all : List X → S → Option R) (put : A → R → R) (given : Option R) (xs : List X) (i : ℕ) (made : A) (s : S) : Type 0 where

@@ -12,13 +12,13 @@ use Rattle.occ_check_meaning.specs.Constants.{constant}
 use Rattle.occ_check_meaning.specs.Expressions.{joined}
 use Rattle.occ_check_meaning.specs.Calls as C
 use Rattle.occ_check_meaning.specs.Calls.{all_evaluated, one_evaluated, evaluated}
-use Rattle.occ_check.specs.View.{Refuses, evaluated_of, numbers_of}
+use Rattle.occ_check_lines.specs.View.{Refuses, evaluated_of, numbers_of}
 use Rattle.occ_check.specs.Call.{given_of}
-use Rattle.occ_check.specs.declared.fault.CheckFault.{CheckFault}
-use Rattle.occ_check.specs.declared.known.Evaluated.{Evaluated}
-use Rattle.occ_check.specs.declared.numbers.Numbers.{Numbers}
+use Rattle.occ_check_lines.specs.declared.fault.CheckFault.{CheckFault}
+use Rattle.occ_check_lines.specs.declared.known.Evaluated.{Evaluated}
+use Rattle.occ_check_lines.specs.declared.numbers.Numbers.{Numbers}
 use Rattle.occ_check.specs.declared.given.Given.{Given}
-use Rattle.occ_check.proofs.Refusals.{refused_with}
+use Rattle.occ_check_lines.proofs.Refusals.{refused_with}
 
 pub head_and_rest : {X : Type 0} (xs : List X) (x : X) (rest : List X) → slice_get xs 0 ≡ Some x → rest ≡ remove xs 0 → xs ≡ x ∷ rest
 head_and_rest [] x rest h e = absurd cc

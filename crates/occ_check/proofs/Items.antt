@@ -14,10 +14,10 @@ use Rattle.occ_check_meaning.specs.Performing.{Calling, Entered, entered}
 use Rattle.occ_check_meaning.specs.Programs.{items_declared}
 use Rattle.occ_check_meaning.specs.Recursion.{item_declared}
 use Rattle.occ_check_meaning.specs.Scope.{Scope}
-use Rattle.occ_check.specs.View.{Refuses}
-use Rattle.occ_check.specs.declared.fault.CheckFault.{CheckFault}
-use Rattle.occ_check.proofs.EachOf.{from_here}
-use Rattle.occ_check.proofs.Refusals.{refused_with}
+use Rattle.occ_check_lines.specs.View.{Refuses}
+use Rattle.occ_check_lines.specs.declared.fault.CheckFault.{CheckFault}
+use Rattle.occ_check_lines.proofs.EachOf.{from_here}
+use Rattle.occ_check_lines.proofs.Refusals.{refused_with}
 
 -- what follows, behind what is set already
 abbrev pub behind_heads : List T.Declaration → Option (Entered Calling) → Option (Entered Calling)

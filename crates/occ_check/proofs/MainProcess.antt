@@ -23,10 +23,10 @@ use Rattle.occ_check_meaning.specs.Calls.{spec_after}
 use Rattle.occ_check_meaning.specs.Programs.{Main, byte_channels, channels_from, is_byte_channel, last_or, main_of, other_names}
 use Rattle.occ_check_meaning.specs.Scope.{Name, keep}
 use Rattle.occ_check_meaning.proofs.Steps.{bind_some, some_is}
-use Rattle.occ_check.specs.Declaration.{pair_of, pairs_of}
+use Rattle.occ_check_lines.specs.Declaration.{pair_of, pairs_of}
 use Rattle.occ_check.specs.Program.{byte_channel, main_at}
-use Rattle.occ_check.specs.declared.declaration.Named.{Named}
-use Rattle.occ_check.proofs.EachOf.{from_here}
+use Rattle.occ_check_lines.specs.declared.declaration.Named.{Named}
+use Rattle.occ_check_lines.proofs.EachOf.{from_here}
 
 -- ---- the last PROC
 

@@ -10,10 +10,10 @@ use Rattle.occ_check_meaning.specs.Declarations.{Indexed, indexed}
 use Rattle.occ_check_meaning.specs.Numbers.{Numbers}
 use Rattle.occ_check_meaning.specs.Performing.{Calling, Under}
 use Rattle.occ_check_meaning.specs.Scope.{Scope, names_of, within}
-use Rattle.occ_check.specs.View.{Refuses}
-use Rattle.occ_check.specs.declared.fault.CheckFault.{CheckFault}
-use Rattle.occ_check.specs.declared.scope.Block.{Block}
-use Rattle.occ_check.proofs.Refusals.{refused_with}
+use Rattle.occ_check_lines.specs.View.{Refuses}
+use Rattle.occ_check_lines.specs.declared.fault.CheckFault.{CheckFault}
+use Rattle.occ_check_lines.specs.declared.scope.Block.{Block}
+use Rattle.occ_check_lines.proofs.Refusals.{refused_with}
 use Rattle.occ_check.specs.Opened.{put}
 use Rattle.occ_check.specs.Weights.{node_size, nodes_size}
 

@@ -26,9 +26,9 @@ use Rattle.occ_check_meaning.specs.Numbers.{Numbers}
 use Rattle.occ_check_meaning.specs.Performing.{Calling}
 use Rattle.occ_check_meaning.specs.Recursion.{all_declared, all_options, option_unfolded, unfolded}
 use Rattle.occ_check_meaning.specs.Scope.{Scope}
-use Rattle.occ_check.specs.View.{Refuses}
-use Rattle.occ_check.specs.declared.fault.CheckFault.{CheckFault}
-use Rattle.occ_check.proofs.Refusing.{then_refused}
+use Rattle.occ_check_lines.specs.View.{Refuses}
+use Rattle.occ_check_lines.specs.declared.fault.CheckFault.{CheckFault}
+use Rattle.occ_check_lines.proofs.Refusing.{then_refused}
 
 -- ---- what an option of the code puts before others
 

@@ -23,11 +23,11 @@ use Rattle.occ_check_meaning.specs.Numbers.{Numbers}
 use Rattle.occ_check_meaning.specs.Performing.{Calling}
 use Rattle.occ_check_meaning.specs.Recursion.{all_declared, all_variants, unfolded, variant_unfolded}
 use Rattle.occ_check_meaning.specs.Scope.{Scope}
-use Rattle.occ_check.specs.View.{Refuses}
-use Rattle.occ_check.specs.Tags.{AreTagsOf, number_at}
-use Rattle.occ_check.specs.declared.tags.Tags.{Tags}
-use Rattle.occ_check.specs.declared.fault.CheckFault.{CheckFault}
-use Rattle.occ_check.proofs.Refusing.{then_refused}
+use Rattle.occ_check_lines.specs.View.{Refuses}
+use Rattle.occ_check_lines.specs.Tags.{AreTagsOf, number_at}
+use Rattle.occ_check_lines.specs.declared.tags.Tags.{Tags}
+use Rattle.occ_check_lines.specs.declared.fault.CheckFault.{CheckFault}
+use Rattle.occ_check_lines.proofs.Refusing.{then_refused}
 
 -- ---- what a variant of the code puts before others
 

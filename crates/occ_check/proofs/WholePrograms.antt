@@ -19,13 +19,13 @@ use Rattle.occ_check_meaning.proofs.Names.{meant_within}
 use Rattle.occ_check_meaning.proofs.SoundTree.{program_sound}
 use Rattle.occ_check.specs.CheckRefuses.{CheckRefuses, HasNoUnfolding}
 use Rattle.occ_check.specs.Program.{items_within}
-use Rattle.occ_check.specs.View.{Refuses, numbers_of, scope_in}
-use Rattle.occ_check.specs.declared.numbers.Numbers.{Numbers as Given}
-use Rattle.occ_check.specs.declared.scope.Block.{Block}
-use Rattle.occ_check.specs.declared.scope.Position.{Position}
-use Rattle.occ_check.specs.declared.fault.CheckFault.{CheckFault}
-use Rattle.occ_check.specs.declared.fault.CheckFault.TheVariants.{Unknown, Twice, WrongKind, WrongType, NotConstant, BadCount, Subscript, Protocol, Tag, Arguments, Overlap, ListTarget, NoMain, TooLarge, Memory}
-use Rattle.occ_check.proofs.Refusals.{none_then, refused_with}
+use Rattle.occ_check_lines.specs.View.{Refuses, numbers_of, scope_in}
+use Rattle.occ_check_lines.specs.declared.numbers.Numbers.{Numbers as Given}
+use Rattle.occ_check_lines.specs.declared.scope.Block.{Block}
+use Rattle.occ_check_lines.specs.declared.scope.Position.{Position}
+use Rattle.occ_check_lines.specs.declared.fault.CheckFault.{CheckFault}
+use Rattle.occ_check_lines.specs.declared.fault.CheckFault.TheVariants.{Unknown, Twice, WrongKind, WrongType, NotConstant, BadCount, Subscript, Protocol, Tag, Arguments, Overlap, ListTarget, NoMain, TooLarge, Memory}
+use Rattle.occ_check_lines.proofs.Refusals.{none_then, refused_with}
 
 module _ (items : List Item) where
   pub no_main : (e : CheckFault) → Refuses e (main_of items) → Refuses e (program_unfolded items)

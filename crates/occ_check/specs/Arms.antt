@@ -21,7 +21,7 @@ use Rattle.occ_check_meaning.specs.Actions as A
 use Rattle.occ_check_meaning.specs.Numbers as N
 use Rattle.occ_check_meaning.specs.Performing.{nested, Under, each_of_arms, variants_arm}
 use Rattle.occ_check_meaning.specs.Recursion.{unfolded, all_arms, arm_unfolded, all_variants}
-use Rattle.occ_check.specs.declared.fault.CheckFault.{CheckFault}
+use Rattle.occ_check_lines.specs.declared.fault.CheckFault.{CheckFault}
 use Rattle.occ_check.specs.declared.here.Here.{Here}
 use Rattle.occ_check.specs.declared.unfolder.Unfolder.{Unfolder}
 use Rattle.occ_check.specs.Weights.{node_size, nodes_size, arm_nodes, variant_nodes}

@@ -28,17 +28,17 @@ use Rattle.occ_check_meaning.specs.Types.{Open, takes_sizes}
 use Rattle.occ_check_meaning.specs.Calls as C
 use Rattle.occ_check_meaning.specs.Numbers as N
 use Rattle.occ_term.specs.Terms as T
-use Rattle.occ_check.specs.Reading.{all_of, read_in, trees_of}
-use Rattle.occ_check.specs.View.{Refuses, carried_of, evaluated_of, numbers_of, stretch_of, subscripts_of}
-use Rattle.occ_check.specs.declared.context.Context.{Context}
-use Rattle.occ_check.specs.declared.fault.CheckFault.{CheckFault}
-use Rattle.occ_check.specs.declared.known.Carried.{Carried}
-use Rattle.occ_check.specs.declared.known.Evaluated.{Evaluated}
-use Rattle.occ_check.specs.declared.known.Stretch.{Stretch}
-use Rattle.occ_check.specs.declared.numbers.Numbers.{Numbers}
-use Rattle.occ_check.specs.Declaration.{Opens}
-use Rattle.occ_check.specs.Typing.{open_sizes_in}
-use Rattle.occ_check.specs.declared.declaration.Opened.{Opened}
+use Rattle.occ_check_lines.specs.Reading.{all_of, read_in, trees_of}
+use Rattle.occ_check_lines.specs.View.{Refuses, carried_of, evaluated_of, numbers_of, stretch_of, subscripts_of}
+use Rattle.occ_check_lines.specs.declared.context.Context.{Context}
+use Rattle.occ_check_lines.specs.declared.fault.CheckFault.{CheckFault}
+use Rattle.occ_check_lines.specs.declared.known.Carried.{Carried}
+use Rattle.occ_check_lines.specs.declared.known.Evaluated.{Evaluated}
+use Rattle.occ_check_lines.specs.declared.known.Stretch.{Stretch}
+use Rattle.occ_check_lines.specs.declared.numbers.Numbers.{Numbers}
+use Rattle.occ_check_lines.specs.Declaration.{Opens}
+use Rattle.occ_check_lines.specs.Typing.{open_sizes_in}
+use Rattle.occ_check_lines.specs.declared.declaration.Opened.{Opened}
 use Rattle.occ_check.specs.declared.formals.Wanted.{Wanted}
 use Rattle.occ_check.specs.declared.formals.Wanted.TheVariants as wanteds
 use Rattle.occ_check.specs.declared.formals.WantedFormal.{WantedFormal}

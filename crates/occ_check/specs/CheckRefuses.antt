@@ -5,8 +5,8 @@ use Rattle.occ_tree_grammar.specs.Processes.Trees.{Item}
 use Rattle.occ_term.specs.Terms.{Term}
 use Rattle.occ_check_meaning.specs.Numbers.{Numbers}
 use Rattle.occ_check_meaning.specs.ProgramUnfolding.{ProgramUnfolding}
-use Rattle.occ_check.specs.declared.fault.CheckFault.{CheckFault}
-use Rattle.occ_check.specs.declared.fault.CheckFault.TheVariants.{Unknown, Twice, WrongKind, WrongType, NotConstant, BadCount, Subscript, Protocol, Tag, Arguments, Overlap, ListTarget, NoMain, TooLarge, Memory}
+use Rattle.occ_check_lines.specs.declared.fault.CheckFault.{CheckFault}
+use Rattle.occ_check_lines.specs.declared.fault.CheckFault.TheVariants.{Unknown, Twice, WrongKind, WrongType, NotConstant, BadCount, Subscript, Protocol, Tag, Arguments, Overlap, ListTarget, NoMain, TooLarge, Memory}
 
 abbrev pub HasNoUnfolding : List Item → Type 0
 HasNoUnfolding items = (t : Term) (m : Numbers) → ProgramUnfolding items t m → ⊥

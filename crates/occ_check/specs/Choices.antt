@@ -18,7 +18,7 @@ use Rattle.occ_check_meaning.specs.Actions as A
 use Rattle.occ_check_meaning.specs.Numbers as N
 use Rattle.occ_check_meaning.specs.Performing.{nested, Under, each_of_choices}
 use Rattle.occ_check_meaning.specs.Recursion.{unfolded, all_choices, choice_unfolded}
-use Rattle.occ_check.specs.declared.fault.CheckFault.{CheckFault}
+use Rattle.occ_check_lines.specs.declared.fault.CheckFault.{CheckFault}
 use Rattle.occ_check.specs.declared.here.Here.{Here}
 use Rattle.occ_check.specs.declared.unfolder.Unfolder.{Unfolder}
 use Rattle.occ_check.specs.Weights.{node_size, nodes_size, choice_nodes}

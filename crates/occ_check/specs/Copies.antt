@@ -18,10 +18,10 @@ use Rattle.occ_check_meaning.specs.Numbers.{Numbers, more_processes, room}
 use Rattle.occ_check_meaning.specs.Performing.{Calling, Under, Unfolds, copied, copies_beside}
 use Rattle.occ_check_meaning.specs.Recursion.{unfolded}
 use Rattle.occ_check_meaning.specs.Scope.{Names, Scope, within}
-use Rattle.occ_check.specs.Reading.{OfLine}
-use Rattle.occ_check.specs.View.{Unfolds as UnfoldsCode}
-use Rattle.occ_check.specs.declared.fault.CheckFault.{CheckFault}
-use Rattle.occ_check.specs.declared.scope.Position.{Position}
+use Rattle.occ_check_lines.specs.Reading.{OfLine}
+use Rattle.occ_check_lines.specs.View.{Unfolds as UnfoldsCode}
+use Rattle.occ_check_lines.specs.declared.fault.CheckFault.{CheckFault}
+use Rattle.occ_check_lines.specs.declared.scope.Position.{Position}
 use Rattle.occ_check.specs.declared.here.Here.{Here}
 use Rattle.occ_check.specs.declared.unfolder.Unfolder.{Unfolder}
 use Rattle.occ_check.specs.Progress.{body_weight, counted, meant_at}

@@ -13,16 +13,16 @@ use Rattle.occ_check_meaning.specs.Scope as S
 use Rattle.occ_check_meaning.specs.Unfolding as U
 use Rattle.occ_check_meaning.specs.Numbers.{Numbers}
 use Rattle.occ_check_meaning.specs.Unfolding.{Procedures, procedure}
-use Rattle.occ_check.specs.View.{Gives, names_in, numbers_of, scope_in, scope_of}
-use Rattle.occ_check.specs.declared.context.Context.{Context}
-use Rattle.occ_check.specs.declared.fault.CheckFault.{CheckFault}
-use Rattle.occ_check.specs.declared.numbers.Numbers.{Numbers as CodeNumbers}
-use Rattle.occ_check.specs.declared.scope.Block.{Block}
-use Rattle.occ_check.specs.declared.scope.Position.{Position}
-use Rattle.occ_check.specs.declared.scope.Procedure.{Procedure}
-use Rattle.occ_check.specs.declared.scope.Scope.{Scope}
-use Rattle.occ_check.specs.Declaration.{Opens}
-use Rattle.occ_check.specs.declared.declaration.Opened.{Opened}
+use Rattle.occ_check_lines.specs.View.{Gives, names_in, numbers_of, scope_in, scope_of}
+use Rattle.occ_check_lines.specs.declared.context.Context.{Context}
+use Rattle.occ_check_lines.specs.declared.fault.CheckFault.{CheckFault}
+use Rattle.occ_check_lines.specs.declared.numbers.Numbers.{Numbers as CodeNumbers}
+use Rattle.occ_check_lines.specs.declared.scope.Block.{Block}
+use Rattle.occ_check_lines.specs.declared.scope.Position.{Position}
+use Rattle.occ_check_lines.specs.declared.scope.Procedure.{Procedure}
+use Rattle.occ_check_lines.specs.declared.scope.Scope.{Scope}
+use Rattle.occ_check_lines.specs.Declaration.{Opens}
+use Rattle.occ_check_lines.specs.declared.declaration.Opened.{Opened}
 
 abbrev pub procedure_of : Procedure → U.Procedure
 procedure_of p = procedure p.line (lines.formals_of p.formals.now) (process_of p.body.now)

@@ -21,9 +21,9 @@ use Rattle.occ_check_meaning.specs.Items.{channel_of}
 use Rattle.occ_check_meaning.specs.Actions.{Listed, received, size_of_list, test_of, with_tags}
 use Rattle.occ_check_meaning.specs.Numbers.{Numbers, room}
 use Rattle.occ_check_meaning.specs.Scope.{Names}
-use Rattle.occ_check.specs.Reading.{OfLine}
-use Rattle.occ_check.specs.Action.{listed_of}
-use Rattle.occ_check.specs.declared.action.Listed.{Listed as ListedCode}
+use Rattle.occ_check_lines.specs.Reading.{OfLine}
+use Rattle.occ_check_lines.specs.Action.{listed_of}
+use Rattle.occ_check_lines.specs.declared.action.Listed.{Listed as ListedCode}
 use Rattle.occ_check.specs.declared.guards.ArmGuard.TheVariants as guards
 use Rattle.occ_check.specs.declared.guards.ArmGuard.{ArmGuard}
 use Rattle.occ_check.specs.declared.guards.Guarded.{Guarded}

@@ -1,16 +1,3 @@
-pub mod View
-pub mod Reading
-pub mod Measuring
-pub mod Listing
-pub mod Declaration
-pub mod Typing
-pub mod Overlap
-pub mod Spans
-pub mod Positive
-pub mod Zipped
-pub mod Clash
-pub mod Tags
-pub mod Action
 pub mod Call
 pub mod OpenBlocks
 pub mod Weights

@@ -25,13 +25,13 @@ use Rattle.occ_check_meaning.specs.Expressions.{typed_as}
 use Rattle.occ_check_meaning.specs.Numbers.{Numbers, room}
 use Rattle.occ_check_meaning.specs.Performing.{acted}
 use Rattle.occ_check_meaning.specs.Scope.{Names}
-use Rattle.occ_check.specs.Reading.{OfLine, ReadsIn, all_of}
-use Rattle.occ_check.specs.View.{Unfolds, numbers_of}
-use Rattle.occ_check.specs.declared.context.Context.{Context}
-use Rattle.occ_check.specs.declared.fault.CheckFault.{CheckFault}
-use Rattle.occ_check.specs.declared.numbers.Numbers.{Numbers as CodeNumbers}
-use Rattle.occ_check.specs.Action.{listed_of}
-use Rattle.occ_check.specs.declared.action.Listed.{Listed}
+use Rattle.occ_check_lines.specs.Reading.{OfLine, ReadsIn, all_of}
+use Rattle.occ_check_lines.specs.View.{Unfolds, numbers_of}
+use Rattle.occ_check_lines.specs.declared.context.Context.{Context}
+use Rattle.occ_check_lines.specs.declared.fault.CheckFault.{CheckFault}
+use Rattle.occ_check_lines.specs.declared.numbers.Numbers.{Numbers as CodeNumbers}
+use Rattle.occ_check_lines.specs.Action.{listed_of}
+use Rattle.occ_check_lines.specs.declared.action.Listed.{Listed}
 use Rattle.occ_check.specs.Progress.{Reads, counted}
 use Rattle.occ_check.specs.declared.here.Here.{Here}
 use Rattle.occ_check.specs.declared.unfolder.Unfolder.{Unfolder}

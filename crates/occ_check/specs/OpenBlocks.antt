@@ -2,8 +2,8 @@
 -- Manual: nothing; this is (own).
 use Rattle.std.specs.Prelude.{length, reverse, take, ℕ, ◌<◌, ◌≤◌, ◌≡◌}
 use Rattle.occ_check_meaning.specs.Unfolding.{Procedures}
-use Rattle.occ_check.specs.View.{innermost, scope_in}
-use Rattle.occ_check.specs.declared.scope.Position.{Position}
+use Rattle.occ_check_lines.specs.View.{innermost, scope_in}
+use Rattle.occ_check_lines.specs.declared.scope.Position.{Position}
 use Rattle.occ_check.specs.declared.blocks.Blocks.{Blocks}
 
 -- some block is open

@@ -23,9 +23,9 @@ use Rattle.occ_check_meaning.specs.Performing.{Under, copied, Calling, Unfolds}
 use Rattle.occ_check_meaning.specs.Recursion.{all_arms, all_beside, all_choices, all_in_turn, all_options, all_variants, unfolded}
 use Rattle.occ_check_meaning.specs.Declarations.{index_of}
 use Rattle.occ_check_meaning.specs.Scope.{Scope, within}
-use Rattle.occ_check.specs.View.{Refuses}
-use Rattle.occ_check.specs.declared.fault.CheckFault.{CheckFault}
-use Rattle.occ_check.specs.declared.scope.Position.{Position}
+use Rattle.occ_check_lines.specs.View.{Refuses}
+use Rattle.occ_check_lines.specs.declared.fault.CheckFault.{CheckFault}
+use Rattle.occ_check_lines.specs.declared.scope.Position.{Position}
 use Rattle.occ_check.specs.declared.here.Here.{Here}
 use Rattle.occ_check.specs.declared.opened.Around.TheVariants as arounds
 use Rattle.occ_check.specs.declared.opened.Left.TheVariants as lefts

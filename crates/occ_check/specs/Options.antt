@@ -24,13 +24,13 @@ use Rattle.occ_check_meaning.specs.Actions.{choosing, selector}
 use Rattle.occ_check_meaning.specs.Expressions.{constant_as}
 use Rattle.occ_check_meaning.specs.Numbers.{room}
 use Rattle.occ_check_meaning.specs.Scope.{Names, each_of}
-use Rattle.occ_check.specs.Reading.{OfLine, all_of, read_in}
-use Rattle.occ_check.specs.declared.context.Context.{Context}
-use Rattle.occ_check.specs.declared.numbers.Numbers.{Numbers}
-use Rattle.occ_check.specs.View.{numbers_of, Refuses}
-use Rattle.occ_check.specs.declared.fault.CheckFault.{CheckFault}
-use Rattle.occ_check.specs.Action.{chosen_of}
-use Rattle.occ_check.specs.declared.action.Chosen.{Chosen}
+use Rattle.occ_check_lines.specs.Reading.{OfLine, all_of, read_in}
+use Rattle.occ_check_lines.specs.declared.context.Context.{Context}
+use Rattle.occ_check_lines.specs.declared.numbers.Numbers.{Numbers}
+use Rattle.occ_check_lines.specs.View.{numbers_of, Refuses}
+use Rattle.occ_check_lines.specs.declared.fault.CheckFault.{CheckFault}
+use Rattle.occ_check_lines.specs.Action.{chosen_of}
+use Rattle.occ_check_lines.specs.declared.action.Chosen.{Chosen}
 use Rattle.occ_check.specs.declared.here.Here.{Here}
 use Rattle.occ_check.specs.declared.unfolder.Unfolder.{Unfolder}
 use Rattle.occ_check.specs.Weights.{decl_nodes}

@@ -18,12 +18,12 @@ use Rattle.occ_check_meaning.specs.Numbers.{Numbers}
 use Rattle.occ_check_meaning.specs.Programs.{items_declared}
 use Rattle.occ_check_meaning.specs.Scope.{Known, Pairs, stretch_from, some_channels, within}
 use Rattle.occ_check_meaning.specs.Types.{unnamed}
-use Rattle.occ_check.specs.View.{Unfolds, numbers_of}
-use Rattle.occ_check.specs.declared.fault.CheckFault.{CheckFault}
-use Rattle.occ_check.specs.declared.numbers.Numbers.{Numbers as NumbersCode}
-use Rattle.occ_check.specs.declared.scope.Position.{Position}
-use Rattle.occ_check.specs.Declaration.{pairs_of}
-use Rattle.occ_check.specs.declared.declaration.Named.{Named}
+use Rattle.occ_check_lines.specs.View.{Unfolds, numbers_of}
+use Rattle.occ_check_lines.specs.declared.fault.CheckFault.{CheckFault}
+use Rattle.occ_check_lines.specs.declared.numbers.Numbers.{Numbers as NumbersCode}
+use Rattle.occ_check_lines.specs.declared.scope.Position.{Position}
+use Rattle.occ_check_lines.specs.Declaration.{pairs_of}
+use Rattle.occ_check_lines.specs.declared.declaration.Named.{Named}
 use Rattle.occ_check.specs.Opened.{body_unfolded}
 use Rattle.occ_check.specs.Progress.{counted, meant_at}
 use Rattle.occ_check.specs.declared.unfolder.Unfolder.{Unfolder}

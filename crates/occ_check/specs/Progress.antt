@@ -22,11 +22,11 @@ use Rattle.occ_check_meaning.specs.Recursion.{unfolded}
 use Rattle.occ_check_meaning.specs.Unfolding.{Procedures}
 use Rattle.occ_check_meaning.specs.Meant.{meaning_of, meant}
 use Rattle.occ_check_meaning.specs.Actions.{headed, opening}
-use Rattle.occ_check.specs.Reading.{OfLine}
-use Rattle.occ_check.specs.View.{numbers_of, Refuses, Unfolds}
-use Rattle.occ_check.specs.declared.fault.CheckFault.{CheckFault}
-use Rattle.occ_check.specs.declared.scope.Position.{Position}
-use Rattle.occ_check.specs.declared.scope.Procedure.{Procedure}
+use Rattle.occ_check_lines.specs.Reading.{OfLine}
+use Rattle.occ_check_lines.specs.View.{numbers_of, Refuses, Unfolds}
+use Rattle.occ_check_lines.specs.declared.fault.CheckFault.{CheckFault}
+use Rattle.occ_check_lines.specs.declared.scope.Position.{Position}
+use Rattle.occ_check_lines.specs.declared.scope.Procedure.{Procedure}
 use Rattle.occ_check.specs.Entering.{procedure_of}
 use Rattle.occ_check.specs.declared.here.Here.{Here}
 use Rattle.occ_check.specs.declared.unfolder.Call.{Call}

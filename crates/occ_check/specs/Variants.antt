@@ -30,10 +30,10 @@ use Rattle.occ_check_meaning.specs.Numbers.{Numbers, room}
 use Rattle.occ_check_meaning.specs.Scope.{Names}
 use Rattle.occ_check_meaning.specs.Performing.{Under}
 use Rattle.occ_check_meaning.specs.Recursion.{all_declared, unfolded, variant_unfolded}
-use Rattle.occ_check.specs.Reading.{OfLine, ReadsIn}
-use Rattle.occ_check.specs.declared.context.Context.{Context}
-use Rattle.occ_check.specs.declared.fault.CheckFault.{CheckFault}
-use Rattle.occ_check.specs.declared.numbers.Numbers.{Numbers as CodeNumbers}
+use Rattle.occ_check_lines.specs.Reading.{OfLine, ReadsIn}
+use Rattle.occ_check_lines.specs.declared.context.Context.{Context}
+use Rattle.occ_check_lines.specs.declared.fault.CheckFault.{CheckFault}
+use Rattle.occ_check_lines.specs.declared.numbers.Numbers.{Numbers as CodeNumbers}
 use Rattle.occ_check.specs.declared.here.Here.{Here}
 use Rattle.occ_check.specs.declared.unfolder.Unfolder.{Unfolder}
 use Rattle.occ_check.specs.Weights.{decl_nodes}

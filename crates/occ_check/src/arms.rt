@@ -10,15 +10,15 @@ ghost use Rattle.occ_check.specs.Opened.{Begins, IsReady, LeavesWithin, Below, W
 ghost use Rattle.occ_check.specs.Arms.{arm_depth, arm_weight, arm_with, arms_behind, arms_within, variants_within, declarations_of_arm, listening, arm_size, OpensArm, alt_for, alt_of, an_arm, guard_behind, whole_arm, arms_headed};
 ghost use Rattle.occ_check.specs.Progress.{body_weight, nodes_weight, weight_at, KeepsOpen, single_weight};
 ghost use Rattle.occ_check.specs.Weights.{arm_nodes, decl_nodes};
-ghost use Rattle.occ_check.specs.View.{Makes};
+ghost use Rattle.occ_check_lines.specs.View.{Makes};
 
-use crate::fault::CheckFault;
 use crate::guards::{ArmGuard, depth_behind, guarding_at, guarding_variants_at};
 use crate::here::Here;
-use crate::numbers::deeper;
 use crate::opened::{Left, Opened, Over, only_arm};
 use crate::unfolder::Unfolder;
 use crate::variants::listed_variants;
+use occ_check_lines::fault::CheckFault;
+use occ_check_lines::numbers::deeper;
 use occ_held::parts::Listed;
 use occ_term::{
     Arm as TermArm, Declaration, Place, Protocol, Reception, Term, TermExpr, Variant as TermVariant,

@@ -1,12 +1,12 @@
 //! The blocks of the scopes that are open while a program is unfolded.
 
 ghost use Rattle.std.specs.Prelude.{◌≡◌, ◌+◌, ◌∷◌, [], IfErr, OnOk, length, take};
-ghost use Rattle.occ_check.specs.declared.fault.CheckFault.TheVariants.{Memory};
-ghost use Rattle.occ_check.specs.View.{binding_of};
+ghost use Rattle.occ_check_lines.specs.declared.fault.CheckFault.TheVariants.{Memory};
+ghost use Rattle.occ_check_lines.specs.View.{binding_of};
 ghost use Rattle.occ_check.specs.OpenBlocks.{Deepens, HasBlock, Keeps, KeepsOuter, seen_at, seen_inside};
 
-use crate::fault::CheckFault;
-use crate::scope::{Binding, Block, Position, Scope};
+use occ_check_lines::fault::CheckFault;
+use occ_check_lines::scope::{Binding, Block, Position, Scope};
 use occ_held::letters::Letters;
 use std::alloc::Global;
 

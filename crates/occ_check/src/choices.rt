@@ -10,13 +10,13 @@ ghost use Rattle.occ_check.specs.Opened.{Begins, IsReady, LeavesWithin, Below, W
 ghost use Rattle.occ_check.specs.Choices.{choice_depth, choice_weight, choice_with, choices_behind, choices_within, choosing, declarations_of_choice, choice_size, OpensChoice, a_choice, if_for, if_of, whole_choice, choices_headed};
 ghost use Rattle.occ_check.specs.Progress.{nodes_weight, weight_at, KeepsOpen, single_weight};
 ghost use Rattle.occ_check.specs.Weights.{choice_nodes, decl_nodes};
-ghost use Rattle.occ_check.specs.View.{Makes};
+ghost use Rattle.occ_check_lines.specs.View.{Makes};
 
-use crate::fault::CheckFault;
 use crate::here::Here;
-use crate::numbers::deeper;
 use crate::opened::{Left, Opened, Over, only_choice};
 use crate::unfolder::Unfolder;
+use occ_check_lines::fault::CheckFault;
+use occ_check_lines::numbers::deeper;
 use occ_held::parts::Listed;
 use occ_term::{Choice as TermChoice, Declaration, Term, TermExpr};
 use occ_tree_grammar::tree::line::Replicator;

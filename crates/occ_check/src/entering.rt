@@ -10,25 +10,27 @@ ghost use Rattle.occ_check_meaning.specs.Performing.{acted};
 ghost use Rattle.occ_check_meaning.specs.Scope.{within};
 ghost use Rattle.occ_check_meaning.specs.Recursion.{all_declared, declared, item_declared};
 ghost use Rattle.occ_check.specs.Entering.{Binds, FindsProcedure};
-ghost use Rattle.occ_check.specs.Declaration.{pairs_of};
+ghost use Rattle.occ_check_lines.specs.Declaration.{pairs_of};
 ghost use Rattle.occ_check.specs.Weights.{decl_nodes, decl_size, decls_size, item_size, weight};
-ghost use Rattle.occ_check.specs.View.{Unfolds, scope_of, itself};
+ghost use Rattle.occ_check_lines.specs.View.{Unfolds, scope_of, itself};
 ghost use Rattle.occ_check.specs.Progress.{Calls, Declares, body_weight, innermost_at, innermost_weight, weight_at, CallsAt, GrowsWithin, IndexesAt, KeepsOpen, OpensNothing, call_meant, opening_behind};
-ghost use Rattle.occ_check.specs.declared.fault.CheckFault.TheVariants.{Memory};
+ghost use Rattle.occ_check_lines.specs.declared.fault.CheckFault.TheVariants.{Memory};
 ghost use Rattle.occ_check.specs.OpenBlocks.{Deepens, HasBlock, Keeps, KeepsOuter, seen_at, seen_inside};
 ghost use Rattle.occ_check.specs.OneLine.{call_action};
 
 use crate::blocks::Blocks;
 use crate::call::bound;
-use crate::context::Context;
-use crate::declaration::{Named, Opened, names_declared, protocol_declared, value_declared};
-use crate::fault::{CheckFault, unknown};
 use crate::formals::formals_of;
 use crate::here::Here;
-use crate::numbers::Numbers;
-use crate::replicator::{Indexed, index_replicator};
-use crate::scope::{Binding, Found, Position, Procedure, Scope};
 use crate::unfolder::{Call, Unfolder};
+use occ_check_lines::context::Context;
+use occ_check_lines::declaration::{
+    Named, Opened, names_declared, protocol_declared, value_declared,
+};
+use occ_check_lines::fault::{CheckFault, unknown};
+use occ_check_lines::numbers::Numbers;
+use occ_check_lines::replicator::{Indexed, index_replicator};
+use occ_check_lines::scope::{Binding, Found, Position, Procedure, Scope};
 use occ_held::letters::Letters;
 use occ_held::parts::Listed;
 use occ_term::{Declaration, Replicator, Term};

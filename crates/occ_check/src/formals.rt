@@ -3,15 +3,15 @@
 ghost use Rattle.std.specs.Prelude.{◌≡◌, IfOk};
 ghost use Rattle.occ_tree_grammar.specs.Lines.Views as lines;
 ghost use Rattle.occ_check_meaning.specs.Calls as meant;
-ghost use Rattle.occ_check.specs.View.{Gives};
+ghost use Rattle.occ_check_lines.specs.View.{Gives};
 ghost use Rattle.occ_check.specs.Call.{all_formals, formal_of, formals_in, formals_of, listed_formals_in, named_formal, wanted_in, wanted_of, following_spec, other_formals_in, some_formals_in, wants_channels_in, wants_value_in, wants_variable_in};
 
-use crate::context::Context;
-use crate::declaration::once;
-use crate::fault::CheckFault;
-use crate::known::Carried;
-use crate::operators::primitive_of;
-use crate::types::{carried_by, open_sizes_of};
+use occ_check_lines::context::Context;
+use occ_check_lines::declaration::once;
+use occ_check_lines::fault::CheckFault;
+use occ_check_lines::known::Carried;
+use occ_check_lines::operators::primitive_of;
+use occ_check_lines::types::{carried_by, open_sizes_of};
 use occ_held::letters::Letters;
 use occ_term::Primitive;
 use occ_tree_grammar::tree::line::{Carried as CarriedTree, Formal, Formals, Size, Spec};

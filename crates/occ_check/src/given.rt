@@ -3,15 +3,15 @@
 ghost use Rattle.std.specs.Prelude.{ℕ, ◌≡◌, ◌∷◌, ◌++◌, [], IfOk};
 ghost use Rattle.occ_term.specs.ArraySizes.{AreFew};
 ghost use Rattle.occ_term.specs.View.{subscripts};
-ghost use Rattle.occ_check.specs.View.{Makes, numbers_of, stretch_of};
-ghost use Rattle.occ_check.specs.declared.numbers.Numbers.{Numbers};
+ghost use Rattle.occ_check_lines.specs.View.{Makes, numbers_of, stretch_of};
+ghost use Rattle.occ_check_lines.specs.declared.numbers.Numbers.{Numbers};
 ghost use Rattle.occ_check.specs.Call.{Evaluates, EvaluatesFrom, one_constant, cell_evaluated, each_evaluated, stretch_under, subscript_evaluated};
 
-use crate::constant::{constant_of, is_below};
-use crate::fault::CheckFault;
-use crate::known::{Evaluated, Stretch};
-use crate::measuring::count_declaration;
-use crate::numbers::Numbers;
+use occ_check_lines::constant::{constant_of, is_below};
+use occ_check_lines::fault::CheckFault;
+use occ_check_lines::known::{Evaluated, Stretch};
+use occ_check_lines::measuring::count_declaration;
+use occ_check_lines::numbers::Numbers;
 use occ_held::Held;
 use occ_held::letters::Letters;
 use occ_held::parts::Listed;

@@ -1,6 +1,6 @@
 //! Where something is unfolded.
 
-use crate::scope::Position;
+use occ_check_lines::scope::Position;
 
 /// Where something is unfolded.
 #[derive(Clone, Copy)]

@@ -10,49 +10,24 @@
 //! ```
 #![tactic(auto)]
 
-mod action;
 mod arms;
 mod blocks;
 mod call;
 mod choices;
-mod clash;
-mod constant;
-mod context;
 mod copies;
-mod declaration;
 mod entering;
-mod expression;
-pub mod fault;
 mod formals;
 mod given;
 mod guards;
 mod here;
-mod item;
-mod known;
-mod listing;
-mod literal;
-mod measuring;
-mod named;
-mod naming;
-pub mod numbers;
 mod one_line;
 mod opened;
 mod opening;
-mod operators;
 mod options;
-mod overlap;
 mod process;
 mod program;
-mod reading;
-mod replicator;
-mod scope;
-mod span;
-mod tags;
-mod target;
-mod typed;
-mod types;
 mod unfolder;
 mod variants;
 
-pub use fault::CheckFault;
+pub use occ_check_lines::fault::CheckFault;
 pub use program::unfold;

@@ -10,24 +10,24 @@ ghost use Rattle.occ_check_meaning.specs.Recursion.{all_declared};
 ghost use Rattle.occ_check_meaning.specs.Scope.{names_of};
 ghost use Rattle.occ_check_meaning.specs.Meant.{meant as with_meanings};
 ghost use Rattle.occ_check.specs.OneLine.{tested, assignment_of, output_of, Heads, HeadsTerm, PerformsAt, UnfoldsIn, a_condition, assignment, an_input, an_output, input_action, received_size};
-ghost use Rattle.occ_check.specs.View.{TakesRoom, names_in, scope_in};
-ghost use Rattle.occ_check.specs.Reading.{ReadsIn};
+ghost use Rattle.occ_check_lines.specs.View.{TakesRoom, names_in, scope_in};
+ghost use Rattle.occ_check_lines.specs.Reading.{ReadsIn};
 ghost use Rattle.occ_check.specs.Weights.{decl_nodes};
 ghost use Rattle.occ_check.specs.Progress.{counted, weight_at, DeclaresAt, KeepsOpen, OpensNothing, ReadsLine, decls_weight};
-ghost use Rattle.occ_check.specs.Measuring.{output_size};
+ghost use Rattle.occ_check_lines.specs.Measuring.{output_size};
 
-use crate::action::{Listed, as_input, assigned, output, received};
 use crate::blocks::Blocks;
-use crate::context::Context;
-use crate::expression::typed_as;
-use crate::fault::CheckFault;
 use crate::here::Here;
-use crate::measuring::{
+use crate::unfolder::Unfolder;
+use occ_check_lines::action::{Listed, as_input, assigned, output, received};
+use occ_check_lines::context::Context;
+use occ_check_lines::expression::typed_as;
+use occ_check_lines::fault::CheckFault;
+use occ_check_lines::measuring::{
     count_assignment, count_expression, count_input, count_output, count_tagged_input,
 };
-use crate::numbers::Numbers;
-use crate::scope::{Position, Scope};
-use crate::unfolder::Unfolder;
+use occ_check_lines::numbers::Numbers;
+use occ_check_lines::scope::{Position, Scope};
 use occ_held::Held;
 use occ_term::{Declaration, Item, Place, Primitive, Term, TermExpr};
 use occ_tree_grammar::tree::expr::Expr;

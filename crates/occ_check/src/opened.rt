@@ -4,13 +4,13 @@ ghost use Rattle.std.specs.Prelude.{◌≡◌, IfErr, IfOk, IsTrue};
 ghost use Rattle.occ_term.specs.Terms as terms;
 ghost use Rattle.occ_term.specs.Terms.{no_arms, no_choices};
 ghost use Rattle.occ_term.specs.View.{arm_of, arms_of, choice_of, choices_of, term_of};
-ghost use Rattle.occ_check.specs.declared.fault.CheckFault.TheVariants.{Memory};
+ghost use Rattle.occ_check_lines.specs.declared.fault.CheckFault.TheVariants.{Memory};
 ghost use Rattle.occ_check.specs.Opened.{IsReady, IsStepReady, around, each_arms, each_choices, left_weight, step_left, step_weight, left_headed};
 ghost use Rattle.occ_check.specs.declared.unfolder.Unfolder.{Unfolder};
 
 use crate::entering::headed;
-use crate::fault::CheckFault;
 use crate::here::Here;
+use occ_check_lines::fault::CheckFault;
 use occ_held::parts::{Listed, Nested};
 use occ_term::{
     Arm as TermArm, Choice as TermChoice, Declaration, Place, Primitive, Protocol, Replicator,

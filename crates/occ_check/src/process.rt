@@ -2,7 +2,7 @@
 
 ghost use Rattle.std.specs.Prelude.{◌≤◌, ◌+ℤ◌, ◌≤ℤ◌, pos, OnOk};
 ghost use Rattle.occ_term.specs.View.{arms_of, branches_of, choices_of, options_of, term_of, terms_of, variants_of};
-ghost use Rattle.occ_check.specs.View.{Unfolds};
+ghost use Rattle.occ_check_lines.specs.View.{Unfolds};
 ghost use Rattle.occ_check.specs.OpenBlocks.{Restores};
 ghost use Rattle.occ_check.specs.Opened.{IsReady, body_unfolded, statement_left, alt_arms, case_options, case_variants, if_choices, par_parts, seq_parts};
 ghost use Rattle.occ_check.specs.Progress.{Reads};
@@ -12,14 +12,14 @@ use crate::arms::{OpenedArm, arm_opened};
 use crate::choices::{OpenedChoice, choice_opened};
 use crate::copies::{OpenedCopy, copy_opened, next_value};
 use crate::entering::headed;
-use crate::fault::CheckFault;
 use crate::here::Here;
 use crate::opened::{Left, Opened, Step};
 use crate::opening::process_opened;
 use crate::options::{OpenedOption, none_chosen, option_opened};
-use crate::tags::Tags;
 use crate::unfolder::Unfolder;
 use crate::variants::{OpenedVariant, line_of, tag_of, variant_opened};
+use occ_check_lines::fault::CheckFault;
+use occ_check_lines::tags::Tags;
 use occ_held::Held;
 use occ_held::parts::Listed;
 use occ_term::{

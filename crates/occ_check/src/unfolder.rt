@@ -1,8 +1,8 @@
 //! What is kept while a program is unfolded.
 
 use crate::blocks::Blocks;
-use crate::numbers::Numbers;
-use crate::scope::Position;
+use occ_check_lines::numbers::Numbers;
+use occ_check_lines::scope::Position;
 use occ_term::Declaration;
 use occ_tree_grammar::tree::process::Process;
 use sqlite_items::Items;

@@ -1,12 +1,12 @@
 //! Numbers that are given out while a program is unfolded: a step on two equal states of them gives the same ones.
 ghost use Rattle.std.specs.Prelude.{◌≡◌, ◌≤◌, IfErr, IsErr};
 ghost use Rattle.occ_check_meaning.specs.Numbers.{most_depth};
-ghost use Rattle.occ_check.specs.View.{numbers_of};
-ghost use Rattle.occ_check.specs.declared.fault.CheckFault.TheVariants.{Memory};
+ghost use Rattle.occ_check_lines.specs.View.{numbers_of};
+ghost use Rattle.occ_check_lines.specs.declared.fault.CheckFault.TheVariants.{Memory};
 ghost use Rattle.occ_contracts.specs.Agreement.{Agree, BothGive};
 
-use occ_check::fault::CheckFault;
-use occ_check::numbers::{Numbers, deeper};
+use occ_check_lines::fault::CheckFault;
+use occ_check_lines::numbers::{Numbers, deeper};
 use occ_held::letters::Letters;
 use occ_term::{Primitive, Protocol};
 use std::alloc::Global;

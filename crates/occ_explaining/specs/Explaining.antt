@@ -14,7 +14,7 @@ use Rattle.occ_text.specs.Lines.{LinesOf}
 use Rattle.occ_text.specs.Words.{LogicalLine}
 use Rattle.occ_text.specs.declared.fault.TextFault.TheVariants as texts
 use Rattle.occ_tree_grammar.specs.declared.fault.ParseFault.TheVariants as parses
-use Rattle.occ_check.specs.declared.fault.CheckFault.TheVariants as checks
+use Rattle.occ_check_lines.specs.declared.fault.CheckFault.TheVariants as checks
 use Rattle.occ_usage.specs.declared.checked.UsageFault.TheVariants as usages
 use Rattle.occ_code.specs.declared.compiling.CodeFault.TheVariants as codings
 use Rattle.occ_explain.specs.declared.refusal.Refusal.{Refusal}

@@ -4,7 +4,7 @@ ghost use Rattle.occ_explaining.specs.Files.{files_of};
 ghost use Rattle.occ_explaining.specs.Explaining.{TellsFault, number_and_line, numbered_of, refusal_in};
 
 use crate::files::{Files, place_told};
-use occ_check::fault::CheckFault;
+use occ_check_lines::fault::CheckFault;
 use occ_code::CodeFault;
 use occ_explain::{Reader, Refusal, explain, explained};
 use occ_play::PlayFault;

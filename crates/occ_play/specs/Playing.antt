@@ -21,7 +21,7 @@ use Rattle.occ_term.specs.Runs.{shown, EndsBy}
 use Rattle.occ_machine.specs.Compiled.{Program, most_instructions}
 use Rattle.occ_code.specs.CodeOf.{IsCodeOf, IsQuantum}
 use Rattle.occ_check_meaning.specs.ProgramUnfolding.{UnfoldsTo}
-use Rattle.occ_check.specs.declared.fault.CheckFault.{CheckFault}
+use Rattle.occ_check_lines.specs.declared.fault.CheckFault.{CheckFault}
 use Rattle.occ_check.specs.CheckRefuses.{CheckRefuses}
 use Rattle.occ_code.specs.declared.compiling.CodeFault.{CodeFault}
 use Rattle.occ_code.specs.declared.compiling.CodeFault.TheVariants as code

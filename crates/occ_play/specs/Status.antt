@@ -4,7 +4,7 @@ use Rattle.std.specs.Prelude.{ℕ, Result, Ok, Err}
 use Rattle.occ_text.specs.declared.fault.TextFault.TheVariants as text
 use Rattle.occ_tree_grammar.specs.declared.fault.ParseFault.TheVariants as tree
 use Rattle.occ_usage.specs.declared.checked.UsageFault.TheVariants as usage
-use Rattle.occ_check.specs.declared.fault.CheckFault.TheVariants as check
+use Rattle.occ_check_lines.specs.declared.fault.CheckFault.TheVariants as check
 use Rattle.occ_code.specs.declared.compiling.CodeFault.TheVariants as code
 use Rattle.occ_run.specs.declared.fault.RunFault.TheVariants as run
 use Rattle.occ_term.specs.declared.ending.Ending.{Ending}

@@ -5,14 +5,14 @@ use Rattle.occ_tree_grammar.specs.Lines.Views as lines
 use Rattle.occ_tree_grammar.specs.Processes.Views.{process_of}
 use Rattle.occ_term.specs.Terms as T
 use Rattle.occ_term.specs.View.{declarations_of, expression_of, place_of, test_of as boolean_of}
-use Rattle.occ_check.specs.Action.{listed_of}
+use Rattle.occ_check_lines.specs.Action.{listed_of}
 use Rattle.occ_check_meaning.specs.Actions.{arms_behind, as_reception, depth_behind}
 use Rattle.occ_check_meaning.specs.Performing as performs
 use Rattle.occ_check_meaning.specs.Recursion.{unfolded}
 use Rattle.occ_check_meaning.specs.Scope.{names_of}
 use Rattle.occ_check_meaning.specs.Meant.{meant}
-use Rattle.occ_check.specs.View.{Refuses, scope_in}
-use Rattle.occ_check.proofs.Refusals.{refused_with}
+use Rattle.occ_check_lines.specs.View.{Refuses, scope_in}
+use Rattle.occ_check_lines.proofs.Refusals.{refused_with}
 use Rattle.occ_check.specs.Opened.{put}
 use Rattle.occ_check.specs.Guards.{guarding}
 use Rattle.occ_check.specs.OneLine.{tested}

@@ -1,5 +1,5 @@
 use Rattle.std.proofs.Common.{◌≡◌, ◌<◌, length, rules}
-use Rattle.occ_check.specs.View.{names_in}
+use Rattle.occ_check_lines.specs.View.{names_in}
 use Rattle.occ_check.proofs.Calls.{actual_next, actual_stops, as_many, no_first, nothing, too_few, too_many}
 use Rattle.occ_check.proofs.call.all_actuals.Goals as goal
 

@@ -1,4 +1,4 @@
-use Rattle.occ_check.specs.View.{names_in}
+use Rattle.occ_check_lines.specs.View.{names_in}
 use Rattle.occ_check.proofs.Calls.{Binds}
 use Rattle.occ_check.proofs.call.all_actuals.Given as goal
 

@@ -1,6 +1,6 @@
 use Rattle.std.proofs.Common.{map, rules}
 use Rattle.occ_tree_grammar.specs.Expressions.Trees as trees
-use Rattle.occ_check.specs.View.{names_in, numbers_of}
+use Rattle.occ_check_lines.specs.View.{names_in, numbers_of}
 use Rattle.occ_check.proofs.Calls.{all_given, first_stops, no_first, nothing, no_formal, others_stop}
 use Rattle.occ_check.proofs.call.some_actuals.Goals as goal
 

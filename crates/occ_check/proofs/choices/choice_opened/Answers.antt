@@ -3,8 +3,8 @@ use Rattle.occ_tree_grammar.specs.Processes.Trees.{decls}
 use Rattle.occ_tree_grammar.specs.Processes.Views.{choice_of, decl_of}
 use Rattle.occ_term.specs.View.{declarations_of}
 use Rattle.occ_check_meaning.specs.Recursion.{choice_unfolded}
-use Rattle.occ_check.specs.View.{Refuses}
-use Rattle.occ_check.proofs.Refusals.{refused_with}
+use Rattle.occ_check_lines.specs.View.{Refuses}
+use Rattle.occ_check_lines.proofs.Refusals.{refused_with}
 use Rattle.occ_check.specs.Opened.{Opens}
 use Rattle.occ_check.specs.Choices.{choice_left, choice_weight, declarations_of_choice, choice_size}
 use Rattle.occ_check.specs.Progress.{counted, meant_at, weight_at}

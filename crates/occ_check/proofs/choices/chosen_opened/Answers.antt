@@ -13,8 +13,8 @@ use Rattle.occ_check_meaning.specs.Performing.{each_of_choices, nested}
 use Rattle.occ_check_meaning.specs.Recursion.{all_choices, choice_unfolded, unfolded}
 use Rattle.occ_check_meaning.specs.Scope.{names_of}
 use Rattle.occ_check_meaning.specs.Meant.{meant}
-use Rattle.occ_check.specs.View.{Refuses, scope_in}
-use Rattle.occ_check.proofs.Refusals.{refused_with}
+use Rattle.occ_check_lines.specs.View.{Refuses, scope_in}
+use Rattle.occ_check_lines.proofs.Refusals.{refused_with}
 use Rattle.occ_check.specs.Opened.{put}
 use Rattle.occ_check.specs.OneLine.{tested}
 use Rattle.occ_check.specs.Progress.{counted, meant_at, weight_at}

@@ -7,7 +7,7 @@ use Rattle.occ_term.specs.Terms as T
 use Rattle.occ_term.specs.View.{replicator_of}
 use Rattle.occ_check_meaning.specs.Performing.{each_of_choices}
 use Rattle.occ_check_meaning.specs.Recursion.{all_choices, choice_unfolded}
-use Rattle.occ_check.specs.View.{numbers_of}
+use Rattle.occ_check_lines.specs.View.{numbers_of}
 use Rattle.occ_check.specs.Opened.{put}
 use Rattle.occ_check.specs.Progress.{counted, meant_at, weight_at}
 use Rattle.occ_check.specs.Weights.{node_size, nodes_size}

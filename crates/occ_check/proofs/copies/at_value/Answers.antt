@@ -5,7 +5,7 @@ use Rattle.occ_check_meaning.specs.Declarations.{index_of}
 use Rattle.occ_check_meaning.specs.Scope.{within}
 use Rattle.occ_check_meaning.specs.Meant.{meant}
 use Rattle.occ_check.specs.Progress.{scope_at}
-use Rattle.occ_check.specs.View.{scope_in}
+use Rattle.occ_check_lines.specs.View.{scope_in}
 use Rattle.occ_check.specs.Weights.{weight}
 use Rattle.occ_check.proofs.CopyLists.{copy_scope, index_meant, index_weight}
 use Rattle.occ_check.proofs.copies.at_value.Goals as goal

@@ -7,7 +7,7 @@ use Rattle.occ_check_meaning.specs.Performing as performs
 use Rattle.occ_check_meaning.specs.Performing.{copied}
 use Rattle.occ_check_meaning.specs.Recursion.{unfolded}
 use Rattle.occ_check_meaning.specs.Meant.{meant}
-use Rattle.occ_check.specs.View.{Refuses, scope_in}
+use Rattle.occ_check_lines.specs.View.{Refuses, scope_in}
 use Rattle.occ_check.specs.Opened.{copy_for, put}
 use Rattle.occ_check.specs.Progress.{counted, meant_at}
 use Rattle.occ_check.proofs.CopyLists.{copies_open, counting_refused}

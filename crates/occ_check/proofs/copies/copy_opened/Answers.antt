@@ -6,7 +6,7 @@ use Rattle.occ_term.specs.Terms as T
 use Rattle.occ_check_meaning.specs.Declarations.{index_of}
 use Rattle.occ_check_meaning.specs.Recursion.{unfolded}
 use Rattle.occ_check_meaning.specs.Scope.{within}
-use Rattle.occ_check.specs.View.{Refuses, numbers_of}
+use Rattle.occ_check_lines.specs.View.{Refuses, numbers_of}
 use Rattle.occ_check.specs.Opened.{copy_for, put}
 use Rattle.occ_check.specs.Copies.{numbered_copy}
 use Rattle.occ_check.specs.Progress.{counted, meant_at}

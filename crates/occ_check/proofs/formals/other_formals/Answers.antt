@@ -1,5 +1,5 @@
 use Rattle.std.proofs.Common.{rules}
-use Rattle.occ_check.specs.View.{names_in}
+use Rattle.occ_check_lines.specs.View.{names_in}
 use Rattle.occ_check.proofs.Calls.{formal_next, formal_stops, formals_end}
 use Rattle.occ_check.proofs.formals.other_formals.Goals as goal
 

@@ -1,4 +1,4 @@
-use Rattle.occ_check.specs.View.{names_in}
+use Rattle.occ_check_lines.specs.View.{names_in}
 use Rattle.occ_check.proofs.Calls.{Lists}
 use Rattle.occ_check.proofs.formals.other_formals.Given as goal
 

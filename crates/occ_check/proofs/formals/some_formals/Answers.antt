@@ -2,7 +2,7 @@ use Rattle.std.proofs.Common.{map, rules, ◌∙◌, ap}
 use Rattle.occ_tree_grammar.specs.Lines.Views as lines
 use Rattle.occ_check_meaning.specs.Calls.{formal_names}
 use Rattle.occ_check.specs.Call.{formals_of}
-use Rattle.occ_check.specs.View.{names_in}
+use Rattle.occ_check_lines.specs.View.{names_in}
 use Rattle.occ_check.proofs.Calls.{list_stops, twice_stops}
 use Rattle.occ_check.proofs.formals.some_formals.Goals as goal
 

@@ -2,7 +2,7 @@ use Rattle.std.proofs.Common.{◌∙◌, sym, subst, Option, ℤ, rules, w64}
 use Rattle.std.proofs.lemmas.Int.{to_z-of_z}
 use Rattle.occ_term.specs.View.{expression_of}
 use Rattle.occ_check_meaning.specs.Calls as meant
-use Rattle.occ_check.specs.View.{numbers_of}
+use Rattle.occ_check_lines.specs.View.{numbers_of}
 use Rattle.occ_check.specs.Call.{Evaluates, one_constant}
 use Rattle.occ_check.proofs.given.one_evaluated.Goals as goal
 

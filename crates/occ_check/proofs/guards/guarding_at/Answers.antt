@@ -2,9 +2,9 @@ use Rattle.std.proofs.Common.{option_map, subst}
 use Rattle.occ_tree_grammar.specs.Expressions.Trees.{expression_of as tree_of}
 use Rattle.occ_tree_grammar.specs.Lines.Views.{input_of}
 use Rattle.occ_term.specs.View.{place_of, test_of as boolean_of}
-use Rattle.occ_check.specs.Action.{listed_of}
+use Rattle.occ_check_lines.specs.Action.{listed_of}
 use Rattle.occ_check.specs.Guards.{guarding}
-use Rattle.occ_check.specs.View.{Unfolds, numbers_of}
+use Rattle.occ_check_lines.specs.View.{Unfolds, numbers_of}
 use Rattle.occ_check.proofs.guards.guarding_at.Goals as goal
 
 pub returns-clause-guard : goal.returns-clause-guard

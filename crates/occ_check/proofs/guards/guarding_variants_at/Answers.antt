@@ -3,7 +3,7 @@ use Rattle.occ_tree_grammar.specs.Expressions.Trees.{expression_of as tree_of}
 use Rattle.occ_tree_grammar.specs.Lines.Views.{var_of}
 use Rattle.occ_term.specs.View.{place_of, test_of as boolean_of}
 use Rattle.occ_check.specs.Guards.{guarding_variants}
-use Rattle.occ_check.specs.View.{Unfolds, numbers_of}
+use Rattle.occ_check_lines.specs.View.{Unfolds, numbers_of}
 use Rattle.occ_check.proofs.guards.guarding_variants_at.Goals as goal
 
 pub returns-clause-guard : goal.returns-clause-guard

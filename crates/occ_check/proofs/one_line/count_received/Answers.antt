@@ -3,8 +3,8 @@ use Rattle.occ_term.specs.Sizes.{size_of}
 use Rattle.occ_term.specs.View.{place_of, targets_of}
 use Rattle.occ_check_meaning.specs.Actions.{as_input, tagged_list}
 use Rattle.occ_check_meaning.specs.Numbers.{room}
-use Rattle.occ_check.specs.Action.{listed_of}
-use Rattle.occ_check.specs.View.{Counts, numbers_of}
+use Rattle.occ_check_lines.specs.Action.{listed_of}
+use Rattle.occ_check_lines.specs.View.{Counts, numbers_of}
 use Rattle.occ_check.proofs.one_line.count_received.Goals as goal
 
 pub returns-in-Tagged : goal.returns-in-Tagged

@@ -4,8 +4,8 @@ use Rattle.occ_tree_grammar.specs.Processes.Views.{decl_of, process_of}
 use Rattle.occ_term.specs.View.{declarations_of}
 use Rattle.occ_check_meaning.specs.Actions.{headed, opening}
 use Rattle.occ_check_meaning.specs.Recursion.{unfolded}
-use Rattle.occ_check.specs.View.{Refuses, innermost, scope_in}
-use Rattle.occ_check.proofs.Refusals.{refused_with}
+use Rattle.occ_check_lines.specs.View.{Refuses, innermost, scope_in}
+use Rattle.occ_check_lines.proofs.Refusals.{refused_with}
 use Rattle.occ_check.specs.Opened.{left_weight, put, step_weight}
 use Rattle.occ_check.specs.Progress.{counted, innermost_at, meant_at, scope_at, weight_at}
 use Rattle.occ_check.specs.Opening.{statement_size}

@@ -1,6 +1,6 @@
 use Rattle.std.proofs.Common.{◌∙◌, ℤ, Some, ap, arith}
 use Rattle.std.proofs.lemmas.Int.{ints, to_z-of_z}
-use Rattle.occ_check.proofs.EachOf.{so_far_first, so_far_next, so_far_nothing, so_far_same}
+use Rattle.occ_check_lines.proofs.EachOf.{so_far_first, so_far_next, so_far_nothing, so_far_same}
 use Rattle.occ_check.proofs.options.each_constant.Goals as goal
 
 pub loop-value-init : goal.loop-value-init

@@ -4,7 +4,7 @@ use Rattle.occ_tree_grammar.specs.Processes.Trees.{decls}
 use Rattle.occ_tree_grammar.specs.Processes.Views.{decl_of, process_of, selection_of}
 use Rattle.occ_tree_grammar.specs.declared.tree.expr.Expr.{Expr}
 use Rattle.occ_tree_grammar.specs.declared.tree.line.OneOrMore.{OneOrMore}
-use Rattle.occ_check.specs.Action.{chosen_of}
+use Rattle.occ_check_lines.specs.Action.{chosen_of}
 use Rattle.occ_check_meaning.specs.Performing as performs
 use Rattle.occ_check_meaning.specs.Recursion.{all_declared, unfolded}
 use Rattle.occ_check.specs.Opened.{Opens}

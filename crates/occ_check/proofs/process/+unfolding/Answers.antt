@@ -6,9 +6,9 @@ use Rattle.occ_tree_grammar.specs.Processes.Views.{arm_of, choice_of, process_of
 use Rattle.occ_term.specs.View.{arms_of, branch_of, branches_of, choices_of, declarations_of, option_of, options_of, term_of, variant_of as term_variant_of, variants_of}
 use Rattle.occ_check_meaning.specs.Actions.{headed, new_tag, none_chosen}
 use Rattle.occ_tree_grammar.specs.Lines.Views as lines
-use Rattle.occ_check.specs.Tags.{listed_in}
+use Rattle.occ_check_lines.specs.Tags.{listed_in}
 use Rattle.occ_check.proofs.VariantLists.{no_more_variants, no_tag, tags_kept, variant_done, variant_refused, variants_grown, variants_none, variants_step}
-use Rattle.occ_check.specs.Action.{chosen_of}
+use Rattle.occ_check_lines.specs.Action.{chosen_of}
 use Rattle.occ_check.proofs.Gathering.{gathered_first, gathered_last, gathered_next, gathered_refused, part_within}
 use Rattle.occ_check.proofs.ChoiceLists.{choice_in, choices_grown, choices_none, choices_step, no_more_choices}
 use Rattle.occ_check.proofs.ArmLists.{arm_in, arms_grown, arms_none, arms_step, no_more_arms}
@@ -24,10 +24,10 @@ use Rattle.occ_check.proofs.Beside.{all_branches, branch_none, branch_one, branc
 use Rattle.occ_check.proofs.InTurn.{all_terms, in_turn, in_turn_none, in_turn_one, in_turn_step, item_within, put_term}
 use Rattle.occ_check_meaning.specs.Recursion.{all_arms, all_beside, all_choices, all_in_turn, all_options, all_variants, option_unfolded, unfolded, variant_unfolded}
 use Rattle.occ_check_meaning.specs.Meant.{meant}
-use Rattle.occ_check.specs.View.{Refuses, numbers_of, scope_in}
+use Rattle.occ_check_lines.specs.View.{Refuses, numbers_of, scope_in}
 use Rattle.occ_check.specs.Progress.{counted, meant_at, weight_at}
 use Rattle.occ_check.specs.Weights.{node_size, nodes_size, weight}
-use Rattle.occ_check.proofs.Refusals.{refused_with}
+use Rattle.occ_check_lines.proofs.Refusals.{refused_with}
 use Rattle.occ_check_meaning.specs.Performing.{copied}
 use Rattle.occ_check.specs.Opened.{copy_for, IsStepReady, left_weight, put, statement_left, step_left, step_weight}
 use Rattle.occ_check.specs.Copies.{numbered_copy, copy_left}

@@ -3,7 +3,7 @@ use Rattle.occ_tree_grammar.specs.Processes.Trees.{nodes}
 use Rattle.occ_tree_grammar.specs.Processes.Views.{arm_of, choice_of, process_of, selection_of, variant_of}
 use Rattle.occ_term.specs.View.{arms_of, choices_of, options_of, term_of, variants_of, branch_of}
 use Rattle.occ_check_meaning.specs.Actions.{none_chosen}
-use Rattle.occ_check.specs.Action.{chosen_of}
+use Rattle.occ_check_lines.specs.Action.{chosen_of}
 use Rattle.occ_check_meaning.specs.Recursion.{unfolded}
 use Rattle.occ_check.specs.Opened.{left_weight, copy_for}
 use Rattle.occ_check.specs.Weights.{node_size, nodes_size}
@@ -13,7 +13,7 @@ use Rattle.occ_check.proofs.Gathering.{Gathered}
 use Rattle.occ_check.proofs.ChoiceLists.{choices_in, put_choices}
 use Rattle.occ_check.proofs.ArmLists.{arms_in, put_arms}
 use Rattle.occ_check.proofs.OptionLists.{options_in, put_options}
-use Rattle.occ_check.specs.Tags.{AreTagsOf, listed_in}
+use Rattle.occ_check_lines.specs.Tags.{AreTagsOf, listed_in}
 use Rattle.occ_check.proofs.VariantLists.{put_variants, variants_in}
 use Rattle.occ_check.proofs.Beside.{branches_in, branch_one, branch_step, put_branch}
 use Rattle.occ_check.proofs.InTurn.{in_turn, in_turn_one, in_turn_step, put_term}

@@ -1,6 +1,6 @@
 use Rattle.std.proofs.Common.{◌≡◌, ◌++◌, drop}
 use Rattle.occ_check_meaning.specs.Programs as programs
-use Rattle.occ_check.specs.Declaration.{pairs_of}
+use Rattle.occ_check_lines.specs.Declaration.{pairs_of}
 use Rattle.occ_check.proofs.program.channels_from.Given as goal
 
 abbrev pub invariant-loop-name : goal.invariant-loop-name

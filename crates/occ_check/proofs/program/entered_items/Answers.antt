@@ -1,7 +1,7 @@
 use Rattle.std.proofs.Common.{map}
 use Rattle.occ_tree_grammar.specs.Processes.Views.{item_of}
 use Rattle.occ_term.specs.View.{declarations_of}
-use Rattle.occ_check.specs.Declaration.{pairs_of}
+use Rattle.occ_check_lines.specs.Declaration.{pairs_of}
 use Rattle.occ_check.specs.Progress.{counted, innermost_at, meant_innermost}
 use Rattle.occ_check.proofs.WholePrograms.{names_inside}
 use Rattle.occ_check.proofs.program.entered_items.Goals as goal

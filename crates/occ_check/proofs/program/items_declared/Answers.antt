@@ -2,7 +2,7 @@ use Rattle.std.proofs.Common.{arith, map, rules}
 use Rattle.occ_tree_grammar.specs.Processes.Views.{item_of}
 use Rattle.occ_check_meaning.specs.Programs as programs
 use Rattle.occ_check.specs.Progress.{counted, meant_innermost}
-use Rattle.occ_check.specs.View.{Refuses}
+use Rattle.occ_check_lines.specs.View.{Refuses}
 use Rattle.occ_check.proofs.Items.{going_first, going_last, going_next, going_stops}
 use Rattle.occ_check.proofs.program.items_declared.Goals as goal
 

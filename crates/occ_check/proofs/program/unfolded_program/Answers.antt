@@ -2,9 +2,9 @@ use Rattle.std.proofs.Common.{◌≡◌, Some, rules}
 use Rattle.occ_tree_grammar.specs.Processes.Views.{program_of}
 use Rattle.occ_term.specs.View.{term_of}
 use Rattle.occ_check_meaning.specs.Programs as programs
-use Rattle.occ_check.specs.Declaration.{pairs_of}
+use Rattle.occ_check_lines.specs.Declaration.{pairs_of}
 use Rattle.occ_check.specs.Program.{main_in}
-use Rattle.occ_check.specs.View.{Refuses, numbers_of}
+use Rattle.occ_check_lines.specs.View.{Refuses, numbers_of}
 use Rattle.occ_check.proofs.WholePrograms.{at_nowhere, body_done, body_refused}
 use Rattle.occ_check.proofs.program.unfolded_program.Goals as goal
 

@@ -2,7 +2,7 @@ use Rattle.std.proofs.Common.{subst}
 use Rattle.occ_tree_grammar.specs.Lines.Views.{var_of}
 use Rattle.occ_term.specs.View.{place_of}
 use Rattle.occ_check.specs.Variants.{variants_taken}
-use Rattle.occ_check.specs.View.{Unfolds, numbers_of}
+use Rattle.occ_check_lines.specs.View.{Unfolds, numbers_of}
 use Rattle.occ_check.proofs.variants.variants_taken_at.Goals as goal
 
 pub returns-clause-taken : goal.returns-clause-taken

@@ -1,8 +1,8 @@
 use Rattle.std.proofs.Common.{rules, ◌≡◌, ◌+◌, ◌++◌, ◌∷◌, ◌∙◌, [], ap, sym, length, reverse, List}
 use Rattle.occ_check_meaning.specs.Unfolding.{Procedures}
-use Rattle.occ_check.specs.View.{binding_of, innermost, pairs_before}
-use Rattle.occ_check.specs.declared.scope.Block.{Block}
-use Rattle.occ_check.proofs.Scopes.{declared_outside, declared_within}
+use Rattle.occ_check_lines.specs.View.{binding_of, innermost, pairs_before}
+use Rattle.occ_check_lines.specs.declared.scope.Block.{Block}
+use Rattle.occ_check_lines.proofs.Scopes.{declared_outside, declared_within}
 use Rattle.occ_check.proofs.blocks.Blocks.declare.Goals as goal
 
 pub returns-then-has-clause-scope : goal.returns-then-has-clause-scope

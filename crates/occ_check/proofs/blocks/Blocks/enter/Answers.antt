@@ -1,6 +1,6 @@
 use Rattle.std.proofs.Common.{rules, ◌≡◌, ◌∙◌, ◌∷◌, [], reverse, arith}
 use Rattle.occ_check_meaning.specs.Scope.{known}
-use Rattle.occ_check.specs.View.{innermost, known_of}
+use Rattle.occ_check_lines.specs.View.{innermost, known_of}
 use Rattle.occ_check.proofs.EnteringScopes.{next_name, no_name}
 use Rattle.occ_check.proofs.blocks.Blocks.enter.Goals as goal
 

@@ -1,7 +1,7 @@
 use Rattle.std.proofs.Common.{ℕ, ◌≡◌, ◌<◌, ◌≤◌, length, reverse, take}
 use Rattle.occ_check_meaning.specs.Scope.{within}
-use Rattle.occ_check.specs.Declaration.{pairs_of}
-use Rattle.occ_check.specs.View.{innermost}
+use Rattle.occ_check_lines.specs.Declaration.{pairs_of}
+use Rattle.occ_check_lines.specs.View.{innermost}
 use Rattle.occ_check.proofs.blocks.Blocks.enter.Given as goal
 
 abbrev pub invariant-names : goal.invariant-names

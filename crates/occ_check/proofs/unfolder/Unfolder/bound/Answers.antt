@@ -5,8 +5,8 @@ use Rattle.occ_tree_grammar.specs.Processes.Views.{process_of}
 use Rattle.occ_check_meaning.specs.Performing.{acted}
 use Rattle.occ_check.specs.Entering.{procedure_found, procedure_of}
 use Rattle.occ_check.specs.Progress.{Calls, counted, meant_at, scope_at, weight_at}
-use Rattle.occ_check.specs.View.{Refuses}
-use Rattle.occ_check.proofs.Refusals.{refused_with}
+use Rattle.occ_check_lines.specs.View.{Refuses}
+use Rattle.occ_check_lines.proofs.Refusals.{refused_with}
 use Rattle.occ_check.proofs.EnteringScopes.{a_procedure, called_falls, called_lighter, found_here, no_procedure, scope_is}
 use Rattle.occ_check.proofs.unfolder.Unfolder.bound.Goals as goal
 

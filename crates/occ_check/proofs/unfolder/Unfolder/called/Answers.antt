@@ -5,11 +5,11 @@ use Rattle.occ_term.specs.View.{declarations_of}
 use Rattle.occ_check_meaning.specs.Scope.{names_of}
 use Rattle.occ_check_meaning.specs.Meant.{meaning_of}
 use Rattle.occ_check.specs.Entering.{procedure_of}
-use Rattle.occ_check.specs.Declaration.{pairs_of}
+use Rattle.occ_check_lines.specs.Declaration.{pairs_of}
 use Rattle.occ_check.specs.Progress.{counted, meant_at, scope_at}
-use Rattle.occ_check.specs.View.{Refuses, names_in, numbers_of, scope_in}
+use Rattle.occ_check_lines.specs.View.{Refuses, names_in, numbers_of, scope_in}
 use Rattle.occ_check.specs.Weights.{weight}
-use Rattle.occ_check.proofs.Refusals.{refused_with}
+use Rattle.occ_check_lines.proofs.Refusals.{refused_with}
 use Rattle.occ_check.proofs.EnteringScopes.{call_bound, call_refused, names_are, scope_is}
 use Rattle.occ_check.proofs.Weights.{same_weight}
 use Rattle.occ_check.proofs.unfolder.Unfolder.called.Goals as goal

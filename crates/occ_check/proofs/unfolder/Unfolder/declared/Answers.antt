@@ -5,9 +5,9 @@ use Rattle.occ_tree_grammar.specs.Processes.Views.{decl_of}
 use Rattle.occ_term.specs.View.{declaration_of, declarations_of}
 use Rattle.occ_check_meaning.specs.Recursion.{all_declared}
 use Rattle.occ_check.specs.Progress.{counted, innermost_at, meant_innermost}
-use Rattle.occ_check.specs.View.{Refuses}
+use Rattle.occ_check_lines.specs.View.{Refuses}
 use Rattle.occ_check.specs.Weights.{decls_size, weight}
-use Rattle.occ_check.proofs.Refusals.{refused_with}
+use Rattle.occ_check_lines.proofs.Refusals.{refused_with}
 use Rattle.occ_check.proofs.EnteringScopes.{declares_first, declares_last, declares_next, declares_refused, one_lighter}
 use Rattle.occ_check.proofs.unfolder.Unfolder.declared.Goals as goal
 

@@ -4,9 +4,9 @@ use Rattle.occ_check_meaning.specs.Declarations.{indexed}
 use Rattle.occ_check_meaning.specs.Scope.{names_of, within}
 use Rattle.occ_check_meaning.specs.Meant.{meant}
 use Rattle.occ_check_meaning.proofs.Names.{meant_within, same_names}
-use Rattle.occ_check.specs.Declaration.{indexed_of, pairs_of}
+use Rattle.occ_check_lines.specs.Declaration.{indexed_of, pairs_of}
 use Rattle.occ_check.specs.Progress.{counted, meant_at, scope_at}
-use Rattle.occ_check.specs.View.{Refuses, names_in}
+use Rattle.occ_check_lines.specs.View.{Refuses, names_in}
 use Rattle.occ_check.specs.Weights.{weight}
 use Rattle.occ_check.proofs.EnteringScopes.{index_within, names_are, scope_is}
 use Rattle.occ_check.proofs.Weights.{same_weight}

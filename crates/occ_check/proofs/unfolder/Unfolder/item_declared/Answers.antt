@@ -8,8 +8,8 @@ use Rattle.occ_check_meaning.specs.Performing.{entered}
 use Rattle.occ_check_meaning.specs.Recursion.{item_declared}
 use Rattle.occ_check_meaning.specs.Meant as scopes
 use Rattle.occ_check.specs.Progress.{Enters, counted, innermost_at, meant_innermost}
-use Rattle.occ_check.specs.View.{Refuses, innermost, names_in}
-use Rattle.occ_check.proofs.Refusals.{refused_with}
+use Rattle.occ_check_lines.specs.View.{Refuses, innermost, names_in}
+use Rattle.occ_check_lines.proofs.Refusals.{refused_with}
 use Rattle.occ_check.proofs.EnteringScopes.{enters_names, names_are, names_refused, proc_form, proc_within, protocol_form, value_form}
 use Rattle.occ_check.proofs.unfolder.Unfolder.item_declared.Goals as goal
 

@@ -5,9 +5,9 @@ use Rattle.occ_tree_grammar.specs.Processes.Views.{decl_of, item_of}
 use Rattle.occ_check_meaning.specs.Declarations as meant
 use Rattle.occ_check_meaning.specs.Recursion.{declared}
 use Rattle.occ_check.specs.Progress.{Enters, counted, innermost_at, meant_innermost}
-use Rattle.occ_check.specs.View.{Refuses, names_in}
+use Rattle.occ_check_lines.specs.View.{Refuses, names_in}
 use Rattle.occ_check.specs.Weights.{decl_size, item_size, weight}
-use Rattle.occ_check.proofs.Refusals.{refused_with}
+use Rattle.occ_check_lines.proofs.Refusals.{refused_with}
 use Rattle.occ_check.proofs.EnteringScopes.{enters_names, heavier, item_form, item_within, names_are, names_form, names_refused}
 use Rattle.occ_check.proofs.unfolder.Unfolder.one_declared.Goals as goal
 

@@ -1,5 +1,5 @@
 use Rattle.std.proofs.Common.{◌∙◌, ap}
-use Rattle.occ_check.specs.Declaration.{pairs_of}
+use Rattle.occ_check_lines.specs.Declaration.{pairs_of}
 use Rattle.occ_check.specs.Progress.{innermost_at}
 use Rattle.occ_check.specs.Weights.{weight}
 use Rattle.occ_check.proofs.Weights.{same_weight}

@@ -2,7 +2,7 @@ use Rattle.std.proofs.Common.{map, subst}
 use Rattle.occ_tree_grammar.specs.Lines.Views.{out_of, var_of}
 use Rattle.occ_term.specs.View.{term_of}
 use Rattle.occ_check.specs.OneLine.{outputting}
-use Rattle.occ_check.specs.View.{Unfolds, numbers_of}
+use Rattle.occ_check_lines.specs.View.{Unfolds, numbers_of}
 use Rattle.occ_check.proofs.unfolder.Unfolder.output.Goals as goal
 
 pub returns-clause-term : goal.returns-clause-term

@@ -1,6 +1,0 @@
-use Rattle.occ_check.specs.Action.{chosen_of}
-use Rattle.occ_check.proofs.CaseConstants.{Going}
-use Rattle.occ_check.proofs.action.choosing.Given as goal
-
-abbrev pub invariant-loop-constant : goal.invariant-loop-constant
-invariant-loop-constant l = Going l.constants l.constant-index (chosen_of l.initial.chosen) (chosen_of l.chosen)

@@ -1,8 +1,0 @@
-use Rattle.occ_tree_grammar.specs.Expressions.Trees.{expression_of}
-use Rattle.occ_check.specs.View.{names_in}
-use Rattle.occ_check.proofs.EachOf.{SoFar}
-use Rattle.occ_check.proofs.SizeLists.{one_size}
-use Rattle.occ_check.proofs.types.each_size.Given as goal
-
-abbrev pub invariant-loop-size : goal.invariant-loop-size
-invariant-loop-size l = SoFar (one_size (names_in l.context.scope) l.context.line) expression_of (λ z. z) l.sizes l.size-index l.made

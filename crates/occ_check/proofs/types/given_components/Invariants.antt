@@ -1,5 +1,0 @@
-use Rattle.occ_check.proofs.SizeLists.{Counted}
-use Rattle.occ_check.proofs.types.given_components.Given as goal
-
-abbrev pub invariant-loop-size : goal.invariant-loop-size
-invariant-loop-size l = Counted l.sizes l.size-index l.count

@@ -1,0 +1,14 @@
+use Rattle.occ_check_lines.proofs.EachOf.{so_far_first, so_far_next, so_far_nothing, so_far_same}
+use Rattle.occ_check_lines.proofs.types.each_open_size.Goals as goal
+
+pub loop-size-init : goal.loop-size-init
+loop-size-init c = so_far_first _ _ _ _ _ c.new-made.ensures
+
+pub loop-size-preserved : goal.loop-size-preserved
+loop-size-preserved c = so_far_next _ _ _ _ _ _ _ c.loop-size-test.true c.size-item.is c.loop-size.invariant _ _ c.in_ok-push.ensures.ok c.in-Ok.ensures
+
+pub returns-in-Err : goal.returns-in-Err
+returns-in-Err c = so_far_nothing _ _ _ _ _ _ _ c.loop-size-test.true c.size-item.is c.loop-size.invariant _ c.in-Err.ensures
+
+pub returns : goal.returns
+returns c = so_far_same _ _ _ _ _ c.loop-size-test.false c.loop-size.invariant
