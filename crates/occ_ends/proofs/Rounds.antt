@@ -10,8 +10,7 @@ use Rattle.std.proofs.lemmas.Bool.{eqb-true}
 use Rattle.occ_net_replay.proofs.Tables.{or_else}
 use Rattle.occ_net_tables.proofs.Keys.{first_held, later_held}
 use Rattle.occ_explore_laws.specs.declared.graph.Edge.{Edge}
-use Rattle.occ_explore_laws.specs.declared.graph.Fan.{Fan}
-use Rattle.occ_explore_laws.specs.Walks.{HasWalk, IsEdge, IsGraph, IsLongest, IsRound, IsWalk, led_to}
+use Rattle.occ_explore_laws.specs.Walks.{Fan, HasWalk, IsEdge, IsGraph, IsLongest, IsRound, IsWalk, led_to}
 use Rattle.occ_explore_laws.proofs.Lists.{get_inside, get_some, get_there, one_some, push_cases, push_keeps, push_last, same_or_other}
 use Rattle.occ_ends.specs.Ends.{AreWaits, LeadWithin, Circles, IsCircle, IsFanOf, IsRing, IsRoot, edge_to, edges_to}
 
@@ -83,7 +82,7 @@ module _ {others : ℕ → List ℕ} {below : ℕ} {fans : List Fan} (w : AreWai
       let near : n < below = omega (arith, inside, w.many) in
       let f = w.each n near in
       let same : f.fan ≡ is.fan = one_some (sym f.there ∙ ap (slice_get fans) (plus_one n) ∙ is.there) in
-      let there : slice_get (edges_to n (others n) below) is.place ≡ Some e = ap (λ l. slice_get l is.place) (sym f.is ∙ ap (λ x. x.edges.items) same) ∙ is.is in
+      let there : slice_get (edges_to n (others n) below) is.place ≡ Some e = ap (λ l. slice_get l is.place) (sym f.is ∙ same) ∙ is.is in
       tells_among others (others n) (λ k h. h) is.place e there
 
   -- where a walk has come to that has begun
@@ -97,8 +96,8 @@ module _ {others : ℕ → List ℕ} {below : ℕ} {fans : List Fan} (w : AreWai
   root_to : (e : Edge) → IsEdge fans 0 e → (x : ℕ) × (e.to ≡ suc x)
   root_to e is =
       let same : w.root ≡ is.fan = one_some (sym w.first ∙ is.there) in
-      let there : slice_get w.root.edges.items is.place ≡ Some e = ap (λ x. slice_get x.edges.items is.place) same ∙ is.is in
-      let inside : is.place < length w.root.edges.items = get_inside w.root.edges.items is.place e there in
+      let there : slice_get w.root is.place ≡ Some e = ap (λ x. slice_get x is.place) same ∙ is.is in
+      let inside : is.place < length w.root = get_inside w.root is.place e there in
       let near : is.place < below = omega (arith, inside, w.is_root.many) in
       let found : edge_to is.place is.place ≡ e = one_some (sym (w.is_root.are is.place near) ∙ there) in
       (is.place, sym (ap (λ x. x.to) found) ∙ plus_one is.place)
@@ -212,8 +211,8 @@ module _ {others : ℕ → List ℕ} {below : ℕ} {fans : List Fan} (w : AreWai
 
 -- ---- one more node
 
-only_edge : (fan : Fan) (k : ℕ) (e : Edge) → IsEdge (fan ∷ []) k e → (k ≡ 0) × ((place : ℕ) × (slice_get fan.edges.items place ≡ Some e))
-only_edge fan zero e is = (refl, (is.place, ap (λ x. slice_get x.edges.items is.place) (one_some is.there) ∙ is.is))
+only_edge : (fan : Fan) (k : ℕ) (e : Edge) → IsEdge (fan ∷ []) k e → (k ≡ 0) × ((place : ℕ) × (slice_get fan place ≡ Some e))
+only_edge fan zero e is = (refl, (is.place, ap (λ x. slice_get x is.place) (one_some is.there) ∙ is.is))
 only_edge fan (suc k) e is = absurd (let h = is.there in cc)
 
 module _ {below : ℕ} where
@@ -228,10 +227,10 @@ module _ {below : ℕ} where
   fan_within : (n : ℕ) (xs : List ℕ) (place : ℕ) (e : Edge) → slice_get (edges_to n xs below) place ≡ Some e → (e.to ≤ below) × (e.behind ≡ 0)
   fan_within n xs place e there = let t = tells_among (λ k. xs) xs (λ k h. h) place e there in (omega (arith, t.to, t.within), t.single)
 
-  pub first_within : (fan : Fan) → IsRoot below fan.edges.items → LeadWithin below 0 (fan ∷ [])
-  first_within fan r = record { many = refl; within = λ k e is. let o = only_edge fan k e is in root_within fan.edges.items r o.1.0 e o.1.1 }
+  pub first_within : (fan : Fan) → IsRoot below fan → LeadWithin below 0 (fan ∷ [])
+  first_within fan r = record { many = refl; within = λ k e is. let o = only_edge fan k e is in root_within fan r o.1.0 e o.1.1 }
 
-  pub next_within : (fans : List Fan) (fan : Fan) (count : ℕ) (x : List ℕ) → LeadWithin below count fans → fan.edges.items ≡ edges_to count x below → LeadWithin below (count + 1) (fans ++ fan ∷ [])
+  pub next_within : (fans : List Fan) (fan : Fan) (count : ℕ) (x : List ℕ) → LeadWithin below count fans → fan ≡ edges_to count x below → LeadWithin below (count + 1) (fans ++ fan ∷ [])
   next_within fans fan count x h is =
       record {
         many = let l = length-append fans (fan ∷ []) in omega (arith, l, h.many);
@@ -240,12 +239,12 @@ module _ {below : ℕ} where
     where
       by : (k : ℕ) (e : Edge) (edge : IsEdge (fans ++ fan ∷ []) k e) → (slice_get fans k ≡ Some edge.fan) ⊎ ((k ≡ length fans) × (fan ≡ edge.fan)) → (e.to ≤ below) × (e.behind ≡ 0)
       by k e edge (inl old) = h.within k e (record { fan = edge.fan; place = edge.place; there = old; is = edge.is })
-      by k e edge (inr new) = fan_within count x edge.place e (ap (λ l. slice_get l edge.place) (sym is ∙ ap (λ y. y.edges.items) new.1) ∙ edge.is)
+      by k e edge (inr new) = fan_within count x edge.place e (ap (λ l. slice_get l edge.place) (sym is ∙ new.1) ∙ edge.is)
 
-  pub first_waits : (others : ℕ → List ℕ) (fan : Fan) → IsRoot below fan.edges.items → AreWaits others below 0 (fan ∷ [])
+  pub first_waits : (others : ℕ → List ℕ) (fan : Fan) → IsRoot below fan → AreWaits others below 0 (fan ∷ [])
   first_waits others fan r = record { many = refl; root = fan; first = refl; is_root = r; each = λ n h. absurd (omega (arith, h)) }
 
-  pub next_waits : (others : ℕ → List ℕ) (fans : List Fan) (fan : Fan) (count : ℕ) → AreWaits others below count fans → fan.edges.items ≡ edges_to count (others count) below → AreWaits others below (count + 1) (fans ++ fan ∷ [])
+  pub next_waits : (others : ℕ → List ℕ) (fans : List Fan) (fan : Fan) (count : ℕ) → AreWaits others below count fans → fan ≡ edges_to count (others count) below → AreWaits others below (count + 1) (fans ++ fan ∷ [])
   next_waits others fans fan count w is =
       record {
         many = let l = length-append fans (fan ∷ []) in omega (arith, l, w.many);

@@ -14,8 +14,7 @@ use Rattle.occ_net_replay.specs.Replay.{Tasks, is_done, ready_from}
 use Rattle.occ_net_tables.specs.Keys.{flat}
 use Rattle.occ_usage.specs.Noted.{uses_in}
 use Rattle.occ_explore_laws.specs.declared.graph.Edge.{Edge}
-use Rattle.occ_explore_laws.specs.declared.graph.Fan.{Fan}
-use Rattle.occ_explore_laws.specs.Walks.{IsEdge}
+use Rattle.occ_explore_laws.specs.Walks.{Fan, IsEdge}
 use Rattle.occ_ends.specs.declared.uses.ProcessUses.{ProcessUses}
 use Rattle.occ_ends.specs.declared.ends.Ends.{Ends}
 use Rattle.occ_usage.specs.declared.noted.Use.{Use}
@@ -219,14 +218,14 @@ pub record IsRoot (below : ℕ) (edges : List Edge) : Type 0 where
 pub record IsFanOf (others : ℕ → List ℕ) (below n : ℕ) (fans : List Fan) : Type 0 where
   pub fan : Fan
   pub there : slice_get fans (n + 1) ≡ Some fan
-  pub is : fan.edges.items ≡ edges_to n (others n) below
+  pub is : fan ≡ edges_to n (others n) below
 
 -- node 0, and those of the first so many processes
 pub record AreWaits (others : ℕ → List ℕ) (below count : ℕ) (fans : List Fan) : Type 0 where
   pub many : length fans ≡ count + 1
   pub root : Fan
   pub first : slice_get fans 0 ≡ Some root
-  pub is_root : IsRoot below root.edges.items
+  pub is_root : IsRoot below root
   pub each : (n : ℕ) → n < count → IsFanOf others below n fans
 
 -- no edge leads further
@@ -273,8 +272,8 @@ ListsUnended tables ns others = HeldBy tables (λ net. others.items ≡ unended_
 abbrev pub ListsOthers : {A : Type 0} → Ends → Tables → ℕ → Vec ℕ A → Type 0
 ListsOthers ends tables n others = HeldBy tables (λ net. others.items ≡ others_noted ends net.tasks n)
 
-abbrev pub HoldWaits : {A : Type 0} → Ends → Tables → ℕ → Vec Fan A → Type 0
-HoldWaits ends tables below fans = HeldBy tables (λ net. AreWaits (others_noted ends net.tasks) below below fans.items)
+abbrev pub HoldWaits : Ends → Tables → ℕ → List Fan → Type 0
+HoldWaits ends tables below fans = HeldBy tables (λ net. AreWaits (others_noted ends net.tasks) below below fans)
 
 abbrev pub HoldsCircle : {A : Type 0} → Ends → Tables → ℕ → Vec ℕ A → Type 0
 HoldsCircle ends tables below ns = HeldBy tables (λ net. IsCircle (others_noted ends net.tasks) below ns.items)

@@ -3,7 +3,7 @@ ghost use Rattle.std.specs.Prelude.{◌≡◌, ◌<◌, ◌≤◌, IfNone, IfOk,
 ghost use Rattle.occ_ends.specs.Ends.{AddsUnended, HoldWaits, HoldsCircle, IsAgain, IsFresh, IsRoot, LeadWithin, ListsOthers, ListsUnended, ListsWaits, MakesRing, arm_writer, arm_writers, edge_to, edges_to, end_noted};
 
 use crate::ends::{Ends, is_unended};
-use occ_explore_laws::{Edge, Fan, Lasting, lasting};
+use occ_explore_laws::{Edge, Fans, Lasting, lasting};
 use occ_machine::{Arm, Wait};
 use occ_net_replay::Choice;
 use occ_net_tables::Tables;
@@ -124,15 +124,15 @@ fn others_of(
 }
 
 /// The edges from a process to those that it waits for; node 0 is none.
-fn fan_of(alloc: Global, number: u32, others: &[u32], below: u32) -> Result<Fan, AllocError>
+fn fan_of(alloc: Global, number: u32, others: &[u32], below: u32) -> Result<Vec<Edge>, AllocError>
     requires { below ≤ 4294967294 }
-    ensures { IfOk result (λ fan. fan.edges.items ≡ edges_to number others.now below) }
+    ensures { IfOk result (λ fan. fan.items ≡ edges_to number others.now below) }
 {
-    let mut fan = Fan::new(alloc);
+    let mut fan = Vec::new(alloc);
     let mut rest = others;
     while let Some((other, later)) = rest.split_first() {
         if *other < below {
-            fan.edges.push(edge(number, *other))?;
+            fan.push(edge(number, *other))?;
         }
         rest = later;
     }
@@ -157,28 +157,30 @@ fn edge(number: u32, next: u32) -> Edge
 }
 
 /// The edges from node 0 to all processes.
-fn root(alloc: Global, below: u32) -> Result<Fan, AllocError>
+fn root(alloc: Global, below: u32) -> Result<Vec<Edge>, AllocError>
     requires { below ≤ 4294967294 }
-    ensures { IfOk result (λ fan. IsRoot below fan.edges.items) }
+    ensures { IfOk result (λ fan. IsRoot below fan.items) }
 {
-    let mut fan = Fan::new(alloc);
+    let mut fan = Vec::new(alloc);
     for number in 0..below {
-        fan.edges.push(edge(number, number))?;
+        fan.push(edge(number, number))?;
     }
     Ok(fan)
 }
 
 /// The graph of who waits for whom. Node 0 leads to all processes, whose nodes have their numbers and one.
-fn graph(alloc: Global, ends: &Ends, tables: &Tables, below: u32) -> Result<Vec<Fan>, AllocError>
+fn graph(alloc: Global, ends: &Ends, tables: &Tables, below: u32) -> Result<Fans, AllocError>
     requires { below ≤ 4294967294 }
     ensures waits { IfOk result (HoldWaits ends.now tables.now below) }
-    ensures within { IfOk result (λ fans. LeadWithin below below fans.items) }
+    ensures within { IfOk result (λ fans. LeadWithin below below fans) }
 {
-    let mut fans = Vec::new(alloc);
-    fans.push(root(alloc, below)?)?;
+    let mut fans = Fans::new(alloc);
+    let first = root(alloc, below)?;
+    fans.push(&first)?;
     for number in 0..below {
         let others = others_of(alloc, ends, tables, number)?;
-        fans.push(fan_of(alloc, number, others.as_slice(), below)?)?;
+        let fan = fan_of(alloc, number, others.as_slice(), below)?;
+        fans.push(&fan)?;
     }
     Ok(fans)
 }

@@ -7,5 +7,5 @@ use Rattle.occ_ends.proofs.circling.graph.Given as goal
 
 abbrev pub invariant-loop-number : goal.invariant-loop-number
 invariant-loop-number l =
-    LeadWithin l.below l.number l.fans.items
-    × ((p : Program) (keyboard : List ℕ) (net : Net) → Holds p keyboard l.tables net → AreWaits (others_noted l.ends net.tasks) l.below l.number l.fans.items)
+    LeadWithin l.below l.number l.fans
+    × ((p : Program) (keyboard : List ℕ) (net : Net) → Holds p keyboard l.tables net → AreWaits (others_noted l.ends net.tasks) l.below l.number l.fans)
