@@ -7,7 +7,7 @@ pub loop-number-init : goal.loop-number-init
 loop-number-init c =
     let below = c.args.below in
     let fan = c.in_ok-first.first.items in
-    let is : c.push.new.self ≡ fan ∷ [] = c.in_ok-push.ensures ∙ ap (λ l. l ++ c.deref.result.now ∷ []) c.new-fans.ensures ∙ ap (λ l. l ∷ []) c.deref.ensures.value in (
+    let is : c.push.new.self ≡ fan ∷ [] = c.in_ok-push.ensures.ok ∙ ap (λ l. l ++ c.deref.result.now ∷ []) c.new-fans.ensures ∙ ap (λ l. l ∷ []) c.deref.ensures.value in (
       subst (LeadWithin below 0) (sym is) (first_within fan c.in_ok-first.ensures),
       λ p keyboard net h. subst (AreWaits (others_noted c.args.ends.now net.tasks) below 0) (sym is) (first_waits (others_noted c.args.ends.now net.tasks) fan c.in_ok-first.ensures),
     )
@@ -19,7 +19,7 @@ loop-number-preserved c =
     let fans = c.loop-number.fans in
     let fan = c.in_ok-fan.fan.items in
     let (within, waits) = c.loop-number.invariant in
-    let is : c.push-in-loop-number.new.self ≡ fans ++ fan ∷ [] = c.in_ok-push-2.ensures ∙ ap (λ l. fans ++ l ∷ []) c.deref-in-loop-number.ensures.value in (
+    let is : c.push-in-loop-number.new.self ≡ fans ++ fan ∷ [] = c.in_ok-push-2.ensures.ok ∙ ap (λ l. fans ++ l ∷ []) c.deref-in-loop-number.ensures.value in (
       subst (LeadWithin below (number + 1)) (sym is) (next_within fans fan number c.as_slice.result.now within c.in_ok-fan.ensures),
       λ p keyboard net h.
           let next = others_noted c.args.ends.now net.tasks in
