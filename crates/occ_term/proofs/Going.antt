@@ -33,13 +33,13 @@ module _ (k : List Context) (s : Store) where
   variants c vs (Value d) q = (left d k, s, variant q)
   variants c vs (Fails e) q = (left (Faulted e) k, s, faults (in_variant q))
 
-  alts : (pri : Bool) (arms : Arms) (r : Outcome (List Enabled)) → enabled arms [] s ≡ r → Next (Do (Alt pri arms)) k s
-  alts pri arms (Gives es s') q = (left (choosing pri es) k, s', alt q)
-  alts pri arms (Faults e s') q = (left (Faulted e) k, s', faults (in_alt q))
+  alts : (line : ℕ) (pri : Bool) (arms : Arms) (r : Outcome (List Enabled)) → enabled arms [] s ≡ r → Next (Do (Alt line pri arms)) k s
+  alts line pri arms (Gives es s') q = (left (choosing line pri es) k, s', alt q)
+  alts line pri arms (Faults e s') q = (left (Faulted e) k, s', faults (in_alt q))
 
-  takes : (d : Doing) (r : Outcome (Option Term)) → ((t : Option Term) (s' : Store) → r ≡ Gives t s' → Step (left d k) s (left (Do (or_stop t)) k) s') → ((e : Fault) (s' : Store) → r ≡ Faults e s' → Step (left d k) s (left (Faulted e) k) s') → Next d k s
-  takes d (Gives t s') f g = (left (Do (or_stop t)) k, s', f t s' refl)
-  takes d (Faults e s') f g = (left (Faulted e) k, s', g e s' refl)
+  takes : (line : ℕ) (d : Doing) (r : Outcome (Option Term)) → ((t : Option Term) (s' : Store) → r ≡ Gives t s' → Step (left d k) s (left (Do (or_stop line t)) k) s') → ((e : Fault) (s' : Store) → r ≡ Faults e s' → Step (left d k) s (left (Faulted e) k) s') → Next d k s
+  takes line d (Gives t s') f g = (left (Do (or_stop line t)) k, s', f t s' refl)
+  takes line d (Faults e s') f g = (left (Faulted e) k, s', g e s' refl)
 
   begins : (r : Replicator) (b : Term) (is : Evaluated Indices) → indices_of r s ≡ is → Next (Do (Each r b)) k s
   begins r b (Value is) q = (left (Passing (each_loop b (index_of r) is)) k, s, each q)
@@ -57,19 +57,19 @@ skips (Within l ∷ k) s = (left (Again l) k, s, body_ends)
 
 does : (t : Term) (k : List Context) (s : Store) → Next (Do t) k s
 does Skip k s = skips k s
-does Stop k s = (left Halted k, s, stop)
+does (Stop line) k s = (left Halted k, s, stop)
 does (Assign ts vs) k s = assigns k s ts vs (assigned ts vs s) refl
 does (Input c ts) k s = inputs k s c ts (await_of c (Plain ts Skip) s) refl
 does (Output c tag is) k s = outputs k s c tag is (offer_of c tag is s) refl
 does (VariantInput c vs) k s = variants k s c vs (await_of c (Tagged vs) s) refl
 does (Seq no_terms) k s = (left (Do Skip) k, s, seq_empty)
 does (Seq (then_term t ts)) k s = (left (Do t) (Then ts ∷ k), s, seq)
-does (Par no_branches) k s = (left (Do Skip) k, s, par_empty)
-does (Par (and_branch n b bs)) k s = (left (Forking (and_branch n b bs)) k, s, par)
-does (Alt pri arms) k s = alts k s pri arms (enabled arms [] s) refl
-does (If cs) k s = takes k s (Do (If cs)) (choice_of cs s) (λ t s' q. if_step q) (λ e s' q. faults (in_if q))
-does (Case x os) k s = takes k s (Do (Case x os)) (option_of x os s) (λ t s' q. case q) (λ e s' q. faults (in_case q))
-does (While e b) k s = (left (Passing (WhileLoop e b)) k, s, while)
+does (Par line no_branches) k s = (left (Do Skip) k, s, par_empty)
+does (Par line (and_branch n b bs)) k s = (left (Forking (and_branch n b bs)) k, s, par)
+does (Alt line pri arms) k s = alts k s line pri arms (enabled arms [] s) refl
+does (If line cs) k s = takes k s line (Do (If line cs)) (choice_of cs s) (λ t s' q. if_step q) (λ e s' q. faults (in_if q))
+does (Case line x os) k s = takes k s line (Do (Case line x os)) (option_of x os s) (λ t s' q. case q) (λ e s' q. faults (in_case q))
+does (While line e b) k s = (left (Passing (WhileLoop e b)) k, s, while)
 does (Each r b) k s = begins k s r b (indices_of r s) refl
 does (Clear c n) k s = (left (Do Skip) k, _, clear refl)
 does (Local c v) k s = names k s c v (declared (Naming c v) s) refl
@@ -81,7 +81,7 @@ going (Again l) k s h = (left (Passing l) k, s, again)
 going (Offering c m) k s h = cc
 going (Awaiting c list) k s h = cc
 going (Choosing pri arms) k s h = cc
-going (Taking xs what) k s h = takes k s (Taking xs what) (taken_by xs what s) (λ t s' q. take_in q) (λ e s' q. faults (in_take q))
+going (Taking xs what) k s h = takes k s 0 (Taking xs what) (taken_by xs what s) (λ t s' q. take_in q) (λ e s' q. faults (in_take q))
 going (Forking bs) k s h = cc
 going Halted k s h = cc
 going (Faulted e) k s h = cc

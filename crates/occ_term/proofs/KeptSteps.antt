@@ -334,13 +334,13 @@ gives w s P o x s' e h = subst (Goes w s P) e h
 faulted : {X : Type 0} (w : Numbers) (s : Store) (P : X → Type 0) (o : Outcome X) (f : Fault) (s' : Store) → o ≡ Faults f s' → Goes w s P o → ChangesOnly w s s'
 faulted w s P o f s' e h = subst (Goes w s P) e h
 
-or_stop_in : (u : Uses) (t : Option Term) → ChosenIn u t → IsPartOf (uses_of (or_stop t)) u
-or_stop_in u None h = no_part u
-or_stop_in u (Some t) h = h
+or_stop_in : (line : ℕ) (u : Uses) (t : Option Term) → ChosenIn u t → IsPartOf (uses_of (or_stop line t)) u
+or_stop_in line u None h = no_part u
+or_stop_in line u (Some t) h = h
 
-choosing_in : (u : Uses) (pri : Bool) (arms : List Enabled) → IsPartOf (uses_of_all arms) u → IsPartOf (uses_of_doing (choosing pri arms)) u
-choosing_in u pri [] h = no_part u
-choosing_in u pri (a ∷ arms) h = h
+choosing_in : (line : ℕ) (u : Uses) (pri : Bool) (arms : List Enabled) → IsPartOf (uses_of_all arms) u → IsPartOf (uses_of_doing (choosing line pri arms)) u
+choosing_in line u pri [] h = no_part u
+choosing_in line u pri (a ∷ arms) h = h
 
 unchanged : (w : Numbers) (s : Store) → ChangesOnly w s s
 unchanged w s c n = refl
@@ -386,7 +386,7 @@ module _ (d : Declared) (x : Doing) (k : List Context) (s : Store) where
 
 pub steps_keep_to_their_use : StepsKeepToTheirUse
 steps_keep_to_their_use d a b s s' h (ends) = no_more d (Do Skip) [] s Done s refl (unchanged _ s)
-steps_keep_to_their_use d a b s s' h (stop {k = k}) = no_more d (Do Stop) k s Halted s refl (unchanged _ s)
+steps_keep_to_their_use d a b s s' h (stop {k = k} {line = line}) = no_more d (Do (Stop line)) k s Halted s refl (unchanged _ s)
 steps_keep_to_their_use d a b s s' h (assign {k = k} {ts = ts} {vs = vs} q) =
     let x = Do (Assign ts vs) in
     let w = whole d x k s in
@@ -415,16 +415,16 @@ steps_keep_to_their_use d a b s s' h (variant {k = k} {d = y} {c = c} {vs = vs} 
     let m = mine d x k s in
     then_others d x k s y s (subst (Has (λ z. IsPartOf (uses_of_doing z) w)) q
     (await_in d w s c h.0.0 (Tagged vs) h.0.1 (left_part (input_place c) (uses_of_variants vs) w m) (right_part (input_place c) (uses_of_variants vs) w m))) (unchanged w.writes s)
-steps_keep_to_their_use d a b s s' h (alt {k = k} {pri = pri} {arms = arms} {open_arms = open_arms} q) =
-    let x = Do (Alt pri arms) in
+steps_keep_to_their_use d a b s s' h (alt {k = k} {line = line} {pri = pri} {arms = arms} {open_arms = open_arms} q) =
+    let x = Do (Alt line pri arms) in
     let w = whole d x k s in
     let (m, c) = gives w.writes s (λ z. IsPartOf (uses_of_all z) w) (enabled arms [] s) open_arms s' q (enabled_goes d w s arms h.0 (mine d x k s) [] s (no_part w) (unchanged w.writes s)) in
-    then_others d x k s (choosing pri open_arms) s' (choosing_in w pri open_arms m) c
+    then_others d x k s (choosing line pri open_arms) s' (choosing_in line w pri open_arms m) c
 steps_keep_to_their_use d a b s s' h (take_in {k = k} {again = xs} {what = what} {t = t} q) =
     let x = Taking xs what in
     let w = whole d x k s in
     let (m, c) = gives w.writes s (ChosenIn w) (taken_by xs what s) t s' q (taken_by_goes d w s xs what s h.0.0 h.0.1 (mine d x k s) (unchanged w.writes s)) in
-    then_others d x k s (Do (or_stop t)) s' (or_stop_in w t m) c
+    then_others d x k s (Do (or_stop 0 t)) s' (or_stop_in 0 w t m) c
 steps_keep_to_their_use d a b s s' h (seq_empty {k = k}) = no_more d (Do (Seq no_terms)) k s (Do Skip) s refl (unchanged _ s)
 steps_keep_to_their_use d a b s s' h (seq {k = k} {t = t} {ts = ts}) =
     let x = Do (Seq (then_term t ts)) in
@@ -437,22 +437,22 @@ steps_keep_to_their_use d a b s s' h (seq {k = k} {t = t} {ts = ts}) =
 steps_keep_to_their_use d a b s s' h (drops {k = k} {ts = ts}) =
     let x = Do Skip in
     (others d x (Then ts ∷ k) s, unchanged (whole d x (Then ts ∷ k) s).writes s)
-steps_keep_to_their_use d a b s s' h (par_empty {k = k}) = no_more d (Do (Par no_branches)) k s (Do Skip) s refl (unchanged _ s)
-steps_keep_to_their_use d a b s s' h (par {k = k} {n = n} {b = body} {bs = bs}) =
-    let x = Do (Par (and_branch n body bs)) in
+steps_keep_to_their_use d a b s s' h (par_empty {k = k} {line = line}) = no_more d (Do (Par line no_branches)) k s (Do Skip) s refl (unchanged _ s)
+steps_keep_to_their_use d a b s s' h (par {k = k} {line = line} {n = n} {b = body} {bs = bs}) =
+    let x = Do (Par line (and_branch n body bs)) in
     then_others d x k s (Forking (and_branch n body bs)) s (mine d x k s) (unchanged (whole d x k s).writes s)
-steps_keep_to_their_use d a b s s' h (if_step {k = k} {cs = cs} {t = t} q) =
-    let x = Do (If cs) in
+steps_keep_to_their_use d a b s s' h (if_step {k = k} {line = line} {cs = cs} {t = t} q) =
+    let x = Do (If line cs) in
     let w = whole d x k s in
     let (m, c) = gives w.writes s (ChosenIn w) (choice_of cs s) t s' q (choices_go d w s cs h.0 (mine d x k s) s (unchanged w.writes s)) in
-    then_others d x k s (Do (or_stop t)) s' (or_stop_in w t m) c
-steps_keep_to_their_use d a b s s' h (case {k = k} {x = e} {os = os} {t = t} q) =
-    let x = Do (Case e os) in
+    then_others d x k s (Do (or_stop line t)) s' (or_stop_in line w t m) c
+steps_keep_to_their_use d a b s s' h (case {k = k} {line = line} {x = e} {os = os} {t = t} q) =
+    let x = Do (Case line e os) in
     let w = whole d x k s in
     let (m, c) = gives w.writes s (ChosenIn w) (option_of e os s) t s' q (options_go d w s h.0.0 e os s h.0.3 (right_part (reading (reads_of e)) (uses_of_options os) w (mine d x k s)) (unchanged w.writes s)) in
-    then_others d x k s (Do (or_stop t)) s' (or_stop_in w t m) c
-steps_keep_to_their_use d a b s s' h (while {k = k} {e = e} {b = body}) =
-    let x = Do (While e body) in
+    then_others d x k s (Do (or_stop line t)) s' (or_stop_in line w t m) c
+steps_keep_to_their_use d a b s s' h (while {k = k} {line = line} {e = e} {b = body}) =
+    let x = Do (While line e body) in
     then_others d x k s (Passing (WhileLoop e body)) s (mine d x k s) (unchanged (whole d x k s).writes s)
 steps_keep_to_their_use d a b s s' h (each {k = k} {r = r} {b = body} {is = is} q) =
     let x = Do (Each r body) in

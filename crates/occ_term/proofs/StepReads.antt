@@ -414,8 +414,8 @@ module _ (d : Declared) (u : Uses) (s t : Store) (agree : AgreeOn u.reads s t) w
   step_alike a b s' h k (output {k = j} {c = c} {tag = tag} {is = is} q) = record { store = t; step = output (sym (offer_same d u s t agree c tag is h.0.0 h.0.1 s t h.0.2 h.0.4 (left_part (uses_of_doing (Do (Output c tag is))) (uses_of_contexts j) u k) id) ∙ q); same = id }
   step_alike a b s' h k (input {k = j} {c = c} {ts = ts} q) = record { store = t; step = input (sym (await_same d u s t agree c (Plain ts Skip) h.0.0 s t h.0.2 (left_part (input_place c) (uses_of_targets ts) u (left_part (uses_of_doing (Do (Input c ts))) (uses_of_contexts j) u k)) id) ∙ q); same = id }
   step_alike a b s' h k (variant {k = j} {c = c} {vs = vs} q) = record { store = t; step = variant (sym (await_same d u s t agree c (Tagged vs) h.0.0 s t h.0.1 (left_part (input_place c) (uses_of_variants vs) u (left_part (uses_of_doing (Do (VariantInput c vs))) (uses_of_contexts j) u k)) id) ∙ q); same = id }
-  step_alike a b s' h k (alt {k = j} {pri = pri} {arms = arms} {open_arms = open_arms} q) =
-      let y = gives_twin d u s t agree (enabled arms [] s) (enabled arms [] t) open_arms s' q (enabled_twin d u s t agree arms h.0 (left_part (uses_of_doing (Do (Alt pri arms))) (uses_of_contexts j) u k) [] s t id) in
+  step_alike a b s' h k (alt {k = j} {line = line} {pri = pri} {arms = arms} {open_arms = open_arms} q) =
+      let y = gives_twin d u s t agree (enabled arms [] s) (enabled arms [] t) open_arms s' q (enabled_twin d u s t agree arms h.0 (left_part (uses_of_doing (Do (Alt line pri arms))) (uses_of_contexts j) u k) [] s t id) in
       record { store = y.0; step = alt y.1; same = y.2 }
   step_alike a b s' h k (take_in {k = j} {again = xs} {what = what} {t = x} q) =
       let y = gives_twin d u s t agree (taken_by xs what s) (taken_by xs what t) x s' q (taken_by_twin d u s t agree xs what h.0.0 h.0.1 (left_part (with_use (uses_of_settings xs) (uses_of_taken what)) (uses_of_contexts j) u k) s t id) in
@@ -425,11 +425,11 @@ module _ (d : Declared) (u : Uses) (s t : Store) (agree : AgreeOn u.reads s t) w
   step_alike a b s' h k drops = record { store = t; step = drops; same = id }
   step_alike a b s' h k par_empty = record { store = t; step = par_empty; same = id }
   step_alike a b s' h k par = record { store = t; step = par; same = id }
-  step_alike a b s' h k (if_step {k = j} {cs = cs} {t = x} q) =
-      let y = gives_twin d u s t agree (choice_of cs s) (choice_of cs t) x s' q (choices_twin d u s t agree cs h.0 (left_part (uses_of_doing (Do (If cs))) (uses_of_contexts j) u k) s t id) in
+  step_alike a b s' h k (if_step {k = j} {line = line} {cs = cs} {t = x} q) =
+      let y = gives_twin d u s t agree (choice_of cs s) (choice_of cs t) x s' q (choices_twin d u s t agree cs h.0 (left_part (uses_of_doing (Do (If line cs))) (uses_of_contexts j) u k) s t id) in
       record { store = y.0; step = if_step y.1; same = y.2 }
-  step_alike a b s' h k (case {k = j} {x = z} {os = os} {t = x} q) =
-      let y = gives_twin d u s t agree (option_of z os s) (option_of z os t) x s' q (options_twin d u s t agree h.0.0 z os h.0.2 h.0.3 (left_part (uses_of_doing (Do (Case z os))) (uses_of_contexts j) u k) s t id) in
+  step_alike a b s' h k (case {k = j} {line = line} {x = z} {os = os} {t = x} q) =
+      let y = gives_twin d u s t agree (option_of z os s) (option_of z os t) x s' q (options_twin d u s t agree h.0.0 z os h.0.2 h.0.3 (left_part (uses_of_doing (Do (Case line z os))) (uses_of_contexts j) u k) s t id) in
       record { store = y.0; step = case y.1; same = y.2 }
   step_alike a b s' h k while = record { store = t; step = while; same = id }
   step_alike a b s' h k (each {k = j} {r = r} {b = body} q) = record { store = t; step = each (sym (indices_same d u s t agree r s t h.0.0 (left_part (uses_of_replicator r) (uses_of body) u (left_part (uses_of_doing (Do (Each r body))) (uses_of_contexts j) u k)) id) ∙ q); same = id }

@@ -292,13 +292,13 @@ gives d P o x s e h = subst (Keeps d P) e h
 faulted : {X : Type 0} (d : Declared) (P : X → Type 0) (o : Outcome X) (f : Fault) (s : Store) → o ≡ Faults f s → Keeps d P o → StoreHas d s
 faulted d P o f s e h = subst (Keeps d P) e h
 
-or_stop_has : (d : Declared) (t : Option Term) → ChosenHas d t → TermHas d (or_stop t)
-or_stop_has d None h = tt
-or_stop_has d (Some t) h = h
+or_stop_has : (line : ℕ) (d : Declared) (t : Option Term) → ChosenHas d t → TermHas d (or_stop line t)
+or_stop_has line d None h = tt
+or_stop_has line d (Some t) h = h
 
-choosing_has : (d : Declared) (pri : Bool) (arms : List Enabled) → EnabledHave d arms → DoingHas d (choosing pri arms)
-choosing_has d pri [] h = tt
-choosing_has d pri (a ∷ arms) h = h
+choosing_has : (line : ℕ) (d : Declared) (pri : Bool) (arms : List Enabled) → EnabledHave d arms → DoingHas d (choosing line pri arms)
+choosing_has line d pri [] h = tt
+choosing_has line d pri (a ∷ arms) h = h
 
 fault_keeps : (d : Declared) (x : Doing) (s s' : Store) (e : Fault) → DoingHas d x → StoreHas d s → FaultsIn x s e s' → StoreHas d s'
 fault_keeps d x s s' e h k (in_assign {ts = ts} {vs = vs} q) = faulted d Any (assigned ts vs s) e s' q (assigned_has d s ts vs _ h.1 h.2 k)
@@ -323,23 +323,23 @@ steps_keep_types d a b s s' h k (output {c = c} {tag = tag} {is = is} q) = ((sub
 steps_keep_types d a b s s' h k (input {c = c} {ts = ts} q) =
     ((subst (Has (DoingHas d)) q (await_has d s c h.0.0 (Plain ts Skip) h.0.2 ((h.0.1, h.0.3, h.0.4), tt)), h.1), k)
 steps_keep_types d a b s s' h k (variant {c = c} {vs = vs} q) = ((subst (Has (DoingHas d)) q (await_has d s c h.0.0 (Tagged vs) h.0.1 h.0.2), h.1), k)
-steps_keep_types d a b s s' h k (alt {pri = pri} {arms = arms} {open_arms = open_arms} q) =
+steps_keep_types d a b s s' h k (alt {line = line} {pri = pri} {arms = arms} {open_arms = open_arms} q) =
     let (m, k') = gives d (EnabledHave d) (enabled arms [] s) open_arms s' q (enabled_keeps d arms h.0 [] s tt k) in
-    ((choosing_has d pri open_arms m, h.1), k')
+    ((choosing_has line d pri open_arms m, h.1), k')
 steps_keep_types d a b s s' h k (take_in {again = xs} {what = what} {t = t} q) =
     let (m, k') = gives d (ChosenHas d) (taken_by xs what s) t s' q (taken_by_keeps d xs what s h.0.0 h.0.1 k) in
-    ((or_stop_has d t m, h.1), k')
+    ((or_stop_has 0 d t m, h.1), k')
 steps_keep_types d a b s s' h k seq_empty = ((tt, h.1), k)
 steps_keep_types d a b s s' h k seq = ((h.0.0, (h.0.1, h.1)), k)
 steps_keep_types d a b s s' h k drops = ((h.1.0, h.1.1), k)
 steps_keep_types d a b s s' h k par_empty = ((tt, h.1), k)
 steps_keep_types d a b s s' h k par = (h, k)
-steps_keep_types d a b s s' h k (if_step {cs = cs} {t = t} q) =
+steps_keep_types d a b s s' h k (if_step {line = line} {cs = cs} {t = t} q) =
     let (m, k') = gives d (ChosenHas d) (choice_of cs s) t s' q (choices_keep d cs h.0 s k) in
-    ((or_stop_has d t m, h.1), k')
-steps_keep_types d a b s s' h k (case {x = x} {os = os} {t = t} q) =
+    ((or_stop_has line d t m, h.1), k')
+steps_keep_types d a b s s' h k (case {line = line} {x = x} {os = os} {t = t} q) =
     let (m, k') = gives d (ChosenHas d) (option_of x os s) t s' q (options_keep d h.0.0 x os s h.0.3 k) in
-    ((or_stop_has d t m, h.1), k')
+    ((or_stop_has line d t m, h.1), k')
 steps_keep_types d a b s s' h k while = (h, k)
 steps_keep_types d a b s s' h k (each {r = r} {b = body} {is = is} q) =
     ((loop_has d r body is h.0.0 h.0.1 h.0.2 (subst (Has IndexFits) q (indices_have d s r h.0.0 k)), h.1), k)

@@ -51,7 +51,7 @@ all_open = InputArm (again_for (pos 0)) 3 takes_n ∷ InputArm (again_for (pos 1
 -- From any store: the values of the last arm are left.
 abbrev pub OpensAll : Type 0
 OpensAll =
-    (s : Store) → (s' : Store) × SingleTurn (left (Do (Alt false arms_within)) []) s (left (Choosing false all_open) []) s'
+    (s : Store) → (s' : Store) × SingleTurn (left (Do (Alt 1 false arms_within)) []) s (left (Choosing false all_open) []) s'
     × (s' 0 ≡ pos 10) × (s' 1 ≡ pos 1) × (s' 2 ≡ pos 11)
 
 abbrev pub seven : Message

@@ -15,17 +15,17 @@ numbered n t = record { number = n; term = t }
 abbrev mutual
   pub branches_in : Term → List Numbered
   branches_in Skip = []
-  branches_in Stop = []
+  branches_in (Stop line) = []
   branches_in (Assign ts vs) = []
   branches_in (Input c ts) = []
   branches_in (Output c tag is) = []
   branches_in (VariantInput c vs) = branches_in_variants vs
   branches_in (Seq ts) = branches_in_terms ts
-  branches_in (Par bs) = branches_among bs
-  branches_in (Alt pri arms) = branches_in_arms arms
-  branches_in (If cs) = branches_in_choices cs
-  branches_in (Case e os) = branches_in_options os
-  branches_in (While e b) = branches_in b
+  branches_in (Par line bs) = branches_among bs
+  branches_in (Alt line pri arms) = branches_in_arms arms
+  branches_in (If line cs) = branches_in_choices cs
+  branches_in (Case line e os) = branches_in_options os
+  branches_in (While line e b) = branches_in b
   branches_in (Each r b) = branches_in b
   branches_in (Clear first count) = []
   branches_in (Local first value) = []

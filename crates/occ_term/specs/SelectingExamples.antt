@@ -24,8 +24,8 @@ ChosenRows =
     × (chosen false 1 (λ c. true) two_arms ≡ Some (taking_in 4))
     × (chosen true 0 (λ c. nat_eq c 4) two_arms ≡ Some (taking_in 4))
     × (chosen true 5 (λ c. false) two_arms ≡ None)
-    × (chosen true 5 (λ c. false) (taking_in 3 ∷ SkipArm [] Stop ∷ []) ≡ Some (SkipArm [] Stop))
-    × (chosen false 3 (λ c. true) (taking_in 3 ∷ SkipArm [] Stop ∷ []) ≡ Some (SkipArm [] Stop))
+    × (chosen true 5 (λ c. false) (taking_in 3 ∷ SkipArm [] (Stop 0) ∷ []) ≡ Some (SkipArm [] (Stop 0)))
+    × (chosen false 3 (λ c. true) (taking_in 3 ∷ SkipArm [] (Stop 0) ∷ []) ≡ Some (SkipArm [] (Stop 0)))
 
 -- an arm whose Boolean is false: its channel's subscript, out of range, is not evaluated; a declaration is set all the same
 abbrev pub closed_arms : Arms
@@ -64,7 +64,7 @@ copied_choices =
     each_choice (replicator 2 0 (number (pos 0)) (number (pos 3))) (or_choice (Binary Equal Int 3 (Cell 0) (number (pos 2))) Skip no_choices) no_choices
 
 abbrev pub some_options : Options
-some_options = or_else [] Stop (or_option (pos 1 ∷ pos 2 ∷ []) [] Skip no_options)
+some_options = or_else [] (Stop 0) (or_option (pos 1 ∷ pos 2 ∷ []) [] Skip no_options)
 
 abbrev pub ChoiceRows : Type 0
 ChoiceRows =
@@ -72,7 +72,7 @@ ChoiceRows =
     × (cell_in 0 (choice_of copied_choices zeros) ≡ pos 2)
     × (choice_of no_choices zeros ≡ Gives None zeros)
     × (option_of (number (pos 2)) some_options zeros ≡ Gives (Some Skip) zeros)
-    × (option_of (number (pos 3)) some_options zeros ≡ Gives (Some Stop) zeros)
+    × (option_of (number (pos 3)) some_options zeros ≡ Gives (Some (Stop 0)) zeros)
     × (option_of (number (pos 3)) (or_option (pos 1 ∷ []) [] Skip no_options) zeros ≡ Gives None zeros)
     × (indices_of (replicator 5 0 (number (pos 0)) (number (minus 1))) zeros ≡ Fails (fault Count 5))
     × (indices_of (replicator 5 0 (number (pos 2147483647)) (number (pos 1))) zeros ≡ Value (indices (pos 2147483647) 1))

@@ -93,17 +93,17 @@ size_of_constants (c ∷ cs) = together (with_node no_size) (size_of_constants c
 abbrev mutual
   pub size_of : Term → Size
   size_of Skip = with_node no_size
-  size_of Stop = with_node no_size
+  size_of (Stop line) = with_node no_size
   size_of (Assign ts vs) = with_node (together (size_of_targets ts) (size_of_items vs))
   size_of (Input c ts) = with_node (together (size_of_place c) (size_of_targets ts))
   size_of (Output c tag is) = with_node (together (size_of_place c) (size_of_items is))
   size_of (VariantInput c vs) = with_node (together (size_of_place c) (size_of_variants vs))
   size_of (Seq ts) = with_node (size_of_terms ts)
-  size_of (Par bs) = with_node (size_of_branches bs)
-  size_of (Alt pri arms) = with_node (size_of_arms arms)
-  size_of (If cs) = with_node (size_of_choices cs)
-  size_of (Case e os) = with_node (together (size_of_expression e) (size_of_options os))
-  size_of (While e b) = with_node (together (size_of_expression e) (size_of b))
+  size_of (Par line bs) = with_node (size_of_branches bs)
+  size_of (Alt line pri arms) = with_node (size_of_arms arms)
+  size_of (If line cs) = with_node (size_of_choices cs)
+  size_of (Case line e os) = with_node (together (size_of_expression e) (size_of_options os))
+  size_of (While line e b) = with_node (together (size_of_expression e) (size_of b))
   size_of (Each r b) = with_node (size_of_replicator r (size_of b))
   size_of (Clear first count) = size_of_declaration (Clearing first count)
   size_of (Local first value) = size_of_declaration (Naming first value)

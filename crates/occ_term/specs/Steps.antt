@@ -113,14 +113,14 @@ abbrev pub await_of : Place → Reception → Store → Evaluated Doing
 await_of channel list s = after (span_of channel s) (λ c. Value (Awaiting (first_of c) list))
 
 -- with no arm enabled it behaves like STOP
-abbrev pub choosing : Bool → List Enabled → Doing
-choosing pri [] = Do Stop
-choosing pri (a ∷ arms) = Choosing pri (a ∷ arms)
+abbrev pub choosing : (line : ℕ) → Bool → List Enabled → Doing
+choosing line pri [] = Do (Stop line)
+choosing line pri (a ∷ arms) = Choosing pri (a ∷ arms)
 
--- where nothing is selected it behaves like STOP; so it does for a tag that is not listed (own)
-abbrev pub or_stop : Option Term → Term
-or_stop None = Stop
-or_stop (Some t) = t
+-- where nothing is selected it behaves like STOP, in the line of what selects; so it does for a tag that is not listed, in no line: 0 (own)
+abbrev pub or_stop : (line : ℕ) → Option Term → Term
+or_stop line None = Stop line
+or_stop line (Some t) = t
 
 abbrev pub each_loop : Term → ℕ → Indices → Loop
 each_loop body index (indices base count) = EachLoop index base count body
@@ -153,11 +153,11 @@ pub data FaultsIn : Doing → Store → Fault → Store → Type 0 where
       → offer_of c tag is s ≡ Fails e → FaultsIn (Do (Output c tag is)) s e s
   in_input : {s : Store} {e : Fault} {c : Place} {ts : List Target} → await_of c (Plain ts Skip) s ≡ Fails e → FaultsIn (Do (Input c ts)) s e s
   in_variant : {s : Store} {e : Fault} {c : Place} {vs : Variants} → await_of c (Tagged vs) s ≡ Fails e → FaultsIn (Do (VariantInput c vs)) s e s
-  in_alt : {s s' : Store} {e : Fault} {pri : Bool} {arms : Arms} → enabled arms [] s ≡ Faults e s' → FaultsIn (Do (Alt pri arms)) s e s'
+  in_alt : {s s' : Store} {e : Fault} {line : ℕ} {pri : Bool} {arms : Arms} → enabled arms [] s ≡ Faults e s' → FaultsIn (Do (Alt line pri arms)) s e s'
   in_take : {s s' : Store} {e : Fault} {again : List Setting} {what : Taken}
       → taken_by again what s ≡ Faults e s' → FaultsIn (Taking again what) s e s'
-  in_if : {s s' : Store} {e : Fault} {cs : Choices} → choice_of cs s ≡ Faults e s' → FaultsIn (Do (If cs)) s e s'
-  in_case : {s s' : Store} {e : Fault} {x : Expression} {os : Options} → option_of x os s ≡ Faults e s' → FaultsIn (Do (Case x os)) s e s'
+  in_if : {s s' : Store} {e : Fault} {line : ℕ} {cs : Choices} → choice_of cs s ≡ Faults e s' → FaultsIn (Do (If line cs)) s e s'
+  in_case : {s s' : Store} {e : Fault} {line : ℕ} {x : Expression} {os : Options} → option_of x os s ≡ Faults e s' → FaultsIn (Do (Case line x os)) s e s'
   in_each : {s : Store} {e : Fault} {r : Replicator} {b : Term} → indices_of r s ≡ Fails e → FaultsIn (Do (Each r b)) s e s
   in_loop : {s s' : Store} {e : Fault} {l : Loop} → pass_of l s ≡ Faults e s' → FaultsIn (Passing l) s e s'
 
@@ -166,7 +166,7 @@ pub data FaultsIn : Doing → Store → Fault → Store → Type 0 where
 pub data Step : Left → Store → Left → Store → Type 0 where
   -- Skip, as all that is left
   ends : {s : Store} → Step (left (Do Skip) []) s (left Done []) s
-  stop : {s : Store} {k : List Context} → Step (left (Do Stop) k) s (left Halted k) s
+  stop : {s : Store} {k : List Context} {line : ℕ} → Step (left (Do (Stop line)) k) s (left Halted k) s
   assign : {s s' : Store} {k : List Context} {ts : List Target} {vs : List Item}
       → assigned ts vs s ≡ Gives nothing s' → Step (left (Do (Assign ts vs)) k) s (left (Do Skip) k) s'
   clear : {s s' : Store} {k : List Context} {c n : ℕ}
@@ -179,22 +179,22 @@ pub data Step : Left → Store → Left → Store → Type 0 where
       → await_of c (Plain ts Skip) s ≡ Value d → Step (left (Do (Input c ts)) k) s (left d k) s
   variant : {s : Store} {k : List Context} {d : Doing} {c : Place} {vs : Variants}
       → await_of c (Tagged vs) s ≡ Value d → Step (left (Do (VariantInput c vs)) k) s (left d k) s
-  alt : {s s' : Store} {k : List Context} {pri : Bool} {arms : Arms} {open_arms : List Enabled}
-      → enabled arms [] s ≡ Gives open_arms s' → Step (left (Do (Alt pri arms)) k) s (left (choosing pri open_arms) k) s'
+  alt : {s s' : Store} {k : List Context} {line : ℕ} {pri : Bool} {arms : Arms} {open_arms : List Enabled}
+      → enabled arms [] s ≡ Gives open_arms s' → Step (left (Do (Alt line pri arms)) k) s (left (choosing line pri open_arms) k) s'
   take_in : {s s' : Store} {k : List Context} {again : List Setting} {what : Taken} {t : Option Term}
-      → taken_by again what s ≡ Gives t s' → Step (left (Taking again what) k) s (left (Do (or_stop t)) k) s'
+      → taken_by again what s ≡ Gives t s' → Step (left (Taking again what) k) s (left (Do (or_stop 0 t)) k) s'
   seq_empty : {s : Store} {k : List Context} → Step (left (Do (Seq no_terms)) k) s (left (Do Skip) k) s
   seq : {s : Store} {k : List Context} {t : Term} {ts : Terms} → Step (left (Do (Seq (then_term t ts))) k) s (left (Do t) (Then ts ∷ k)) s
   -- a first part Skip is dropped
   drops : {s : Store} {k : List Context} {ts : Terms} → Step (left (Do Skip) (Then ts ∷ k)) s (left (Do (Seq ts)) k) s
-  par_empty : {s : Store} {k : List Context} → Step (left (Do (Par no_branches)) k) s (left (Do Skip) k) s
-  par : {s : Store} {k : List Context} {n : ℕ} {b : Term} {bs : Branches}
-      → Step (left (Do (Par (and_branch n b bs))) k) s (left (Forking (and_branch n b bs)) k) s
-  if_step : {s s' : Store} {k : List Context} {cs : Choices} {t : Option Term}
-      → choice_of cs s ≡ Gives t s' → Step (left (Do (If cs)) k) s (left (Do (or_stop t)) k) s'
-  case : {s s' : Store} {k : List Context} {x : Expression} {os : Options} {t : Option Term}
-      → option_of x os s ≡ Gives t s' → Step (left (Do (Case x os)) k) s (left (Do (or_stop t)) k) s'
-  while : {s : Store} {k : List Context} {e : Expression} {b : Term} → Step (left (Do (While e b)) k) s (left (Passing (WhileLoop e b)) k) s
+  par_empty : {s : Store} {k : List Context} {line : ℕ} → Step (left (Do (Par line no_branches)) k) s (left (Do Skip) k) s
+  par : {s : Store} {k : List Context} {line n : ℕ} {b : Term} {bs : Branches}
+      → Step (left (Do (Par line (and_branch n b bs))) k) s (left (Forking (and_branch n b bs)) k) s
+  if_step : {s s' : Store} {k : List Context} {line : ℕ} {cs : Choices} {t : Option Term}
+      → choice_of cs s ≡ Gives t s' → Step (left (Do (If line cs)) k) s (left (Do (or_stop line t)) k) s'
+  case : {s s' : Store} {k : List Context} {line : ℕ} {x : Expression} {os : Options} {t : Option Term}
+      → option_of x os s ≡ Gives t s' → Step (left (Do (Case line x os)) k) s (left (Do (or_stop line t)) k) s'
+  while : {s : Store} {k : List Context} {line : ℕ} {e : Expression} {b : Term} → Step (left (Do (While line e b)) k) s (left (Passing (WhileLoop e b)) k) s
   each : {s : Store} {k : List Context} {r : Replicator} {b : Term} {is : Indices}
       → indices_of r s ≡ Value is → Step (left (Do (Each r b)) k) s (left (Passing (each_loop b (index_of r) is)) k) s
   passes_again : {s s' : Store} {k : List Context} {l l' : Loop} {b : Term}

@@ -64,17 +64,17 @@ IsKept (replicator line index base count) u = u.writes index ≡ false
 abbrev mutual
   pub TermHas : Declared → Term → Type 0
   TermHas d Skip = ⊤
-  TermHas d Stop = ⊤
+  TermHas d (Stop line) = ⊤
   TermHas d (Assign ts vs) = (xs : List (Primitive × List ℕ)) × ItemsHave d vs (value_parts xs) × TargetsHave d ts (value_parts xs)
   TermHas d (Input c ts) = (p : Protocol) × (parts : List PartType) × ChannelHas d c p × (parts_after p None ≡ Some parts) × TargetsHave d ts parts
   TermHas d (Output c tag is) = (p : Protocol) × (parts : List PartType) × ChannelHas d c p × (parts_after p tag ≡ Some parts) × ItemsHave d is parts
   TermHas d (VariantInput c vs) = (p : Protocol) × ChannelHas d c p × VariantsHave d p vs
   TermHas d (Seq ts) = TermsHave d ts
-  TermHas d (Par bs) = BranchesHave d bs
-  TermHas d (Alt pri arms) = ArmsHave d arms
-  TermHas d (If cs) = ChoicesHave d cs
-  TermHas d (Case e os) = (type : Primitive) × IsTrue (is_number type) × HasType d.types e type × OptionsHave d type os
-  TermHas d (While e b) = HasType d.types e Boolean × TermHas d b
+  TermHas d (Par line bs) = BranchesHave d bs
+  TermHas d (Alt line pri arms) = ArmsHave d arms
+  TermHas d (If line cs) = ChoicesHave d cs
+  TermHas d (Case line e os) = (type : Primitive) × IsTrue (is_number type) × HasType d.types e type × OptionsHave d type os
+  TermHas d (While line e b) = HasType d.types e Boolean × TermHas d b
   TermHas d (Each r b) = ReplicatorHas d r × IsKept r (uses_of b) × TermHas d b
   TermHas d (Clear first count) = DeclarationHas d (Clearing first count)
   TermHas d (Local first value) = DeclarationHas d (Naming first value)

@@ -59,17 +59,17 @@ mutual
   -- A variant input without variants' bodies is a Variant with Skip. A replicated PAR is unfolded into its copies.
   pub data Term : Type 0 where
     Skip : Term
-    Stop : Term
+    Stop : (line : ℕ) → Term
     Assign : (targets : List Target) (values : List Item) → Term
     Input : (channel : Place) (targets : List Target) → Term
     Output : (channel : Place) (tag : Option ℕ) (items : List Item) → Term
     VariantInput : (channel : Place) (variants : Variants) → Term
     Seq : (parts : Terms) → Term
-    Par : (branches : Branches) → Term
-    Alt : (pri : Bool) (arms : Arms) → Term
-    If : (choices : Choices) → Term
-    Case : (selector : Expression) (options : Options) → Term
-    While : (test : Expression) (body : Term) → Term
+    Par : (line : ℕ) (branches : Branches) → Term
+    Alt : (line : ℕ) (pri : Bool) (arms : Arms) → Term
+    If : (line : ℕ) (choices : Choices) → Term
+    Case : (line : ℕ) (selector : Expression) (options : Options) → Term
+    While : (line : ℕ) (test : Expression) (body : Term) → Term
     Each : (over : Replicator) (body : Term) → Term
     Clear : (first count : ℕ) → Term
     Local : (first : ℕ) (value : Item) → Term

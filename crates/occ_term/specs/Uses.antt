@@ -161,17 +161,17 @@ uses_of_replicator (replicator line index base count) = with_use (reading (union
 abbrev mutual
   pub uses_of : Term → Uses
   uses_of Skip = no_use
-  uses_of Stop = no_use
+  uses_of (Stop line) = no_use
   uses_of (Assign ts vs) = with_use (reading (reads_of_items vs)) (uses_of_targets ts)
   uses_of (Input c ts) = with_use (input_place c) (uses_of_targets ts)
   uses_of (Output c tag is) = with_use (output_place c) (reading (reads_of_items is))
   uses_of (VariantInput c vs) = with_use (input_place c) (uses_of_variants vs)
   uses_of (Seq ts) = uses_of_terms ts
-  uses_of (Par bs) = uses_of_branches bs
-  uses_of (Alt pri arms) = uses_of_arms arms
-  uses_of (If cs) = uses_of_choices cs
-  uses_of (Case e os) = with_use (reading (reads_of e)) (uses_of_options os)
-  uses_of (While e b) = with_use (reading (reads_of e)) (uses_of b)
+  uses_of (Par line bs) = uses_of_branches bs
+  uses_of (Alt line pri arms) = uses_of_arms arms
+  uses_of (If line cs) = uses_of_choices cs
+  uses_of (Case line e os) = with_use (reading (reads_of e)) (uses_of_options os)
+  uses_of (While line e b) = with_use (reading (reads_of e)) (uses_of b)
   uses_of (Each r b) = with_use (uses_of_replicator r) (uses_of b)
   uses_of (Clear first count) = uses_of_declaration (Clearing first count)
   uses_of (Local first value) = uses_of_declaration (Naming first value)
@@ -231,17 +231,17 @@ ApartFromAll a (and_branch n t bs) = StayApart a (uses_of t) × ApartFromAll a b
 abbrev mutual
   pub LawfulTerm : Term → Type 0
   LawfulTerm Skip = ⊤
-  LawfulTerm Stop = ⊤
+  LawfulTerm (Stop line) = ⊤
   LawfulTerm (Assign ts vs) = ⊤
   LawfulTerm (Input c ts) = ⊤
   LawfulTerm (Output c tag is) = ⊤
   LawfulTerm (VariantInput c vs) = LawfulVariants vs
   LawfulTerm (Seq ts) = LawfulTerms ts
-  LawfulTerm (Par bs) = LawfulBranches bs
-  LawfulTerm (Alt pri arms) = LawfulArms arms
-  LawfulTerm (If cs) = LawfulChoices cs
-  LawfulTerm (Case e os) = LawfulOptions os
-  LawfulTerm (While e b) = LawfulTerm b
+  LawfulTerm (Par line bs) = LawfulBranches bs
+  LawfulTerm (Alt line pri arms) = LawfulArms arms
+  LawfulTerm (If line cs) = LawfulChoices cs
+  LawfulTerm (Case line e os) = LawfulOptions os
+  LawfulTerm (While line e b) = LawfulTerm b
   LawfulTerm (Each r b) = LawfulTerm b
   LawfulTerm (Clear first count) = ⊤
   LawfulTerm (Local first value) = ⊤

@@ -133,17 +133,17 @@ option_step (Selection-F.Otherwise ds body) others = T.or_else (declarations_of 
 
 abbrev pub term_step : Seen Term-F → T.Term
 term_step Term-F.Skip = T.Skip
-term_step Term-F.Stop = T.Stop
+term_step (Term-F.Stop line) = T.Stop line
 term_step (Term-F.Assign targets values) = T.Assign (targets_of targets) (items_of values)
 term_step (Term-F.Input channel targets) = T.Input (place_of channel) (targets_of targets)
 term_step (Term-F.Output channel tag items) = T.Output (place_of channel) tag (items_of items)
 term_step (Term-F.VariantInput channel vs) = T.VariantInput (place_of channel) (variants vs)
 term_step (Term-F.Seq parts) = T.Seq (terms parts)
-term_step (Term-F.Par bs) = T.Par (branches bs)
-term_step (Term-F.Alt pri within) = T.Alt pri (arms within)
-term_step (Term-F.If within) = T.If (choices within)
-term_step (Term-F.Case selector os) = T.Case (expression_of selector) (options os)
-term_step (Term-F.While test body) = T.While (expression_of test) body
+term_step (Term-F.Par line bs) = T.Par line (branches bs)
+term_step (Term-F.Alt line pri within) = T.Alt line pri (arms within)
+term_step (Term-F.If line within) = T.If line (choices within)
+term_step (Term-F.Case line selector os) = T.Case line (expression_of selector) (options os)
+term_step (Term-F.While line test body) = T.While line (expression_of test) body
 term_step (Term-F.Each over body) = T.Each (replicator_of over) body
 term_step (Term-F.Clear line first count) = T.Clear first count
 term_step (Term-F.Local line first value) = T.Local first (item_of value)

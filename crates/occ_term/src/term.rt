@@ -9,8 +9,8 @@ use sqlite_items::Items;
 pub enum Term {
     /// SKIP: does nothing.
     Skip,
-    /// STOP: halts its process.
-    Stop,
+    /// STOP, with the line: halts its process.
+    Stop(u32),
     /// An assignment: the targets, and as many values.
     Assign(Items<Target>, Items<Item>),
     /// An input: the channel and the targets.
@@ -21,16 +21,16 @@ pub enum Term {
     VariantInput(Place, Listed<Variant>),
     /// SEQ: one after the other.
     Seq(Listed<Term>),
-    /// PAR: its branches beside each other.
-    Par(Listed<Branch>),
-    /// ALT, by priority where the truth value says so.
-    Alt(bool, Listed<Arm>),
-    /// IF: the first choice whose condition is TRUE.
-    If(Listed<Choice>),
-    /// CASE: the option with the selector's value.
-    Case(TermExpr, Listed<Selection>),
-    /// WHILE: the condition and the body.
-    While(TermExpr, Nested<Term>),
+    /// PAR: the line, and its branches beside each other.
+    Par(u32, Listed<Branch>),
+    /// ALT: the line, whether by priority, and the arms.
+    Alt(u32, bool, Listed<Arm>),
+    /// IF: the line, and the choices, of which the first is done whose condition is TRUE.
+    If(u32, Listed<Choice>),
+    /// CASE: the line, the selector, and the options, of which that with its value is done.
+    Case(u32, TermExpr, Listed<Selection>),
+    /// WHILE: the line, the condition and the body.
+    While(u32, TermExpr, Nested<Term>),
     /// A replicated SEQ: the body for each value of the index.
     Each(Replicator, Nested<Term>),
     /// A declared variable begins: the line, the number of its first cell, and how many cells it has.
@@ -44,17 +44,17 @@ impl Drop for Term {
     fn drop(self) {
         match self {
             Term::Skip => {}
-            Term::Stop => {}
+            Term::Stop(_) => {}
             Term::Assign(_, _) => {}
             Term::Input(_, _) => {}
             Term::Output(_, _, _) => {}
             Term::VariantInput(_, _) => {}
             Term::Seq(_) => {}
-            Term::Par(_) => {}
-            Term::Alt(_, _) => {}
-            Term::If(_) => {}
-            Term::Case(_, _) => {}
-            Term::While(_, _) => {}
+            Term::Par(_, _) => {}
+            Term::Alt(_, _, _) => {}
+            Term::If(_, _) => {}
+            Term::Case(_, _, _) => {}
+            Term::While(_, _, _) => {}
             Term::Each(_, _) => {}
             Term::Clear(_, _, _) => {}
             Term::Local(_, _, _) => {}
