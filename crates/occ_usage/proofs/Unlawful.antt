@@ -82,17 +82,17 @@ none_later a (T.and_branch n t bs) h rule c = both_false (none_breaks a (uses_of
 mutual
   pub lawful_term : (x : T.Term) → NoneBreaks (λ clash. clash_in clash x) → LawfulTerm x
   lawful_term T.Skip h = tt
-  lawful_term T.Stop h = tt
+  lawful_term (T.Stop line) h = tt
   lawful_term (T.Assign ts vs) h = tt
   lawful_term (T.Input c ts) h = tt
   lawful_term (T.Output c tag items) h = tt
   lawful_term (T.VariantInput c vs) h = lawful_variants vs h
   lawful_term (T.Seq ts) h = lawful_terms ts h
-  lawful_term (T.Par bs) h = lawful_branches bs h
-  lawful_term (T.Alt pri arms) h = lawful_arms arms h
-  lawful_term (T.If cs) h = lawful_choices cs h
-  lawful_term (T.Case e os) h = lawful_options os h
-  lawful_term (T.While e b) h = lawful_term b h
+  lawful_term (T.Par line bs) h = lawful_branches bs h
+  lawful_term (T.Alt line pri arms) h = lawful_arms arms h
+  lawful_term (T.If line cs) h = lawful_choices cs h
+  lawful_term (T.Case line e os) h = lawful_options os h
+  lawful_term (T.While line e b) h = lawful_term b h
   lawful_term (T.Each r b) h = lawful_term b h
   lawful_term (T.Clear first count) h = tt
   lawful_term (T.Local first value) h = tt
@@ -138,17 +138,17 @@ mutual
 mutual
   pub no_term : (x : T.Term) → LawfulTerm x → NoneBreaks (λ clash. clash_in clash x)
   no_term T.Skip h rule n = refl
-  no_term T.Stop h rule n = refl
+  no_term (T.Stop line) h rule n = refl
   no_term (T.Assign ts vs) h rule n = refl
   no_term (T.Input c ts) h rule n = refl
   no_term (T.Output c tag items) h rule n = refl
   no_term (T.VariantInput c vs) h rule n = no_variants_clash vs h rule n
   no_term (T.Seq ts) h rule n = no_terms_clash ts h rule n
-  no_term (T.Par bs) h rule n = no_branches_clash bs h rule n
-  no_term (T.Alt pri arms) h rule n = no_arms_clash arms h rule n
-  no_term (T.If cs) h rule n = no_choices_clash cs h rule n
-  no_term (T.Case e os) h rule n = no_options_clash os h rule n
-  no_term (T.While e b) h rule n = no_term b h rule n
+  no_term (T.Par line bs) h rule n = no_branches_clash bs h rule n
+  no_term (T.Alt line pri arms) h rule n = no_arms_clash arms h rule n
+  no_term (T.If line cs) h rule n = no_choices_clash cs h rule n
+  no_term (T.Case line e os) h rule n = no_options_clash os h rule n
+  no_term (T.While line e b) h rule n = no_term b h rule n
   no_term (T.Each r b) h rule n = no_term b h rule n
   no_term (T.Clear first count) h rule n = refl
   no_term (T.Local first value) h rule n = refl

@@ -201,34 +201,34 @@ ok_with {A} {E} r {P} {Q} p f = by r p
 -- nothing stands within
 abbrev pub is_alone : T.Term → Bool
 is_alone T.Skip = true
-is_alone T.Stop = true
+is_alone (T.Stop line) = true
 is_alone (T.Assign ts vs) = true
 is_alone (T.Input c ts) = true
 is_alone (T.Output c tag is) = true
 is_alone (T.VariantInput c vs) = false
 is_alone (T.Seq ts) = false
-is_alone (T.Par bs) = false
-is_alone (T.Alt pri arms) = false
-is_alone (T.If cs) = false
-is_alone (T.Case e os) = false
-is_alone (T.While e b) = false
+is_alone (T.Par line bs) = false
+is_alone (T.Alt line pri arms) = false
+is_alone (T.If line cs) = false
+is_alone (T.Case line e os) = false
+is_alone (T.While line e b) = false
 is_alone (T.Each r b) = false
 is_alone (T.Clear first count) = true
 is_alone (T.Local first value) = true
 
 pub alone : (t : T.Term) {a b : List Use} (f : Option Found) → is_alone t ≡ true → Adds a (head_of t) b → Covers (uses_of t) (λ clash. clash_in clash t) a b f f
 alone T.Skip f e h = covers_adds f h
-alone T.Stop f e h = covers_adds f h
+alone (T.Stop line) f e h = covers_adds f h
 alone (T.Assign ts vs) f e h = covers_adds f h
 alone (T.Input c ts) f e h = covers_adds f h
 alone (T.Output c tag is) f e h = covers_adds f h
 alone (T.VariantInput c vs) f e h = absurd cc
 alone (T.Seq ts) f e h = absurd cc
-alone (T.Par bs) f e h = absurd cc
-alone (T.Alt pri arms) f e h = absurd cc
-alone (T.If cs) f e h = absurd cc
-alone (T.Case c os) f e h = absurd cc
-alone (T.While c b) f e h = absurd cc
+alone (T.Par line bs) f e h = absurd cc
+alone (T.Alt line pri arms) f e h = absurd cc
+alone (T.If line cs) f e h = absurd cc
+alone (T.Case line c os) f e h = absurd cc
+alone (T.While line c b) f e h = absurd cc
 alone (T.Each r b) f e h = absurd cc
 alone (T.Clear first count) f e h = covers_adds f h
 alone (T.Local first value) f e h = covers_adds f h

@@ -26,17 +26,17 @@ with_a_later clash a (and_branch n t bs) = clash a (uses_of t) || with_a_later c
 abbrev mutual
   pub clash_in : Clash → Term → Bool
   clash_in clash Skip = false
-  clash_in clash Stop = false
+  clash_in clash (Stop line) = false
   clash_in clash (Assign ts vs) = false
   clash_in clash (Input c ts) = false
   clash_in clash (Output c tag is) = false
   clash_in clash (VariantInput c vs) = clash_in_variants clash vs
   clash_in clash (Seq ts) = clash_in_terms clash ts
-  clash_in clash (Par bs) = clash_in_branches clash bs
-  clash_in clash (Alt pri arms) = clash_in_arms clash arms
-  clash_in clash (If cs) = clash_in_choices clash cs
-  clash_in clash (Case e os) = clash_in_options clash os
-  clash_in clash (While e b) = clash_in clash b
+  clash_in clash (Par line bs) = clash_in_branches clash bs
+  clash_in clash (Alt line pri arms) = clash_in_arms clash arms
+  clash_in clash (If line cs) = clash_in_choices clash cs
+  clash_in clash (Case line e os) = clash_in_options clash os
+  clash_in clash (While line e b) = clash_in clash b
   clash_in clash (Each r b) = clash_in clash b
   clash_in clash (Clear first count) = false
   clash_in clash (Local first value) = false

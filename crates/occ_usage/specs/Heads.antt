@@ -5,17 +5,17 @@ use Rattle.occ_term.specs.Uses.{Uses, no_use, with_use, reading, reads_of, reads
 
 abbrev pub head_of : Term → Uses
 head_of Skip = no_use
-head_of Stop = no_use
+head_of (Stop line) = no_use
 head_of (Assign ts vs) = with_use (reading (reads_of_items vs)) (uses_of_targets ts)
 head_of (Input c ts) = with_use (input_place c) (uses_of_targets ts)
 head_of (Output c tag is) = with_use (output_place c) (reading (reads_of_items is))
 head_of (VariantInput c vs) = input_place c
 head_of (Seq ts) = no_use
-head_of (Par bs) = no_use
-head_of (Alt pri arms) = no_use
-head_of (If cs) = no_use
-head_of (Case e os) = reading (reads_of e)
-head_of (While e b) = reading (reads_of e)
+head_of (Par line bs) = no_use
+head_of (Alt line pri arms) = no_use
+head_of (If line cs) = no_use
+head_of (Case line e os) = reading (reads_of e)
+head_of (While line e b) = reading (reads_of e)
 head_of (Each r b) = uses_of_replicator r
 head_of (Clear first count) = uses_of_declaration (Clearing first count)
 head_of (Local first value) = uses_of_declaration (Naming first value)

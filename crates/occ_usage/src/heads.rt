@@ -19,7 +19,7 @@ pub fn note_head(term: &Term, noted: &mut Noted) -> Result<(), AllocError>
 {
     match term {
         Term::Skip => Ok(()),
-        Term::Stop => Ok(()),
+        Term::Stop(_) => Ok(()),
         Term::Assign(targets, values) => note_assignment(
             targets.as_slice(),
             values.as_slice(),
@@ -29,11 +29,11 @@ pub fn note_head(term: &Term, noted: &mut Noted) -> Result<(), AllocError>
         Term::Output(channel, _, items) => note_output_of(channel, items.as_slice(), noted),
         Term::VariantInput(channel, _) => note_input(channel, noted),
         Term::Seq(_) => Ok(()),
-        Term::Par(_) => Ok(()),
-        Term::Alt(_, _) => Ok(()),
-        Term::If(_) => Ok(()),
-        Term::Case(selector, _) => note_expression(selector, noted),
-        Term::While(test, _) => note_expression(test, noted),
+        Term::Par(_, _) => Ok(()),
+        Term::Alt(_, _, _) => Ok(()),
+        Term::If(_, _) => Ok(()),
+        Term::Case(_, selector, _) => note_expression(selector, noted),
+        Term::While(_, test, _) => note_expression(test, noted),
         Term::Each(over, _) => note_replicator(over, noted),
         Term::Clear(line, first, count) => note_clearing(*line, *first, *count, noted),
         Term::Local(line, first, value) => note_naming(*line, *first, value, noted),

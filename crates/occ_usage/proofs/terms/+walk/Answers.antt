@@ -47,32 +47,32 @@ note_term-returns-in-Seq t c =
 pub note_term-returns-in-Par : goal.note_term-returns-in-Par
 note_term-returns-in-Par t c =
     let parts = branches_of c.as_slice-in-Par.result.now in
-    let seen : T.Par parts ≡ term_of c.args.term.now = search (rules, the_lemmas) in
-    with_within c.note_branches.result (T.Par parts) _ (uses_of_branches parts) (λ clash. clash_in_branches clash parts) c.note_branches.new.noted.uses c.args.found.now c.note_branches.new.found seen refl refl c.in_ok-note_head.ensures c.note_branches.ensures
+    let seen : T.Par c.in-Par.field-0 parts ≡ term_of c.args.term.now = search (rules, the_lemmas) in
+    with_within c.note_branches.result (T.Par c.in-Par.field-0 parts) _ (uses_of_branches parts) (λ clash. clash_in_branches clash parts) c.note_branches.new.noted.uses c.args.found.now c.note_branches.new.found seen refl refl c.in_ok-note_head.ensures c.note_branches.ensures
 
 pub note_term-returns-in-Alt : goal.note_term-returns-in-Alt
 note_term-returns-in-Alt t c =
     let parts = arms_of c.as_slice-in-Alt.result.now in
-    let seen : T.Alt c.in-Alt.field-0 parts ≡ term_of c.args.term.now = search (rules, the_lemmas) in
-    with_within c.note_arms.result (T.Alt c.in-Alt.field-0 parts) _ (uses_of_arms parts) (λ clash. clash_in_arms clash parts) c.note_arms.new.noted.uses c.args.found.now c.note_arms.new.found seen refl refl c.in_ok-note_head.ensures c.note_arms.ensures
+    let seen : T.Alt c.in-Alt.field-0 c.in-Alt.field-1 parts ≡ term_of c.args.term.now = search (rules, the_lemmas) in
+    with_within c.note_arms.result (T.Alt c.in-Alt.field-0 c.in-Alt.field-1 parts) _ (uses_of_arms parts) (λ clash. clash_in_arms clash parts) c.note_arms.new.noted.uses c.args.found.now c.note_arms.new.found seen refl refl c.in_ok-note_head.ensures c.note_arms.ensures
 
 pub note_term-returns-in-If : goal.note_term-returns-in-If
 note_term-returns-in-If t c =
     let parts = choices_of c.as_slice-in-If.result.now in
-    let seen : T.If parts ≡ term_of c.args.term.now = search (rules, the_lemmas) in
-    with_within c.note_choices.result (T.If parts) _ (uses_of_choices parts) (λ clash. clash_in_choices clash parts) c.note_choices.new.noted.uses c.args.found.now c.note_choices.new.found seen refl refl c.in_ok-note_head.ensures c.note_choices.ensures
+    let seen : T.If c.in-If.field-0 parts ≡ term_of c.args.term.now = search (rules, the_lemmas) in
+    with_within c.note_choices.result (T.If c.in-If.field-0 parts) _ (uses_of_choices parts) (λ clash. clash_in_choices clash parts) c.note_choices.new.noted.uses c.args.found.now c.note_choices.new.found seen refl refl c.in_ok-note_head.ensures c.note_choices.ensures
 
 pub note_term-returns-in-Case : goal.note_term-returns-in-Case
 note_term-returns-in-Case t c =
     let parts = options_of c.as_slice-in-Case.result.now in
-    let seen : T.Case (expression_of c.in-Case.field-0) parts ≡ term_of c.args.term.now = search (rules, the_lemmas) in
-    with_within c.note_options.result (T.Case (expression_of c.in-Case.field-0) parts) _ (uses_of_options parts) (λ clash. clash_in_options clash parts) c.note_options.new.noted.uses c.args.found.now c.note_options.new.found seen refl refl c.in_ok-note_head.ensures c.note_options.ensures
+    let seen : T.Case c.in-Case.field-0 (expression_of c.in-Case.field-1) parts ≡ term_of c.args.term.now = search (rules, the_lemmas) in
+    with_within c.note_options.result (T.Case c.in-Case.field-0 (expression_of c.in-Case.field-1) parts) _ (uses_of_options parts) (λ clash. clash_in_options clash parts) c.note_options.new.noted.uses c.args.found.now c.note_options.new.found seen refl refl c.in_ok-note_head.ensures c.note_options.ensures
 
 pub note_term-returns-in-While : goal.note_term-returns-in-While
 note_term-returns-in-While t c =
     let body = term_of c.get.result.now in
-    let seen : T.While (expression_of c.in-While.field-0) body ≡ term_of c.args.term.now = search (rules, the_lemmas) in
-    with_within c.note_term.result (T.While (expression_of c.in-While.field-0) body) _ (uses_of body) (λ clash. clash_in clash body) c.note_term.new.noted.uses c.args.found.now c.note_term.new.found seen refl refl c.in_ok-note_head.ensures c.note_term.ensures
+    let seen : T.While c.in-While.field-0 (expression_of c.in-While.field-1) body ≡ term_of c.args.term.now = search (rules, the_lemmas) in
+    with_within c.note_term.result (T.While c.in-While.field-0 (expression_of c.in-While.field-1) body) _ (uses_of body) (λ clash. clash_in clash body) c.note_term.new.noted.uses c.args.found.now c.note_term.new.found seen refl refl c.in_ok-note_head.ensures c.note_term.ensures
 
 pub note_term-returns-in-Each : goal.note_term-returns-in-Each
 note_term-returns-in-Each t c =
