@@ -116,15 +116,15 @@ mutual
     (λ ds s d k. refl),
     then_some _ _ _ o (then_some _ _ _ (met sc (λ ns. indexed ns line (depth + 1) r m) x) (then_some _ _ _ (inside (unfolded p) i.names sc (complete u)) refl)),
   )
-  performs_complete (runs_beside {ps = ps} m u) = (beside (all_beside ps), (λ ds s d k. refl), then_some _ _ _ m (then_some _ _ _ (beside_complete u) refl))
+  performs_complete (runs_beside {line = line} {ps = ps} m u) = (beside line (all_beside ps), (λ ds s d k. refl), then_some _ _ _ m (then_some _ _ _ (beside_complete u) refl))
   performs_complete (replicates_branch {sc = sc} {line = line} {r = r} {p = p} c m u) =
       (copies_beside line r (unfolded p), (λ ds s d k. refl), then_some _ _ _ (met sc (λ ns. copies_of ns line r) c) (then_some _ _ _ m (then_some _ _ _ (copies_complete u) refl)))
-  performs_complete (alternates {pri = pri} {xs = xs} m u) = (alternated pri (all_arms xs), (λ ds s d k. refl), then_some _ _ _ m (then_some _ _ _ (arms_complete u) refl))
+  performs_complete (alternates {line = line} {pri = pri} {xs = xs} m u) = (alternated line pri (all_arms xs), (λ ds s d k. refl), then_some _ _ _ m (then_some _ _ _ (arms_complete u) refl))
   performs_complete (replicates_alternation {line = line} {pri = pri} {r = r} {a = a} m u) =
-      (alternated pri (each_of_arms line r (arm_unfolded a)), (λ ds s d k. refl), then_some _ _ _ m (then_some _ _ _ (each_arm_complete u) refl))
-  performs_complete (conditions {xs = xs} m u) = (conditioned (all_choices xs), (λ ds s d k. refl), then_some _ _ _ m (then_some _ _ _ (choices_complete u) refl))
+      (alternated line pri (each_of_arms line r (arm_unfolded a)), (λ ds s d k. refl), then_some _ _ _ m (then_some _ _ _ (each_arm_complete u) refl))
+  performs_complete (conditions {line = line} {xs = xs} m u) = (conditioned line (all_choices xs), (λ ds s d k. refl), then_some _ _ _ m (then_some _ _ _ (choices_complete u) refl))
   performs_complete (replicates_conditional {line = line} {r = r} {c = c} m u) =
-      (conditioned (each_of_choices line r (choice_unfolded c)), (λ ds s d k. refl), then_some _ _ _ m (then_some _ _ _ (each_choice_complete u) refl))
+      (conditioned line (each_of_choices line r (choice_unfolded c)), (λ ds s d k. refl), then_some _ _ _ m (then_some _ _ _ (each_choice_complete u) refl))
   performs_complete (selects {sc = sc} {line = line} {e = e} {xs = xs} s m u) =
       (selected line e (λ type. all_options xs type none_chosen), (λ ds s d k. refl), then_some _ _ _ (met sc (λ ns. selector ns line e) s) (then_some _ _ _ m (then_some _ _ _ (options_complete u) refl)))
   performs_complete (loops {sc = sc} {line = line} {e = e} {p = p} c m u) =

@@ -78,7 +78,7 @@ pub refuses_overlap : term_of_program overlapping ≡ None
 unfolding each_of find within from_number component_names typed typed_chain typed_operand typed_subscripts size_of_operand size_of_expression each_size sent_items tag_number targets_of assigned_items each_declared other_formals all_evaluated all_actuals choosing copied unfolded all_in_turn all_beside arm_unfolded all_arms choice_unfolded all_choices variant_unfolded all_variants option_unfolded all_options all_declared declared item_declared main_of other_names items_declared
 refuses_overlap = refl
 
-pub copies_none : term_of_program no_copies ≡ Some (T.Par T.no_branches)
+pub copies_none : term_of_program no_copies ≡ Some (T.Par 2 T.no_branches)
 unfolding each_of find within from_number component_names typed typed_chain typed_operand typed_subscripts size_of_operand size_of_expression each_size sent_items tag_number targets_of assigned_items each_declared other_formals all_evaluated all_actuals choosing copied unfolded all_in_turn all_beside arm_unfolded all_arms choice_unfolded all_choices variant_unfolded all_variants option_unfolded all_options all_declared declared item_declared main_of other_names items_declared
 copies_none = refl
 

@@ -259,14 +259,14 @@ mutual
   performs_counted (replicates_sequence {sc = sc} {line = line} {depth = depth} {m = m} {l = l} {r = r} {i = i} {t = t} o x u) =
       counted_node no_size (size_of_replicator i.replicator (size_of t)) (size_of (T.Each i.replicator t)) o
       (replicated_counted (names_of sc) line (depth + 1) r m i (size_of t) l x (unfolding_counted u)) (omega arith) (omega arith)
-  performs_counted (runs_beside {bs = bs} m u) = counted_node no_size (size_of_branches bs) (size_of (T.Par bs)) m (beside_counted u) (omega arith) (omega arith)
-  performs_counted (replicates_branch {bs = bs} c m u) = counted_node no_size (size_of_branches bs) (size_of (T.Par bs)) m (copies_counted u) (omega arith) (omega arith)
-  performs_counted (alternates {pri = pri} {arms = arms} m u) = counted_node no_size (size_of_arms arms) (size_of (T.Alt pri arms)) m (arms_counted u) (omega arith) (omega arith)
-  performs_counted (replicates_alternation {pri = pri} {arms = arms} m u) = counted_node no_size (size_of_arms arms) (size_of (T.Alt pri arms)) m (each_arm_counted u) (omega arith) (omega arith)
-  performs_counted (conditions {choices = choices} m u) = counted_node no_size (size_of_choices choices) (size_of (T.If choices)) m (choices_counted u) (omega arith) (omega arith)
-  performs_counted (replicates_conditional {choices = choices} m u) = counted_node no_size (size_of_choices choices) (size_of (T.If choices)) m (each_choice_counted u) (omega arith) (omega arith)
-  performs_counted (selects {s = s} {os = os} e m u) = counted_node (size_of_expression s.1) (size_of_options os) (size_of (T.Case s.1 os)) m (options_counted u) refl (omega arith)
-  performs_counted (loops {c = c} {t = t} e m u) = counted_node (size_of_expression c) (size_of t) (size_of (T.While c t)) m (unfolding_counted u) refl (omega arith)
+  performs_counted (runs_beside {line = line} {bs = bs} m u) = counted_node no_size (size_of_branches bs) (size_of (T.Par line bs)) m (beside_counted u) (omega arith) (omega arith)
+  performs_counted (replicates_branch {line = line} {bs = bs} c m u) = counted_node no_size (size_of_branches bs) (size_of (T.Par line bs)) m (copies_counted u) (omega arith) (omega arith)
+  performs_counted (alternates {line = line} {pri = pri} {arms = arms} m u) = counted_node no_size (size_of_arms arms) (size_of (T.Alt line pri arms)) m (arms_counted u) (omega arith) (omega arith)
+  performs_counted (replicates_alternation {line = line} {pri = pri} {arms = arms} m u) = counted_node no_size (size_of_arms arms) (size_of (T.Alt line pri arms)) m (each_arm_counted u) (omega arith) (omega arith)
+  performs_counted (conditions {line = line} {choices = choices} m u) = counted_node no_size (size_of_choices choices) (size_of (T.If line choices)) m (choices_counted u) (omega arith) (omega arith)
+  performs_counted (replicates_conditional {line = line} {choices = choices} m u) = counted_node no_size (size_of_choices choices) (size_of (T.If line choices)) m (each_choice_counted u) (omega arith) (omega arith)
+  performs_counted (selects {line = line} {s = s} {os = os} e m u) = counted_node (size_of_expression s.1) (size_of_options os) (size_of (T.Case line s.1 os)) m (options_counted u) refl (omega arith)
+  performs_counted (loops {line = line} {c = c} {t = t} e m u) = counted_node (size_of_expression c) (size_of t) (size_of (T.While line c t)) m (unfolding_counted u) refl (omega arith)
 
   in_turn_counted : {sc : Procedures} {depth : ℕ} {n m : Numbers} {ps : Nodes process} {ts : Terms} → InTurn sc depth n ps ts m → Counted depth (size_of_terms ts) n m
   in_turn_counted no_process = counted_none refl

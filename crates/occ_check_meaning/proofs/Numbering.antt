@@ -158,7 +158,7 @@ mutual
 
   performs_numbered : {sc : Procedures} {line depth : ℕ} {n m : Numbers} {h : ProcessHead} {b : Body (under process h)} {t : Term} → Performs sc line depth n h b t m → NumberedUpTo n.processes (branches_in t) m.processes
   performs_numbered (skips {depth = depth} {n = n} {m = m} r) = no_process_in depth n m T.Skip refl r
-  performs_numbered (stops {depth = depth} {n = n} {m = m} r) = no_process_in depth n m T.Stop refl r
+  performs_numbered (stops {line = line} {depth = depth} {n = n} {m = m} r) = no_process_in depth n m (T.Stop line) refl r
   performs_numbered (assigns {sc = sc} {line = line} {depth = depth} {n = n} {m = m} {v = v} {vs = vs} {e = e} {es = es} {t = t} a r) = no_process_in depth n m t (assigned_branches (names_of sc) line (v ∷ vs) (e ∷ es) t a) r
   performs_numbered (inputs {depth = depth} {n = n} {m = m} {c = c} a r) = no_process_in depth n m (as_input c) (input_branches c) r
   performs_numbered (outputs {sc = sc} {line = line} {depth = depth} {n = n} {m = m} {v = v} {o = o} {os = os} {t = t} a r) = no_process_in depth n m t (output_branches (names_of sc) line v o os t a) r

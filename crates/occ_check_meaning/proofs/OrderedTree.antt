@@ -180,7 +180,7 @@ module _ (d : Declared) where
 
     performs_takes : {sc : Procedures} {line depth : ℕ} {n m : Numbers} {h : ProcessHead} {b : Body (under process h)} {t : Term} → Performs sc line depth n h b t m → In d sc n → Covers d m → Takes n (cells_in t) m
     performs_takes (skips {depth = depth} {n = n} {m = m} r) h c = nothing T.Skip depth n m refl r
-    performs_takes (stops {depth = depth} {n = n} {m = m} r) h c = nothing T.Stop depth n m refl r
+    performs_takes (stops {line = line} {depth = depth} {n = n} {m = m} r) h c = nothing (T.Stop line) depth n m refl r
     performs_takes (assigns {sc = sc} {line = line} {depth = depth} {n = n} {m = m} {v = v} {vs = vs} {e = e} {es = es} {t = t} a r) h c = nothing t depth n m (assigned_cells (names_of sc) line (v ∷ vs) (e ∷ es) t a) r
     performs_takes (inputs {depth = depth} {n = n} {m = m} {c = p} a r) h c = nothing (as_input p) depth n m (input_cells p) r
     performs_takes (outputs {sc = sc} {line = line} {depth = depth} {n = n} {m = m} {v = v} {o = o} {os = os} {t = t} a r) h c = nothing t depth n m (output_cells (names_of sc) line v o os t a) r

@@ -119,7 +119,7 @@ acted_sound line skip sc h depth n x e =
     let m = bind_some (room depth (size_of T.Skip) n) _ x e in
     subst (λ y. Performs sc line depth n (act skip) no_body y.0 y.1) (some_is _ x m.2) (skips m.1)
 acted_sound line stop sc h depth n x e =
-    let m = bind_some (room depth (size_of T.Stop) n) _ x e in
+    let m = bind_some (room depth (size_of (T.Stop line)) n) _ x e in
     subst (λ y. Performs sc line depth n (act stop) no_body y.0 y.1) (some_is _ x m.2) (stops m.1)
 acted_sound line (assign v vs a as') sc h depth n x e =
     let t = bind_some (assigned (names_of (meant sc)) line (v ∷ vs) (a ∷ as')) _ x e in
@@ -159,7 +159,7 @@ each_sequenced_sound line r p f s sc h depth n x e =
     (inside f (λ sc depth n t m. Unfolding sc depth n p t m) s i.0.names sc h (depth + 1) i.0.numbers t.0 t.1))
 
 pub beside_sound : (line : ℕ) (ps : Nodes process) (f : Under Branches) → Sound f (λ sc depth n bs m. Beside sc depth n ps bs m)
-    → Sound (beside f) (Performing line (parallel None) (bodies ps))
+    → Sound (beside line f) (Performing line (parallel None) (bodies ps))
 beside_sound line ps f s sc h depth n x e =
     let m = bind_some (room depth (Sizes.with_node no_size) n) _ x e in
     let t = bind_some (f (meant sc) (depth + 1) m.0) _ x m.2 in

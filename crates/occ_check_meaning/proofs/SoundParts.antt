@@ -30,28 +30,28 @@ use Rattle.occ_check_meaning.specs.Recursion.{all_declared}
 use Rattle.occ_check_meaning.proofs.Sound.{Sound, inside, DeclaringSound, Performing}
 
 pub alternated_sound : (line : ℕ) (pri : Bool) (xs : Nodes arm) (f : Under Arms) → Sound f (λ sc depth n arms m. AllArms sc depth n xs arms m)
-    → Sound (alternated pri f) (Performing line (alternation pri None) (bodies xs))
+    → Sound (alternated line pri f) (Performing line (alternation pri None) (bodies xs))
 alternated_sound line pri xs f s sc h depth n x e =
     let m = bind_some (room depth (Sizes.with_node no_size) n) _ x e in
     let t = bind_some (f (meant sc) (depth + 1) m.0) _ x m.2 in
     subst (λ y. Performs sc line depth n (alternation pri None) (bodies xs) y.0 y.1) (some_is _ x t.2) (alternates m.1 (s sc h (depth + 1) m.0 t.0 t.1))
 
 pub each_alternated_sound : (line : ℕ) (pri : Bool) (r : L.Replicator) (a : Node arm) (f : Under Arms) → Sound f (λ sc depth n arms m. EachArm sc line depth n r a arms m)
-    → Sound (alternated pri f) (Performing line (alternation pri (Some r)) (single_body a))
+    → Sound (alternated line pri f) (Performing line (alternation pri (Some r)) (single_body a))
 each_alternated_sound line pri r a f s sc h depth n x e =
     let m = bind_some (room depth (Sizes.with_node no_size) n) _ x e in
     let t = bind_some (f (meant sc) (depth + 1) m.0) _ x m.2 in
     subst (λ y. Performs sc line depth n (alternation pri (Some r)) (single_body a) y.0 y.1) (some_is _ x t.2) (replicates_alternation m.1 (s sc h (depth + 1) m.0 t.0 t.1))
 
 pub conditioned_sound : (line : ℕ) (xs : Nodes choice) (f : Under Choices) → Sound f (λ sc depth n choices m. AllChoices sc depth n xs choices m)
-    → Sound (conditioned f) (Performing line (conditional None) (bodies xs))
+    → Sound (conditioned line f) (Performing line (conditional None) (bodies xs))
 conditioned_sound line xs f s sc h depth n x e =
     let m = bind_some (room depth (Sizes.with_node no_size) n) _ x e in
     let t = bind_some (f (meant sc) (depth + 1) m.0) _ x m.2 in
     subst (λ y. Performs sc line depth n (conditional None) (bodies xs) y.0 y.1) (some_is _ x t.2) (conditions m.1 (s sc h (depth + 1) m.0 t.0 t.1))
 
 pub each_conditioned_sound : (line : ℕ) (r : L.Replicator) (c : Node choice) (f : Under Choices) → Sound f (λ sc depth n choices m. EachChoice sc line depth n r c choices m)
-    → Sound (conditioned f) (Performing line (conditional (Some r)) (single_body c))
+    → Sound (conditioned line f) (Performing line (conditional (Some r)) (single_body c))
 each_conditioned_sound line r c f s sc h depth n x e =
     let m = bind_some (room depth (Sizes.with_node no_size) n) _ x e in
     let t = bind_some (f (meant sc) (depth + 1) m.0) _ x m.2 in

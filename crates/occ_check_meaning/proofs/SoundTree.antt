@@ -50,18 +50,18 @@ mutual
   unfolded_sound (node ds line (sequence (Some r)) (single_body p)) sc h depth n x e =
       behind_sound ds line (sequence (Some r)) (single_body p) (each_sequenced line r (unfolded p)) (declared_sound ds) (each_sequenced_sound line r p (unfolded p) (unfolded_sound p)) sc h depth n x e
   unfolded_sound (node ds line (parallel None) (bodies ps)) sc h depth n x e =
-      behind_sound ds line (parallel None) (bodies ps) (beside (all_beside ps)) (declared_sound ds) (beside_sound line ps (all_beside ps) (all_beside_sound ps)) sc h depth n x e
+      behind_sound ds line (parallel None) (bodies ps) (beside line (all_beside ps)) (declared_sound ds) (beside_sound line ps (all_beside ps) (all_beside_sound ps)) sc h depth n x e
   unfolded_sound (node ds line (parallel (Some r)) (single_body p)) sc h depth n x e =
       behind_sound ds line (parallel (Some r)) (single_body p) (copies_beside line r (unfolded p)) (declared_sound ds) (copies_sound line r p (unfolded p) (unfolded_sound p)) sc h depth n x e
   unfolded_sound (node ds line (alternation pri None) (bodies xs)) sc h depth n x e =
-      behind_sound ds line (alternation pri None) (bodies xs) (alternated pri (all_arms xs)) (declared_sound ds) (alternated_sound line pri xs (all_arms xs) (arms_sound xs)) sc h depth n x e
+      behind_sound ds line (alternation pri None) (bodies xs) (alternated line pri (all_arms xs)) (declared_sound ds) (alternated_sound line pri xs (all_arms xs) (arms_sound xs)) sc h depth n x e
   unfolded_sound (node ds line (alternation pri (Some r)) (single_body a)) sc h depth n x e =
-      behind_sound ds line (alternation pri (Some r)) (single_body a) (alternated pri (each_of_arms line r (arm_unfolded a))) (declared_sound ds)
+      behind_sound ds line (alternation pri (Some r)) (single_body a) (alternated line pri (each_of_arms line r (arm_unfolded a))) (declared_sound ds)
       (each_alternated_sound line pri r a (each_of_arms line r (arm_unfolded a)) (each_arm_sound line r a (arm_unfolded a) (arm_sound a))) sc h depth n x e
   unfolded_sound (node ds line (conditional None) (bodies xs)) sc h depth n x e =
-      behind_sound ds line (conditional None) (bodies xs) (conditioned (all_choices xs)) (declared_sound ds) (conditioned_sound line xs (all_choices xs) (choices_sound xs)) sc h depth n x e
+      behind_sound ds line (conditional None) (bodies xs) (conditioned line (all_choices xs)) (declared_sound ds) (conditioned_sound line xs (all_choices xs) (choices_sound xs)) sc h depth n x e
   unfolded_sound (node ds line (conditional (Some r)) (single_body c)) sc h depth n x e =
-      behind_sound ds line (conditional (Some r)) (single_body c) (conditioned (each_of_choices line r (choice_unfolded c))) (declared_sound ds)
+      behind_sound ds line (conditional (Some r)) (single_body c) (conditioned line (each_of_choices line r (choice_unfolded c))) (declared_sound ds)
       (each_conditioned_sound line r c (each_of_choices line r (choice_unfolded c)) (each_choice_sound line r c (choice_unfolded c) (choice_sound c))) sc h depth n x e
   unfolded_sound (node ds line (selection a) (bodies xs)) sc h depth n x e =
       behind_sound ds line (selection a) (bodies xs) (selected line a (λ type. all_options xs type none_chosen)) (declared_sound ds)

@@ -25,7 +25,7 @@ module _ (R : Numbers → Numbers → Type 0) (s : Stepping R) (numbered : (n m 
 
     pub performs_steps : {sc : Procedures} {line depth : ℕ} {n m : Numbers} {h : ProcessHead} {b : Body (under process h)} {t : Term} → Performs sc line depth n h b t m → R n m
     performs_steps (skips {depth = depth} {n = n} {m = m} r) = s.by_room depth (size_of T.Skip) n m r
-    performs_steps (stops {depth = depth} {n = n} {m = m} r) = s.by_room depth (size_of T.Stop) n m r
+    performs_steps (stops {line = line} {depth = depth} {n = n} {m = m} r) = s.by_room depth (size_of (T.Stop line)) n m r
     performs_steps (assigns {depth = depth} {n = n} {m = m} {t = t} a r) = s.by_room depth (size_of t) n m r
     performs_steps (inputs {depth = depth} {n = n} {m = m} {c = c} a r) = s.by_room depth (size_of (as_input c)) n m r
     performs_steps (outputs {depth = depth} {n = n} {m = m} {t = t} a r) = s.by_room depth (size_of t) n m r

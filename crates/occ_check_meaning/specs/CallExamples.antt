@@ -42,7 +42,7 @@ deciding = main 1 (node (more_decls (item (value_item 2 None (codes "b")
     3 (loop (alone (name (codes "b")))) (single_body (node no_decl 4 (act skip) no_body))) ∷ []
 
 abbrev pub decided : Term
-decided = T.While (T.Constant (pos 0)) T.Skip
+decided = T.While 3 (T.Constant (pos 0)) T.Skip
 
 -- ---- INT x: / WHILE TRUE / x := 1
 
@@ -50,4 +50,4 @@ abbrev pub looping : List Item
 looping = main 1 (node (ints 2 no_expression (codes "x") no_decl) 3 (loop (alone (truth true))) (single_body (set 4 (whole (codes "x")) (alone (int_literal (pos 1)))))) ∷ []
 
 abbrev pub looped_once : Term
-looped_once = in_turn (T.Clear 0 1 ∷ T.While (T.Constant (pos 1)) (into_cell 4 0 (T.Constant (pos 1))) ∷ [])
+looped_once = in_turn (T.Clear 0 1 ∷ T.While 3 (T.Constant (pos 1)) (into_cell 4 0 (T.Constant (pos 1))) ∷ [])

@@ -20,17 +20,17 @@ cells_of_all ds = map cells_of ds
 abbrev mutual
   pub cells_in : Term → List Span
   cells_in Skip = []
-  cells_in Stop = []
+  cells_in (Stop line) = []
   cells_in (Assign ts vs) = []
   cells_in (Input c ts) = []
   cells_in (Output c tag is) = []
   cells_in (VariantInput c vs) = cells_in_variants vs
   cells_in (Seq ts) = cells_in_terms ts
-  cells_in (Par bs) = cells_in_branches bs
-  cells_in (Alt pri arms) = cells_in_arms arms
-  cells_in (If cs) = cells_in_choices cs
-  cells_in (Case e os) = cells_in_options os
-  cells_in (While e b) = cells_in b
+  cells_in (Par line bs) = cells_in_branches bs
+  cells_in (Alt line pri arms) = cells_in_arms arms
+  cells_in (If line cs) = cells_in_choices cs
+  cells_in (Case line e os) = cells_in_options os
+  cells_in (While line e b) = cells_in b
   cells_in (Each r b) = index_cell r ∷ cells_in b
   cells_in (Clear first count) = cells_of (Clearing first count) ∷ []
   cells_in (Local first value) = cells_of (Naming first value) ∷ []

@@ -103,7 +103,7 @@ abbrev copy : ℕ → Term
 copy k = T.Output (place 4 3 (3 ∷ []) (one k)) None (OfOne Int (T.Constant (pos k)) ∷ [])
 
 abbrev pub copies : Term
-copies = T.Par (and_branch 1 (copy 0) (and_branch 2 (copy 1) (and_branch 3 (copy 2) no_branches)))
+copies = T.Par 3 (and_branch 1 (copy 0) (and_branch 2 (copy 1) (and_branch 3 (copy 2) no_branches)))
 
 -- ---- VAL y IS x + 1: / x := y
 
@@ -125,7 +125,7 @@ nesting = main 1 (node (ints 2 no_expression (codes "x") (more_decls (declares 3
     (single_body (node no_decl 5 (nested_alternation false None) (bodies (more_nodes (arm_on 6) (more_nodes (arm_on 7) no_node)))))) ∷ []
 
 abbrev pub nested : Term
-nested = in_turn (T.Clear 0 1 ∷ T.Alt true (each_arm (replicator 4 1 (T.Constant (pos 0)) (T.Constant (pos 2)))
+nested = in_turn (T.Clear 0 1 ∷ T.Alt 4 true (each_arm (replicator 4 1 (T.Constant (pos 0)) (T.Constant (pos 2)))
     (input_arm None (at 6) (Plain (Into (place 6 0 [] no_subscripts) ∷ []) T.Skip)
     (input_arm None (at 7) (Plain (Into (place 7 0 [] no_subscripts) ∷ []) T.Skip) no_arms)) no_arms) ∷ [])
   where

@@ -75,7 +75,7 @@ behind declared performed sc depth n = do
 
 abbrev pub acted : ℕ → Action → Under Term
 acted line skip sc depth n = taken depth n T.Skip
-acted line stop sc depth n = taken depth n T.Stop
+acted line stop sc depth n = taken depth n (T.Stop line)
 acted line (assign v vs e es) sc depth n = assigned (names_of sc) line (v ∷ vs) (e ∷ es) >>= taken depth n
 acted line (input i) sc depth n = received (names_of sc) line i >>= λ c. taken depth n (as_input c)
 acted line (output v o os) sc depth n = A.output (names_of sc) line v o os >>= taken depth n
@@ -97,11 +97,11 @@ each_sequenced line r body sc depth n = do
   x ← body (within i.names sc) (depth + 1) i.numbers
   Some (T.Each i.replicator x.0, x.1)
 
-abbrev pub beside : Under Branches → Under Term
-beside branches sc depth n = do
+abbrev pub beside : ℕ → Under Branches → Under Term
+beside line branches sc depth n = do
   m ← room depth (Sizes.with_node no_size) n
   x ← branches sc (depth + 1) m
-  Some (T.Par x.0, x.1)
+  Some (T.Par line x.0, x.1)
 
 -- a branch takes its number, and then unfolds
 abbrev pub branch : Unfolds Term → Unfolds Branches → Unfolds Branches
@@ -122,33 +122,33 @@ copies_beside line r body sc depth n = do
   c ← copies_of (names_of sc) line r
   m ← room depth (Sizes.with_node no_size) n
   x ← copied (λ i. body (within (index_of r i) sc) (depth + 1)) c.1 c.0 m
-  Some (T.Par x.0, x.1)
+  Some (T.Par line x.0, x.1)
 
-abbrev pub alternated : Bool → Under Arms → Under Term
-alternated pri arms sc depth n = do
+abbrev pub alternated : ℕ → Bool → Under Arms → Under Term
+alternated line pri arms sc depth n = do
   m ← room depth (Sizes.with_node no_size) n
   x ← arms sc (depth + 1) m
-  Some (T.Alt pri x.0, x.1)
+  Some (T.Alt line pri x.0, x.1)
 
-abbrev pub conditioned : Under Choices → Under Term
-conditioned choices sc depth n = do
+abbrev pub conditioned : ℕ → Under Choices → Under Term
+conditioned line choices sc depth n = do
   m ← room depth (Sizes.with_node no_size) n
   x ← choices sc (depth + 1) m
-  Some (T.If x.0, x.1)
+  Some (T.If line x.0, x.1)
 
 abbrev pub selected : ℕ → Expression → (Primitive → Under Options) → Under Term
 selected line e options sc depth n = do
   s ← selector (names_of sc) line e
   m ← room depth (Sizes.with_node (size_of_expression s.1)) n
   x ← options s.0 sc (depth + 1) m
-  Some (T.Case s.1 x.0, x.1)
+  Some (T.Case line s.1 x.0, x.1)
 
 abbrev pub looped : ℕ → Expression → Under Term → Under Term
 looped line e body sc depth n = do
   c ← typed_as (names_of sc) line Boolean e
   m ← room depth (Sizes.with_node (size_of_expression c)) n
   x ← body sc (depth + 1) m
-  Some (T.While c x.0, x.1)
+  Some (T.While line c x.0, x.1)
 
 abbrev pub taken_by_variant : ℕ → Var → (Protocol → Under Variants) → Under Term
 taken_by_variant line v variants sc depth n = do

@@ -19,12 +19,12 @@ unfoldable mutual
   unfolded (node ds line (input_variants v) (bodies vs)) sc depth n = behind (all_declared ds) (taken_by_variant line v (λ p. all_variants vs p [])) sc depth n
   unfolded (node ds line (sequence None) (bodies ps)) sc depth n = behind (all_declared ds) (sequenced (all_in_turn ps)) sc depth n
   unfolded (node ds line (sequence (Some r)) (single_body p)) sc depth n = behind (all_declared ds) (each_sequenced line r (unfolded p)) sc depth n
-  unfolded (node ds line (parallel None) (bodies ps)) sc depth n = behind (all_declared ds) (beside (all_beside ps)) sc depth n
+  unfolded (node ds line (parallel None) (bodies ps)) sc depth n = behind (all_declared ds) (beside line (all_beside ps)) sc depth n
   unfolded (node ds line (parallel (Some r)) (single_body p)) sc depth n = behind (all_declared ds) (copies_beside line r (unfolded p)) sc depth n
-  unfolded (node ds line (alternation pri None) (bodies xs)) sc depth n = behind (all_declared ds) (alternated pri (all_arms xs)) sc depth n
-  unfolded (node ds line (alternation pri (Some r)) (single_body a)) sc depth n = behind (all_declared ds) (alternated pri (each_of_arms line r (arm_unfolded a))) sc depth n
-  unfolded (node ds line (conditional None) (bodies xs)) sc depth n = behind (all_declared ds) (conditioned (all_choices xs)) sc depth n
-  unfolded (node ds line (conditional (Some r)) (single_body c)) sc depth n = behind (all_declared ds) (conditioned (each_of_choices line r (choice_unfolded c))) sc depth n
+  unfolded (node ds line (alternation pri None) (bodies xs)) sc depth n = behind (all_declared ds) (alternated line pri (all_arms xs)) sc depth n
+  unfolded (node ds line (alternation pri (Some r)) (single_body a)) sc depth n = behind (all_declared ds) (alternated line pri (each_of_arms line r (arm_unfolded a))) sc depth n
+  unfolded (node ds line (conditional None) (bodies xs)) sc depth n = behind (all_declared ds) (conditioned line (all_choices xs)) sc depth n
+  unfolded (node ds line (conditional (Some r)) (single_body c)) sc depth n = behind (all_declared ds) (conditioned line (each_of_choices line r (choice_unfolded c))) sc depth n
   unfolded (node ds line (selection e) (bodies xs)) sc depth n = behind (all_declared ds) (selected line e (λ type. all_options xs type none_chosen)) sc depth n
   unfolded (node ds line (loop e) (single_body p)) sc depth n = behind (all_declared ds) (looped line e (unfolded p)) sc depth n
 

@@ -13,17 +13,17 @@ use Rattle.occ_term.specs.TakenArms.{sets_of, Scoped, Opens, again_of}
 abbrev mutual
   pub EachAlt : (Arms → Type 0) → Term → Type 0
   EachAlt P Skip = ⊤
-  EachAlt P Stop = ⊤
+  EachAlt P (Stop line) = ⊤
   EachAlt P (Assign ts vs) = ⊤
   EachAlt P (Input c ts) = ⊤
   EachAlt P (Output c tag is) = ⊤
   EachAlt P (VariantInput c vs) = EachAltOfVariants P vs
   EachAlt P (Seq ts) = EachAltOfTerms P ts
-  EachAlt P (Par bs) = EachAltOfBranches P bs
-  EachAlt P (Alt pri arms) = P arms × EachAltOfArms P arms
-  EachAlt P (If cs) = EachAltOfChoices P cs
-  EachAlt P (Case e os) = EachAltOfOptions P os
-  EachAlt P (While e b) = EachAlt P b
+  EachAlt P (Par line bs) = EachAltOfBranches P bs
+  EachAlt P (Alt line pri arms) = P arms × EachAltOfArms P arms
+  EachAlt P (If line cs) = EachAltOfChoices P cs
+  EachAlt P (Case line e os) = EachAltOfOptions P os
+  EachAlt P (While line e b) = EachAlt P b
   EachAlt P (Each r b) = EachAlt P b
   EachAlt P (Clear first count) = ⊤
   EachAlt P (Local first value) = ⊤

@@ -80,7 +80,7 @@ mutual
     skips : {sc : Procedures} {line depth : ℕ} {n m : Numbers}
         → room depth (size_of T.Skip) n ≡ Some m → Performs sc line depth n (act skip) no_body T.Skip m
     stops : {sc : Procedures} {line depth : ℕ} {n m : Numbers}
-        → room depth (size_of T.Stop) n ≡ Some m → Performs sc line depth n (act stop) no_body T.Stop m
+        → room depth (size_of (T.Stop line)) n ≡ Some m → Performs sc line depth n (act stop) no_body (T.Stop line) m
     assigns : {sc : Procedures} {line depth : ℕ} {n m : Numbers} {v : Var} {vs : List Var} {e : Expression} {es : List Expression} {t : Term}
         → assigned (names_of sc) line (v ∷ vs) (e ∷ es) ≡ Some t → room depth (size_of t) n ≡ Some m
         → Performs sc line depth n (act (assign v vs e es)) no_body t m
@@ -109,31 +109,31 @@ mutual
         → Performs sc line depth n (sequence (Some r)) (single_body p) (T.Each i.replicator t) l
     runs_beside : {sc : Procedures} {line depth : ℕ} {n m l : Numbers} {ps : Nodes process} {bs : Branches}
         → room depth (Sizes.with_node no_size) n ≡ Some m → Beside sc (depth + 1) m ps bs l
-        → Performs sc line depth n (parallel None) (bodies ps) (T.Par bs) l
+        → Performs sc line depth n (parallel None) (bodies ps) (T.Par line bs) l
     replicates_branch : {sc : Procedures} {line depth : ℕ} {n m l : Numbers} {r : L.Replicator} {p : Node process} {c : ℤ × ℕ} {bs : Branches}
         → copies_of (names_of sc) line r ≡ Some c → room depth (Sizes.with_node no_size) n ≡ Some m
         → Copies sc (depth + 1) r p c.1 c.0 m bs l
-        → Performs sc line depth n (parallel (Some r)) (single_body p) (T.Par bs) l
+        → Performs sc line depth n (parallel (Some r)) (single_body p) (T.Par line bs) l
     alternates : {sc : Procedures} {line depth : ℕ} {n m l : Numbers} {pri : Bool} {xs : Nodes arm} {arms : Arms}
         → room depth (Sizes.with_node no_size) n ≡ Some m → AllArms sc (depth + 1) m xs arms l
-        → Performs sc line depth n (alternation pri None) (bodies xs) (T.Alt pri arms) l
+        → Performs sc line depth n (alternation pri None) (bodies xs) (T.Alt line pri arms) l
     replicates_alternation : {sc : Procedures} {line depth : ℕ} {n m l : Numbers} {pri : Bool} {r : L.Replicator} {a : Node arm} {arms : Arms}
         → room depth (Sizes.with_node no_size) n ≡ Some m → EachArm sc line (depth + 1) m r a arms l
-        → Performs sc line depth n (alternation pri (Some r)) (single_body a) (T.Alt pri arms) l
+        → Performs sc line depth n (alternation pri (Some r)) (single_body a) (T.Alt line pri arms) l
     conditions : {sc : Procedures} {line depth : ℕ} {n m l : Numbers} {xs : Nodes choice} {choices : Choices}
         → room depth (Sizes.with_node no_size) n ≡ Some m → AllChoices sc (depth + 1) m xs choices l
-        → Performs sc line depth n (conditional None) (bodies xs) (T.If choices) l
+        → Performs sc line depth n (conditional None) (bodies xs) (T.If line choices) l
     replicates_conditional : {sc : Procedures} {line depth : ℕ} {n m l : Numbers} {r : L.Replicator} {c : Node choice} {choices : Choices}
         → room depth (Sizes.with_node no_size) n ≡ Some m → EachChoice sc line (depth + 1) m r c choices l
-        → Performs sc line depth n (conditional (Some r)) (single_body c) (T.If choices) l
+        → Performs sc line depth n (conditional (Some r)) (single_body c) (T.If line choices) l
     selects : {sc : Procedures} {line depth : ℕ} {n m l : Numbers} {e : Expression} {xs : Nodes option} {s : Primitive × T.Expression} {os : Options}
         → selector (names_of sc) line e ≡ Some s → room depth (Sizes.with_node (size_of_expression s.1)) n ≡ Some m
         → AllOptions sc (depth + 1) m s.0 none_chosen xs os l
-        → Performs sc line depth n (selection e) (bodies xs) (T.Case s.1 os) l
+        → Performs sc line depth n (selection e) (bodies xs) (T.Case line s.1 os) l
     loops : {sc : Procedures} {line depth : ℕ} {n m l : Numbers} {e : Expression} {p : Node process} {c : T.Expression} {t : Term}
         → typed_as (names_of sc) line Boolean e ≡ Some c → room depth (Sizes.with_node (size_of_expression c)) n ≡ Some m
         → Unfolding sc (depth + 1) m p t l
-        → Performs sc line depth n (loop e) (single_body p) (T.While c t) l
+        → Performs sc line depth n (loop e) (single_body p) (T.While line c t) l
 
   -- one after the other
   pub data InTurn : Procedures → (depth : ℕ) → Numbers → Nodes process → Terms → Numbers → Type 0 where

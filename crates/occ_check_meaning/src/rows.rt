@@ -72,7 +72,7 @@ pub fn refuses_overlap()
 
 /// Of no copy the body isn't checked.
 pub fn copies_none()
-    ensures { term_of_program no_copies ≡ Some (T.Par T.no_branches) }
+    ensures { term_of_program no_copies ≡ Some (T.Par 2 T.no_branches) }
 {}
 
 /// The empty text has no main process.
