@@ -130,28 +130,28 @@ module _ (r : L.Replicator) (i z : ℤ) (x : List ℕ) (there declared opened ou
 abbrev counted_as : ℤ × ℕ → Numbers → Option ((ℤ × ℕ) × Numbers)
 counted_as c m = Some (c, m)
 
-abbrev put_beside : Branches × Numbers → Option (Term × Numbers)
-put_beside x = Some (Par x.0, x.1)
+abbrev put_beside : ℕ → Branches × Numbers → Option (Term × Numbers)
+put_beside line x = Some (Par line x.0, x.1)
 
 module _ (line : ℕ) (r : L.Replicator) (p : Node process) (sc : Scope Calling) (depth : ℕ) (n : Numbers) where
   abbrev copies_from : (ℤ × ℕ) × Numbers → Option (Branches × Numbers)
   copies_from c = copied (copy_for r p sc (depth + 1)) c.0.1 c.0.0 c.1
 
-  counted_first : copies_beside line r (unfolded p) sc depth n ≡ (copies_counted (names_of sc) line depth r n >>= λ c. copies_from c >>= put_beside)
+  counted_first : copies_beside line r (unfolded p) sc depth n ≡ (copies_counted (names_of sc) line depth r n >>= λ c. copies_from c >>= put_beside line)
   counted_first = by (copies_of (names_of sc) line r)
     where
-      then_by : (c : ℤ × ℕ) (o : Option Numbers) → (o >>= λ m. copies_from (c, m) >>= put_beside) ≡ ((o >>= counted_as c) >>= λ d. copies_from d >>= put_beside)
+      then_by : (c : ℤ × ℕ) (o : Option Numbers) → (o >>= λ m. copies_from (c, m) >>= put_beside line) ≡ ((o >>= counted_as c) >>= λ d. copies_from d >>= put_beside line)
       then_by c None = refl
       then_by c (Some m) = refl
 
-      by : (o : Option (ℤ × ℕ)) → (o >>= λ c. room depth (with_node no_size) n >>= λ m. copies_from (c, m) >>= put_beside)
-          ≡ ((o >>= λ c. room depth (with_node no_size) n >>= counted_as c) >>= λ d. copies_from d >>= put_beside)
+      by : (o : Option (ℤ × ℕ)) → (o >>= λ c. room depth (with_node no_size) n >>= λ m. copies_from (c, m) >>= put_beside line)
+          ≡ ((o >>= λ c. room depth (with_node no_size) n >>= counted_as c) >>= λ d. copies_from d >>= put_beside line)
       by None = refl
       by (Some c) = then_by c (room depth (with_node no_size) n)
 
   pub counting_refused : (e : CheckFault) → Refuses e (copies_counted (names_of sc) line depth r n) → Refuses e (copies_beside line r (unfolded p) sc depth n)
-  counting_refused e = refused_with e (copies_counted (names_of sc) line depth r n) (copies_beside line r (unfolded p) sc depth n) (λ h. counted_first ∙ none_then (λ c. copies_from c >>= put_beside) h)
+  counting_refused e = refused_with e (copies_counted (names_of sc) line depth r n) (copies_beside line r (unfolded p) sc depth n) (λ h. counted_first ∙ none_then (λ c. copies_from c >>= put_beside line) h)
 
   module _ (i : ℤ) (k : ℕ) (m : Numbers) (counts : copies_counted (names_of sc) line depth r n ≡ Some ((i, k), m)) where
-    pub copies_open : copies_beside line r (unfolded p) sc depth n ≡ put Par (copied (copy_for r p sc (depth + 1)) k i m)
-    copies_open = counted_first ∙ ap (λ o. o >>= λ c. copies_from c >>= put_beside) counts
+    pub copies_open : copies_beside line r (unfolded p) sc depth n ≡ put (Par line) (copied (copy_for r p sc (depth + 1)) k i m)
+    copies_open = counted_first ∙ ap (λ o. o >>= λ c. copies_from c >>= put_beside line) counts

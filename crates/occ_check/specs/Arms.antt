@@ -51,11 +51,11 @@ abbrev pub each_arm_of : ℕ → Replicator → Arm → Under Arms
 each_arm_of line r x = each_of_arms line (replicator_of r) (arm_unfolded (arm_of x))
 
 -- an ALT, a replicated one, and an arm
-abbrev pub alt_of : Bool → List Arm → Under T.Term
-alt_of pri xs = P.alternated pri (alt_arms xs)
+abbrev pub alt_of : Bool → ℕ → List Arm → Under T.Term
+alt_of pri line xs = P.alternated line pri (alt_arms xs)
 
 abbrev pub alt_for : Bool → ℕ → Replicator → Arm → Under T.Term
-alt_for pri line r x = P.alternated pri (each_arm_of line r x)
+alt_for pri line r x = P.alternated line pri (each_arm_of line r x)
 
 abbrev pub an_arm : Arm → Under Arms
 an_arm x = arm_unfolded (arm_of x)

@@ -44,11 +44,11 @@ abbrev pub each_choice_of : ℕ → Replicator → Choice → Under Choices
 each_choice_of line r c = each_of_choices line (replicator_of r) (choice_unfolded (choice_of c))
 
 -- an IF, a replicated one, and a choice
-abbrev pub if_of : List Choice → Under T.Term
-if_of cs = P.conditioned (if_choices cs)
+abbrev pub if_of : ℕ → List Choice → Under T.Term
+if_of line cs = P.conditioned line (if_choices cs)
 
 abbrev pub if_for : ℕ → Replicator → Choice → Under T.Term
-if_for line r c = P.conditioned (each_choice_of line r c)
+if_for line r c = P.conditioned line (each_choice_of line r c)
 
 abbrev pub a_choice : Choice → Under Choices
 a_choice c = choice_unfolded (choice_of c)

@@ -85,7 +85,7 @@ case_variants vs p = all_variants (variant_nodes vs) p []
 -- ---- statements
 
 abbrev pub around : Around → T.Term → T.Term
-around (arounds.While e) t = T.While (expression_of e) t
+around (arounds.While line e) t = T.While line (expression_of e) t
 around (arounds.Each r) t = T.Each (replicator_of r) t
 around (arounds.Called heads) t = headed (declarations_of heads) t
 
@@ -101,12 +101,12 @@ abbrev pub left_in : Unfolder → Here → Left → Option (T.Term × N.Numbers)
 left_in u here (lefts.Done t) = Some (term_of t, counted u)
 left_in u here (lefts.Body a p) = put (around a) (unfolded (process_of p.now) (meant_at u here.at) here.depth (counted u))
 left_in u here (lefts.InTurn ps) = put T.Seq (all_in_turn (process_nodes ps.now) (meant_at u here.at) here.depth (counted u))
-left_in u here (lefts.Beside ps) = put T.Par (all_beside (process_nodes ps.now) (meant_at u here.at) here.depth (counted u))
-left_in u here (lefts.Copies r first count p) = put T.Par (copied (copy_for (replicator_tree r.now) (process_of p.now) (meant_at u here.at) here.depth) count first (counted u))
-left_in u here (lefts.Choices over cs) = put (λ x. T.If (each_choices over x)) (all_choices (choice_nodes cs.now) (meant_at u here.at) here.depth (counted u))
-left_in u here (lefts.Options e type os) = put (T.Case (expression_of e)) (all_options (option_nodes os.now) type A.none_chosen (meant_at u here.at) here.depth (counted u))
+left_in u here (lefts.Beside ps) = put (T.Par here.line) (all_beside (process_nodes ps.now) (meant_at u here.at) here.depth (counted u))
+left_in u here (lefts.Copies r first count p) = put (T.Par here.line) (copied (copy_for (replicator_tree r.now) (process_of p.now) (meant_at u here.at) here.depth) count first (counted u))
+left_in u here (lefts.Choices over cs) = put (λ x. T.If here.line (each_choices over x)) (all_choices (choice_nodes cs.now) (meant_at u here.at) here.depth (counted u))
+left_in u here (lefts.Options e type os) = put (T.Case here.line (expression_of e)) (all_options (option_nodes os.now) type A.none_chosen (meant_at u here.at) here.depth (counted u))
 left_in u here (lefts.Variants c p vs) = put (T.VariantInput (place_of c)) (all_variants (variant_nodes vs.now) p [] (meant_at u here.at) here.depth (counted u))
-left_in u here (lefts.Arms pri over xs) = put (λ x. T.Alt pri (each_arms over x)) (all_arms (arm_nodes xs.now) (meant_at u here.at) here.depth (counted u))
+left_in u here (lefts.Arms pri over xs) = put (λ x. T.Alt here.line pri (each_arms over x)) (all_arms (arm_nodes xs.now) (meant_at u here.at) here.depth (counted u))
 
 abbrev pub statement_left : Unfolder → Opened → Option (T.Term × N.Numbers)
 statement_left u o = left_in u o.here o.left

@@ -25,12 +25,12 @@ abbrev pub performing : ℕ → Stmt → Under Term
 performing line (stmts.Action a) = acted line (action_of a.value)
 performing line (stmts.Seq' s ps) = sequenced (all_in_turn (held_processes ps))
 performing line (stmts.SeqFor' r p n) = each_sequenced line (replicator_of r.value) (unfolded (process_of n))
-performing line (stmts.Par' s ps) = beside (all_beside (held_processes ps))
+performing line (stmts.Par' s ps) = beside line (all_beside (held_processes ps))
 performing line (stmts.ParFor' r p n) = copies_beside line (replicator_of r.value) (unfolded (process_of n))
-performing line (stmts.Alt' pri s ms) = alternated pri (all_arms (held_arms ms))
-performing line (stmts.AltFor' pri r p m) = alternated pri (each_of_arms line (replicator_of r.value) (arm_unfolded (arm_of m)))
-performing line (stmts.If' s cs) = conditioned (all_choices (held_choices cs))
-performing line (stmts.IfFor' r p c) = conditioned (each_of_choices line (replicator_of r.value) (choice_unfolded (choice_of c)))
+performing line (stmts.Alt' pri s ms) = alternated line pri (all_arms (held_arms ms))
+performing line (stmts.AltFor' pri r p m) = alternated line pri (each_of_arms line (replicator_of r.value) (arm_unfolded (arm_of m)))
+performing line (stmts.If' s cs) = conditioned line (all_choices (held_choices cs))
+performing line (stmts.IfFor' r p c) = conditioned line (each_of_choices line (replicator_of r.value) (choice_unfolded (choice_of c)))
 performing line (stmts.Case' e s os) = selected line (expression_of e.value) (λ type. all_options (held_selections os) type none_chosen)
 performing line (stmts.While' e p n) = looped line (expression_of e.value) (unfolded (process_of n))
 performing line (stmts.Variants' v s vs) = taken_by_variant line (var_of v) (λ p. all_variants (held_variants vs) p [])
@@ -74,8 +74,8 @@ statement_size (stmts.Variants' v s vs) = nodes_size (held_variants vs) + 1
 abbrev pub seq_of : List Process → Under Term
 seq_of ps = sequenced (seq_parts ps)
 
-abbrev pub par_of : List Process → Under Term
-par_of ps = beside (par_parts ps)
+abbrev pub par_of : ℕ → List Process → Under Term
+par_of line ps = beside line (par_parts ps)
 
 abbrev pub seq_for : ℕ → Replicator → Process → Under Term
 seq_for line r p = each_sequenced line (replicator_of r) (body_unfolded p)

@@ -133,7 +133,8 @@ pub fn arms_opened<'t>(
     by_priority: bool,
     arms: &'t [Arm],
 ) -> Result<Opened<'t>, CheckFault>
-    ensures opens { Begins result unfolder.old unfolder.new here (alt_of by_priority arms.now) }
+    ensures opens { Begins result unfolder.old unfolder.new here
+        (alt_of by_priority here.line arms.now) }
     ensures kept { KeepsOpen result unfolder.old unfolder.new }
     ensures weight { LeavesWithin result unfolder.new
         (nodes_weight unfolder.old here.at (arm_nodes arms.now)) }

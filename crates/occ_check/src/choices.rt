@@ -89,7 +89,7 @@ pub fn choices_opened<'t>(
     here: Here,
     choices: &'t [Choice],
 ) -> Result<Opened<'t>, CheckFault>
-    ensures opens { Begins result unfolder.old unfolder.new here (if_of choices.now) }
+    ensures opens { Begins result unfolder.old unfolder.new here (if_of here.line choices.now) }
     ensures kept { KeepsOpen result unfolder.old unfolder.new }
     ensures weight { LeavesWithin result unfolder.new
         (nodes_weight unfolder.old here.at (choice_nodes choices.now)) }

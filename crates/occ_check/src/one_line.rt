@@ -77,12 +77,12 @@ impl<'t> Unfolder<'t> {
     }
 
     /// STOP.
-    pub fn stopped(&mut self, depth: u32) -> Result<Term, CheckFault>
-        ensures term { HeadsTerm result self.old self.new depth terms.Stop }
+    pub fn stopped(&mut self, line: u32, depth: u32) -> Result<Term, CheckFault>
+        ensures term { HeadsTerm result self.old self.new depth (terms.Stop line) }
         ensures kept { OpensNothing result self.old self.new }
     {
         self.numbers.node(depth)?;
-        Ok(Term::Stop)
+        Ok(Term::Stop(line))
     }
 
     /// What an assignment unfolds to.

@@ -64,8 +64,8 @@ pub enum Step<'t> {
 
 /// What one process is put into.
 pub enum Around {
-    /// A WHILE with this condition.
-    While(TermExpr),
+    /// A WHILE in this line, with this condition.
+    While(u32, TermExpr),
     /// A replicated SEQ.
     Each(Replicator),
     /// What is set for the formals of a call.
@@ -75,7 +75,7 @@ pub enum Around {
 impl Drop for Around {
     fn drop(self) {
         match self {
-            Around::While(_) => {}
+            Around::While(_, _) => {}
             Around::Each(_) => {}
             Around::Called(_) => {}
         }
@@ -89,7 +89,7 @@ impl Around {
         ensures memory { IfErr result (λ e. e ≡ Memory) }
     {
         match self {
-            Around::While(test) => Ok(Term::While(test, Nested::new(alloc, body)?)),
+            Around::While(line, test) => Ok(Term::While(line, test, Nested::new(alloc, body)?)),
             Around::Each(over) => Ok(Term::Each(over, Nested::new(alloc, body)?)),
             Around::Called(heads) => headed(alloc, heads, body),
         }
@@ -100,7 +100,7 @@ impl Around {
         ensures { IsTrue result → (t : terms.Term) → around self.now t ≡ t }
     {
         match self {
-            Around::While(_) => false,
+            Around::While(_, _) => false,
             Around::Each(_) => false,
             Around::Called(heads) => heads.is_empty(),
         }

@@ -127,7 +127,7 @@ fn line_done(
     match action {
         Action::Call(_, _) => unreachable!(),
         Action::Skip => unfolder.skipped(here.depth),
-        Action::Stop => unfolder.stopped(here.depth),
+        Action::Stop => unfolder.stopped(here.line, here.depth),
         Action::Assign(variables, values) => unfolder.assigned(alloc, here, variables, values),
         Action::Input(input) => unfolder.received(alloc, here, input),
         Action::Output(channel, outs) => unfolder.output(alloc, here, channel, outs),
@@ -188,7 +188,7 @@ fn beside_opened<'t>(
     here: Here,
     processes: &'t [Process],
 ) -> Result<Opened<'t>, CheckFault>
-    ensures opens { Begins result unfolder.old unfolder.new here (par_of processes.now) }
+    ensures opens { Begins result unfolder.old unfolder.new here (par_of here.line processes.now) }
     ensures kept { KeepsOpen result unfolder.old unfolder.new }
     ensures weight { LeavesWithin result unfolder.new
         (nodes_weight unfolder.old here.at (process_nodes processes.now)) }
@@ -242,7 +242,7 @@ fn loop_opened<'t>(
     let test = unfolder.tested(alloc, here, condition)?;
     let depth = here.depth + 1;
     Ok(Opened {
-        left: Left::Body(Around::While(test), body),
+        left: Left::Body(Around::While(here.line, test), body),
         here: Here { depth, ..here },
     })
 }

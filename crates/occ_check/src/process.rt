@@ -87,20 +87,20 @@ fn performed<'t>(
         }
         Left::Beside(processes) => {
             let branches = beside(unfolder, alloc, here, processes)?;
-            Ok(Term::Par(branches))
+            Ok(Term::Par(here.line, branches))
         }
         Left::Copies(replicator, first, count, body) => {
             let branches = copies_unfolded(unfolder, alloc, here, replicator, first, count, body)?;
-            Ok(Term::Par(branches))
+            Ok(Term::Par(here.line, branches))
         }
         Left::Choices(over, list) => {
             let choices = choices_unfolded(unfolder, alloc, here, list)?;
             let choices = over.with_choices(alloc, choices)?;
-            Ok(Term::If(choices))
+            Ok(Term::If(here.line, choices))
         }
         Left::Options(selector, primitive, list) => {
             let options = options_unfolded(unfolder, alloc, here, primitive, list)?;
-            Ok(Term::Case(selector, options))
+            Ok(Term::Case(here.line, selector, options))
         }
         Left::Variants(channel, protocol, list) => {
             let variants = variants_unfolded(unfolder, alloc, here, &protocol, list)?;
@@ -109,7 +109,7 @@ fn performed<'t>(
         Left::Arms(by_priority, over, list) => {
             let arms = arms_unfolded(unfolder, alloc, here, list)?;
             let arms = over.with_arms(alloc, arms)?;
-            Ok(Term::Alt(by_priority, arms))
+            Ok(Term::Alt(here.line, by_priority, arms))
         }
     }
 }

@@ -24,12 +24,12 @@ returns-clause-opens c =
     let inside = meant_at c.indexed.new.self c.in_ok-over.at in
     let m = counted c.indexed.new.self in
     let i = c.in_ok-over.ensures.indexed in
-    ap (λ o. o >>= λ k. each_of_arms c.args.here.line (replicator_tree c.args.replicator.now) (arm_unfolded p) sc deep k >>= λ x. Some (T.Alt c.args.by_priority x.0, x.1)) c.in_ok-node.ensures.counts
-    ∙ ap (put (T.Alt c.args.by_priority))
+    ap (λ o. o >>= λ k. each_of_arms c.args.here.line (replicator_tree c.args.replicator.now) (arm_unfolded p) sc deep k >>= λ x. Some (T.Alt c.args.here.line c.args.by_priority x.0, x.1)) c.in_ok-node.ensures.counts
+    ∙ ap (put (T.Alt c.args.here.line c.args.by_priority))
     (each_part (arm_unfolded p) (λ r xs. T.each_arm r xs T.no_arms) c.args.here.line (replicator_tree c.args.replicator.now) sc deep (numbers_of c.node.new.self) i.0 i.1 over inside m i.2 i.3 i.4)
-    ∙ put_put (T.Alt c.args.by_priority) (λ xs. T.each_arm over xs T.no_arms) (arm_unfolded p inside deep m)
-    ∙ ap (put (λ xs. T.Alt c.args.by_priority (T.each_arm over xs T.no_arms))) (sym (single_arm p inside deep m))
-    ∙ ap (λ ns. put (λ xs. T.Alt c.args.by_priority (T.each_arm over xs T.no_arms)) (all_arms ns inside deep m)) (sym c.one_arm.ensures)
+    ∙ put_put (T.Alt c.args.here.line c.args.by_priority) (λ xs. T.each_arm over xs T.no_arms) (arm_unfolded p inside deep m)
+    ∙ ap (put (λ xs. T.Alt c.args.here.line c.args.by_priority (T.each_arm over xs T.no_arms))) (sym (single_arm p inside deep m))
+    ∙ ap (λ ns. put (λ xs. T.Alt c.args.here.line c.args.by_priority (T.each_arm over xs T.no_arms)) (all_arms ns inside deep m)) (sym c.one_arm.ensures)
 
 pub returns-clause-weight : goal.returns-clause-weight
 returns-clause-weight c =

@@ -24,12 +24,12 @@ returns-clause-opens c =
     let inside = meant_at c.indexed.new.self c.in_ok-over.at in
     let m = counted c.indexed.new.self in
     let i = c.in_ok-over.ensures.indexed in
-    ap (λ o. o >>= λ k. each_of_choices c.args.here.line (replicator_tree c.args.replicator.now) (choice_unfolded p) sc deep k >>= λ x. Some (T.If x.0, x.1)) c.in_ok-node.ensures.counts
-    ∙ ap (put T.If)
+    ap (λ o. o >>= λ k. each_of_choices c.args.here.line (replicator_tree c.args.replicator.now) (choice_unfolded p) sc deep k >>= λ x. Some (T.If c.args.here.line x.0, x.1)) c.in_ok-node.ensures.counts
+    ∙ ap (put (T.If c.args.here.line))
     (each_part (choice_unfolded p) (λ r xs. T.each_choice r xs T.no_choices) c.args.here.line (replicator_tree c.args.replicator.now) sc deep (numbers_of c.node.new.self) i.0 i.1 over inside m i.2 i.3 i.4)
-    ∙ put_put T.If (λ xs. T.each_choice over xs T.no_choices) (choice_unfolded p inside deep m)
-    ∙ ap (put (λ xs. T.If (T.each_choice over xs T.no_choices))) (sym (single_choice p inside deep m))
-    ∙ ap (λ ns. put (λ xs. T.If (T.each_choice over xs T.no_choices)) (all_choices ns inside deep m)) (sym c.one_choice.ensures)
+    ∙ put_put (T.If c.args.here.line) (λ xs. T.each_choice over xs T.no_choices) (choice_unfolded p inside deep m)
+    ∙ ap (put (λ xs. T.If c.args.here.line (T.each_choice over xs T.no_choices))) (sym (single_choice p inside deep m))
+    ∙ ap (λ ns. put (λ xs. T.If c.args.here.line (T.each_choice over xs T.no_choices)) (all_choices ns inside deep m)) (sym c.one_choice.ensures)
 
 pub returns-clause-weight : goal.returns-clause-weight
 returns-clause-weight c =

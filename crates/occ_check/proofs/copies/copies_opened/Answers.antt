@@ -27,5 +27,5 @@ returns-clause-opens c =
     let count = c.in_ok-first.count in
     let fits : SFits w64 c.in_ok-first.first = search rules in
     copies_open c.args.here.line r p (meant_at c.args.unfolder.now c.args.here.at) c.args.here.depth (counted c.args.unfolder.now) first count (counted c.copies_counted_at.new.unfolder) c.in_ok-first.ensures.counted
-    ∙ ap (λ f. put T.Par (copied (copy_for r p (meant (scope_in (reverse f.blocks.items) c.args.here.at)) (c.args.here.depth + 1)) count first (counted c.copies_counted_at.new.unfolder))) (sym c.in_ok-first.ensures.kept)
-    ∙ ap (λ (v : ℤ). put T.Par (copied (copy_for r p (meant (scope_in (reverse c.copies_counted_at.new.unfolder.blocks.blocks.items) c.args.here.at)) (c.args.here.depth + 1)) count v (counted c.copies_counted_at.new.unfolder))) (sym (to_z-of_z w64 first fits))
+    ∙ ap (λ f. put (T.Par c.args.here.line) (copied (copy_for r p (meant (scope_in (reverse f.blocks.items) c.args.here.at)) (c.args.here.depth + 1)) count first (counted c.copies_counted_at.new.unfolder))) (sym c.in_ok-first.ensures.kept)
+    ∙ ap (λ (v : ℤ). put (T.Par c.args.here.line) (copied (copy_for r p (meant (scope_in (reverse c.copies_counted_at.new.unfolder.blocks.blocks.items) c.args.here.at)) (c.args.here.depth + 1)) count v (counted c.copies_counted_at.new.unfolder))) (sym (to_z-of_z w64 first fits))
