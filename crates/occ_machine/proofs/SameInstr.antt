@@ -92,16 +92,16 @@ instr_at kind a b c value letters constants branches = get_or (
     ∷ IfTrue a
     ∷ OpenSkip value
     ∷ OpenInput value
-    ∷ ChooseArm false a
-    ∷ ChooseArm true a
+    ∷ ChooseArm a false b
+    ∷ ChooseArm a true b
     ∷ Begin a b c
     ∷ Pass a b c
-    ∷ LoopBack a
-    ∷ Send None
-    ∷ Send (Some a)
-    ∷ Receive
-    ∷ Fork branches
-    ∷ Halt
+    ∷ LoopBack a b
+    ∷ Send a None
+    ∷ Send a (Some b)
+    ∷ Receive a
+    ∷ Fork a branches
+    ∷ Halt a
     ∷ End ∷ []) kind End
 
 instr_of : ℕ × ℕ × ℕ × ℕ × ℤ → List ℕ × List ℤ × List ℕ → Instr ℕ
@@ -144,16 +144,16 @@ again (SetAgain cell skip) = refl
 again (IfTrue skip) = refl
 again (OpenSkip value) = refl
 again (OpenInput value) = refl
-again (ChooseArm false back) = refl
-again (ChooseArm true back) = refl
+again (ChooseArm line false back) = refl
+again (ChooseArm line true back) = refl
 again (Begin slot cell skip) = refl
 again (Pass slot cell skip) = refl
-again (LoopBack back) = refl
-again (Send None) = refl
-again (Send (Some tag)) = refl
-again Receive = refl
-again (Fork branches) = refl
-again Halt = refl
+again (LoopBack line back) = refl
+again (Send line None) = refl
+again (Send line (Some tag)) = refl
+again (Receive line) = refl
+again (Fork line branches) = refl
+again (Halt line) = refl
 again End = refl
 
 pub same_instr : (i j : Instr ℕ) → numbers_of i ≡ numbers_of j → lists_of i ≡ lists_of j → i ≡ j

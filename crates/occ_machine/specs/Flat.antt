@@ -79,16 +79,16 @@ numbers_of (SetAgain cell skip) = (31, cell, skip, 0, pos 0)
 numbers_of (IfTrue skip) = (32, skip, 0, 0, pos 0)
 numbers_of (OpenSkip value) = (33, 0, 0, 0, value)
 numbers_of (OpenInput value) = (34, 0, 0, 0, value)
-numbers_of (ChooseArm false back) = (35, back, 0, 0, pos 0)
-numbers_of (ChooseArm true back) = (36, back, 0, 0, pos 0)
+numbers_of (ChooseArm line false back) = (35, line, back, 0, pos 0)
+numbers_of (ChooseArm line true back) = (36, line, back, 0, pos 0)
 numbers_of (Begin slot cell skip) = (37, slot, cell, skip, pos 0)
 numbers_of (Pass slot cell skip) = (38, slot, cell, skip, pos 0)
-numbers_of (LoopBack back) = (39, back, 0, 0, pos 0)
-numbers_of (Send None) = (40, 0, 0, 0, pos 0)
-numbers_of (Send (Some tag)) = (41, tag, 0, 0, pos 0)
-numbers_of Receive = (42, 0, 0, 0, pos 0)
-numbers_of (Fork branches) = (43, 0, 0, 0, pos 0)
-numbers_of Halt = (44, 0, 0, 0, pos 0)
+numbers_of (LoopBack line back) = (39, line, back, 0, pos 0)
+numbers_of (Send line None) = (40, line, 0, 0, pos 0)
+numbers_of (Send line (Some tag)) = (41, line, tag, 0, pos 0)
+numbers_of (Receive line) = (42, line, 0, 0, pos 0)
+numbers_of (Fork line branches) = (43, line, 0, 0, pos 0)
+numbers_of (Halt line) = (44, line, 0, 0, pos 0)
 numbers_of End = (45, 0, 0, 0, pos 0)
 
 -- the letters of its text
@@ -105,7 +105,7 @@ constants_of i = []
 
 -- the branches of a PAR
 abbrev pub branches_of : Instr ℕ → List ℕ
-branches_of (Fork branches) = branches
+branches_of (Fork line branches) = branches
 branches_of i = []
 
 abbrev pub lists_of : Instr ℕ → List ℕ × List ℤ × List ℕ

@@ -97,16 +97,16 @@ impl Instr<Slot> {
             Instr::IfTrue(skip) => (32, *skip as u64, 0, 0, 0),
             Instr::OpenSkip(value) => (33, 0, 0, 0, *value),
             Instr::OpenInput(value) => (34, 0, 0, 0, *value),
-            Instr::ChooseArm(false, back) => (35, *back as u64, 0, 0, 0),
-            Instr::ChooseArm(true, back) => (36, *back as u64, 0, 0, 0),
+            Instr::ChooseArm(line, false, back) => (35, u64::from(*line), *back as u64, 0, 0),
+            Instr::ChooseArm(line, true, back) => (36, u64::from(*line), *back as u64, 0, 0),
             Instr::Begin(slot, cell, skip) => (37, *slot, u64::from(cell.0), *skip as u64, 0),
             Instr::Pass(slot, cell, skip) => (38, *slot, u64::from(cell.0), *skip as u64, 0),
-            Instr::LoopBack(back) => (39, *back as u64, 0, 0, 0),
-            Instr::Send(None) => (40, 0, 0, 0, 0),
-            Instr::Send(Some(tag)) => (41, u64::from(*tag), 0, 0, 0),
-            Instr::Receive => (42, 0, 0, 0, 0),
-            Instr::Fork(_) => (43, 0, 0, 0, 0),
-            Instr::Halt => (44, 0, 0, 0, 0),
+            Instr::LoopBack(line, back) => (39, u64::from(*line), *back as u64, 0, 0),
+            Instr::Send(line, None) => (40, u64::from(*line), 0, 0, 0),
+            Instr::Send(line, Some(tag)) => (41, u64::from(*line), u64::from(*tag), 0, 0),
+            Instr::Receive(line) => (42, u64::from(*line), 0, 0, 0),
+            Instr::Fork(line, _) => (43, u64::from(*line), 0, 0, 0),
+            Instr::Halt(line) => (44, u64::from(*line), 0, 0, 0),
             Instr::End => (45, 0, 0, 0, 0),
         }
     }
@@ -138,7 +138,7 @@ impl Instr<Slot> {
         ensures { result.now ≡ branches_of self.now }
     {
         match self {
-            Instr::Fork(branches) => branches.as_slice(),
+            Instr::Fork(_, branches) => branches.as_slice(),
             _ => &[],
         }
     }

@@ -19,7 +19,7 @@ impl Model for Slot {
 }
 
 /// One instruction. A skip counts the instructions that are jumped over, and a `back` is how far a
-/// jump leads back. Lines are for faults.
+/// jump leads back. Lines are for faults and for what a process stands at.
 ///
 /// `Load`, `StoreOne` and the index of `NextChoice`, `SetAgain`, `Begin` and `Pass` name a single cell: by its number
 /// while code is emitted, and in a body by its slot, so that its value is found with no search. All other cells go by their
@@ -100,25 +100,24 @@ pub enum Instr<Name> {
     OpenSkip(i64),
     /// Takes a channel, and opens the arm with this number, which inputs from it.
     OpenInput(i64),
-    /// Chooses among the open arms, by priority where the truth value says so, and goes on so far back; halts
-    /// where none is open.
-    ChooseArm(bool, usize),
+    /// Chooses among the open arms: the line, whether by priority, and how far back it goes on; halts where none is open.
+    ChooseArm(u32, bool, usize),
     /// The first value of the index of a replicated SEQ, or behind the skip where there is none: the first
     /// of its two counters, the index's cell and the skip.
     Begin(u64, Name, usize),
     /// The next value of the index, or behind the skip where none is left.
     Pass(u64, Name, usize),
-    /// The stop at the end of a loop's body, and back.
-    LoopBack(usize),
-    /// Takes a channel, and offers the message on it, with its tag where it has one.
-    Send(Option<u32>),
-    /// Takes a channel, and awaits a message on it.
-    Receive,
-    /// Begins the branches of a PAR, and waits for their end: the numbers of their processes, which have
+    /// The stop at the end of a loop's body, in the line of the loop, and back.
+    LoopBack(u32, usize),
+    /// Takes a channel, and offers the message on it: the line, and its tag where it has one.
+    Send(u32, Option<u32>),
+    /// Takes a channel, and awaits a message on it, in this line.
+    Receive(u32),
+    /// Begins the branches of a PAR, and waits for their end: the line, and the numbers of their processes, which have
     /// code of their own.
-    Fork(Items<u32>),
-    /// Halts the process.
-    Halt,
+    Fork(u32, Items<u32>),
+    /// Halts the process, in this line.
+    Halt(u32),
     /// Ends the process.
     End,
 }
