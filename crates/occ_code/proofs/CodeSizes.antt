@@ -10,7 +10,7 @@ use Rattle.occ_machine.specs.Machine.{placed}
 use Rattle.occ_machine.specs.declared.instr.Instr.{Instr}
 use Rattle.occ_machine.specs.declared.instr.Instr.TheVariants.{Push, DropOne, IfTrue, OpenSkip, OpenInput, ChooseArm, StoreOne, End, LoadAt, LoadLetter, Subscript, Operate, OperateOne, ConvertTo, AndThen, OrElse, PartOne, PartMany, PartCounted, PartCountedText, SpotOne, SpotCounted, StoreParts, StoreNamed, Jump, Choose, NextChoice, BackToChoice, Begin, Pass, CountedFrom, LoopBack, Send, Receive, Halt}
 use Rattle.occ_code.specs.OperandOrder.{comes_second}
-use Rattle.occ_code.specs.Expressions.{components_at, expression_code, place_code, subscripts_code, item_code, items_code, target_code, targets_code, declaration_code, declarations_code, storing_code, counting_code, assignment_code, opening_code, skip_opening, input_opening}
+use Rattle.occ_code.specs.Expressions.{components_at, expression_code, place_code, place_line, subscripts_code, item_code, items_code, target_code, targets_code, declaration_code, declarations_code, storing_code, counting_code, assignment_code, opening_code, skip_opening, input_opening}
 use Rattle.occ_code.specs.Emitted.{term_code, terms_code, arm_code, each_arm_code, arms_code, list_code, variants_code, choices_code, options_code, else_code, whole_code, instructions_of, BodiesAreSmall, ProgramsAreSmall}
 use Rattle.occ_code.proofs.OperandOrder.{length-both_operands}
 
@@ -112,20 +112,20 @@ input_small e c number = omega (arith, opening_small e (place_code c ++ OpenInpu
 mutual
   term_small : (slot : ℕ) (t : Term) → length (term_code slot t) + 1 + instructions_of (branches_in t) ≤ 8 * (size_of t).nodes
   term_small slot Skip = omega arith
-  term_small slot Stop = omega arith
+  term_small slot (Stop line) = omega arith
   term_small slot (Assign ts vs) = omega (arith, assigned_small ts vs)
-  term_small slot (Input c ts) = omega (arith, received_small c Receive, storing_small ts, length-append (place_code c ++ Receive ∷ []) (storing_code ts))
-  term_small slot (Output c tag is) = omega (arith, place_small c, items_small is, length-append (place_code c) (items_code is ++ Send tag ∷ []), length-append (items_code is) (Send tag ∷ []))
-  term_small slot (VariantInput c vs) = omega (arith, received_small c Receive, variants_small slot vs, length-append (place_code c ++ Receive ∷ []) (variants_code slot vs))
+  term_small slot (Input c ts) = omega (arith, received_small c (Receive (place_line c)), storing_small ts, length-append (place_code c ++ Receive (place_line c) ∷ []) (storing_code ts))
+  term_small slot (Output c tag is) = omega (arith, place_small c, items_small is, length-append (place_code c) (items_code is ++ Send (place_line c) tag ∷ []), length-append (items_code is) (Send (place_line c) tag ∷ []))
+  term_small slot (VariantInput c vs) = omega (arith, received_small c (Receive (place_line c)), variants_small slot (place_line c) vs, length-append (place_code c ++ Receive (place_line c) ∷ []) (variants_code slot (place_line c) vs))
   term_small slot (Seq ts) = omega (arith, terms_small slot ts)
-  term_small slot (Par no_branches) = omega arith
-  term_small slot (Par (and_branch n t bs)) = omega (arith, branches_small (and_branch n t bs))
-  term_small slot (Alt pri arms) = omega (arith, arms_small slot arms 1, length-append (arms_code slot arms 1) (ChooseArm pri (length (arms_code slot arms 1)) ∷ []))
-  term_small slot (If cs) = omega (arith, choices_small slot cs 1, length-append (choices_code slot cs 1) (Halt ∷ []))
-  term_small slot (Case e os) =
-      omega (arith, expression_small e, options_small slot os (length (else_code slot os)), length-append (expression_code e) (options_code slot os (length (else_code slot os)) ++ else_code slot os), length-append (options_code slot os (length (else_code slot os))) (else_code slot os))
-  term_small slot (While e b) =
-      omega (arith, expression_small e, term_small slot b, length-append (expression_code e) (Choose (length (term_code slot b) + 1) ∷ (term_code slot b ++ LoopBack (length (expression_code e) + 1 + length (term_code slot b)) ∷ [])), length-append (term_code slot b) (LoopBack (length (expression_code e) + 1 + length (term_code slot b)) ∷ []))
+  term_small slot (Par line no_branches) = omega arith
+  term_small slot (Par line (and_branch n t bs)) = omega (arith, branches_small (and_branch n t bs))
+  term_small slot (Alt line pri arms) = omega (arith, arms_small slot arms 1, length-append (arms_code slot arms 1) (ChooseArm line pri (length (arms_code slot arms 1)) ∷ []))
+  term_small slot (If line cs) = omega (arith, choices_small slot cs 1, length-append (choices_code slot cs 1) (Halt line ∷ []))
+  term_small slot (Case line e os) =
+      omega (arith, expression_small e, options_small slot line os (length (else_code slot line os)), length-append (expression_code e) (options_code slot os (length (else_code slot line os)) ++ else_code slot line os), length-append (options_code slot os (length (else_code slot line os))) (else_code slot line os))
+  term_small slot (While line e b) =
+      omega (arith, expression_small e, term_small slot b, length-append (expression_code e) (Choose (length (term_code slot b) + 1) ∷ (term_code slot b ++ LoopBack line (length (expression_code e) + 1 + length (term_code slot b)) ∷ [])), length-append (term_code slot b) (LoopBack line (length (expression_code e) + 1 + length (term_code slot b)) ∷ []))
   term_small slot (Each (replicator line index base count) b) =
       omega (
         arith,
@@ -134,8 +134,8 @@ mutual
         term_small (slot + 2) b,
         length-append (expression_code base) (expression_code count ++ CountedFrom line ∷ []),
         length-append (expression_code count) (CountedFrom line ∷ []),
-        length-append (counting_code (replicator line index base count)) (Begin slot index (length (term_code (slot + 2) b) + 2) ∷ Pass slot index (length (term_code (slot + 2) b) + 1) ∷ (term_code (slot + 2) b ++ LoopBack (length (term_code (slot + 2) b) + 1) ∷ [])),
-        length-append (term_code (slot + 2) b) (LoopBack (length (term_code (slot + 2) b) + 1) ∷ []),
+        length-append (counting_code (replicator line index base count)) (Begin slot index (length (term_code (slot + 2) b) + 2) ∷ Pass slot index (length (term_code (slot + 2) b) + 1) ∷ (term_code (slot + 2) b ++ LoopBack line (length (term_code (slot + 2) b) + 1) ∷ [])),
+        length-append (term_code (slot + 2) b) (LoopBack line (length (term_code (slot + 2) b) + 1) ∷ []),
       )
   term_small slot (Clear first count) = omega (arith, declaration_small (Clearing first count))
   term_small slot (Local first value) = omega (arith, declaration_small (Naming first value))
@@ -162,10 +162,10 @@ mutual
   arms_small slot (input_arm e c list others) after =
       omega (
         arith,
-        list_small slot list,
+        list_small slot (place_line c) list,
         arms_small slot others after,
         input_small e c (length (arms_code slot others after) + after + 1),
-        arm_length (list_code slot list) (input_opening e c (length (arms_code slot others after) + after + 1)) (arms_code slot others after) after,
+        arm_length (list_code slot (place_line c) list) (input_opening e c (length (arms_code slot others after) + after + 1)) (arms_code slot others after) after,
         instructions-append (branches_in_reception list) (branches_in_arms others),
       )
   arms_small slot (declared_arms d within others) after =
@@ -191,23 +191,23 @@ mutual
         instructions-append (branches_in_arms within) (branches_in_arms others),
       )
 
-  list_small : (slot : ℕ) (list : Reception) → length (list_code slot list) + instructions_of (branches_in_reception list) ≤ 8 * (size_of_reception list).nodes + 1
-  list_small slot (Plain ts t) = omega (arith, storing_small ts, term_small slot t, length-append (storing_code ts) (term_code slot t))
-  list_small slot (Tagged vs) = omega (arith, variants_small slot vs)
+  list_small : (slot line : ℕ) (list : Reception) → length (list_code slot line list) + instructions_of (branches_in_reception list) ≤ 8 * (size_of_reception list).nodes + 1
+  list_small slot line (Plain ts t) = omega (arith, storing_small ts, term_small slot t, length-append (storing_code ts) (term_code slot t))
+  list_small slot line (Tagged vs) = omega (arith, variants_small slot line vs)
 
-  variants_small : (slot : ℕ) (vs : Variants) → length (variants_code slot vs) + instructions_of (branches_in_variants vs) ≤ 8 * (size_of_variants vs).nodes + 1
-  variants_small slot no_variants = omega arith
-  variants_small slot (or_variant tag ds ts t vs) =
+  variants_small : (slot line : ℕ) (vs : Variants) → length (variants_code slot line vs) + instructions_of (branches_in_variants vs) ≤ 8 * (size_of_variants vs).nodes + 1
+  variants_small slot line no_variants = omega arith
+  variants_small slot line (or_variant tag ds ts t vs) =
       omega (
         arith,
         declarations_small ds,
         storing_small ts,
         term_small slot t,
-        variants_small slot vs,
-        length-append (declarations_code ds ++ (storing_code ts ++ (term_code slot t ++ Jump (length (variants_code slot vs)) ∷ []))) (variants_code slot vs),
-        length-append (declarations_code ds) (storing_code ts ++ (term_code slot t ++ Jump (length (variants_code slot vs)) ∷ [])),
-        length-append (storing_code ts) (term_code slot t ++ Jump (length (variants_code slot vs)) ∷ []),
-        length-append (term_code slot t) (Jump (length (variants_code slot vs)) ∷ []),
+        variants_small slot line vs,
+        length-append (declarations_code ds ++ (storing_code ts ++ (term_code slot t ++ Jump (length (variants_code slot line vs)) ∷ []))) (variants_code slot line vs),
+        length-append (declarations_code ds) (storing_code ts ++ (term_code slot t ++ Jump (length (variants_code slot line vs)) ∷ [])),
+        length-append (storing_code ts) (term_code slot t ++ Jump (length (variants_code slot line vs)) ∷ []),
+        length-append (term_code slot t) (Jump (length (variants_code slot line vs)) ∷ []),
         instructions-append (branches_in t) (branches_in_variants vs),
       )
 
@@ -240,21 +240,21 @@ mutual
         instructions-append (branches_in_choices within) (branches_in_choices others),
       )
 
-  options_small : (slot : ℕ) (os : Options) (after : ℕ) → length (options_code slot os after) + length (else_code slot os) + instructions_of (branches_in_options os) ≤ 8 * (size_of_options os).nodes + 1
-  options_small slot no_options after = omega arith
-  options_small slot (or_option constants ds t os) after =
+  options_small : (slot line : ℕ) (os : Options) (after : ℕ) → length (options_code slot os after) + length (else_code slot line os) + instructions_of (branches_in_options os) ≤ 8 * (size_of_options os).nodes + 1
+  options_small slot line no_options after = omega arith
+  options_small slot line (or_option constants ds t os) after =
       omega (
         arith,
         declarations_small ds,
         term_small slot t,
-        options_small slot os after,
+        options_small slot line os after,
         length-append (declarations_code ds ++ (term_code slot t ++ Jump (length (options_code slot os after) + after) ∷ [])) (options_code slot os after),
         length-append (declarations_code ds) (term_code slot t ++ Jump (length (options_code slot os after) + after) ∷ []),
         length-append (term_code slot t) (Jump (length (options_code slot os after) + after) ∷ []),
         instructions-append (branches_in t) (branches_in_options os),
       )
-  options_small slot (or_else ds t os) after =
-      omega (arith, declarations_small ds, term_small slot t, options_small slot os after, length-append (declarations_code ds) (term_code slot t), instructions-append (branches_in t) (branches_in_options os))
+  options_small slot line (or_else ds t os) after =
+      omega (arith, declarations_small ds, term_small slot t, options_small slot line os after, length-append (declarations_code ds) (term_code slot t), instructions-append (branches_in t) (branches_in_options os))
 
 pub bodies_are_small : BodiesAreSmall
 bodies_are_small t cells writes quantum = omega (arith, term_small 0 t, length-append (term_code 0 t) (End ∷ []), length-map (whole_code t) (placed cells))

@@ -43,17 +43,17 @@ module _ (d : Declared) where
   mutual
     within : (t : Term) → TermHas d t → AllCompile d (branches_in t)
     within Skip h = tt
-    within Stop h = tt
+    within (Stop line) h = tt
     within (Assign ts vs) h = tt
     within (Input c ts) h = tt
     within (Output c tag is) h = tt
     within (VariantInput c vs) h = within_variants h.0 vs h.2
     within (Seq ts) h = within_terms ts h
-    within (Par bs) h = within_branches bs h
-    within (Alt pri arms) h = within_arms arms h
-    within (If cs) h = within_choices cs h
-    within (Case e os) h = within_options h.0 os h.3
-    within (While e b) h = within b h.1
+    within (Par line bs) h = within_branches bs h
+    within (Alt line pri arms) h = within_arms arms h
+    within (If line cs) h = within_choices cs h
+    within (Case line e os) h = within_options h.0 os h.3
+    within (While line e b) h = within b h.1
     within (Each r b) h = within b h.2
     within (Clear first count) h = tt
     within (Local first value) h = tt

@@ -13,7 +13,7 @@ use Rattle.occ_term.specs.View.{expression_of, place_of, subscripts}
 use Rattle.occ_term.specs.declared.expression.TermExpr.{TermExpr, the_lemmas}
 use Rattle.occ_term.specs.declared.expression.Place.{Place}
 use Rattle.occ_code.specs.OperandOrder.{both_operands, comes_second}
-use Rattle.occ_code.specs.Expressions.{expression_code, subscripts_code, components_at}
+use Rattle.occ_code.specs.Expressions.{expression_code, subscripts_code, components_at, place_line}
 use Rattle.occ_machine.specs.declared.instr.Instr.TheVariants.{Operate, Subscript}
 use Rattle.occ_code.specs.Emits.{emitted, Emits}
 use Rattle.occ_machine.specs.declared.instr.Instr.{Instr}
@@ -115,6 +115,9 @@ subscripts_next line es ns i k e n stride next lt lt' is is' strides others firs
 
 pub place_seen : (p : Place) → place_of p ≡ place p.line p.first p.sizes (subscripts (map expression_of p.subscripts))
 place_seen p = search (rules, the_lemmas)
+
+pub line_seen : (p : Place) → place_line (place_of p) ≡ p.line
+line_seen p = ap place_line (place_seen p)
 
 components_left : (es : List TermExpr) (ns : List ℕ) (k : ℕ) → k ≡ min (length es) (length ns) → product (drop k ns) ≡ components (subscripts (map expression_of es)) ns
 components_left [] ns zero h = ap product (drop_whole ns)

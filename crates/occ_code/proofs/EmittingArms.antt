@@ -58,11 +58,11 @@ module _ {before old : List (Instr ℕ)} (R : List (Instr ℕ)) (end : ℕ) (oth
       (emits_as start (ap (λ n. PassArms n (length m - b) ∷ []) last ∙ ap (λ n. PassArms (length R + (length before - end)) n ∷ []) skip))
 
 -- the choice at the end of an ALT, put in after its arms
-pub alt_ends : {before old m new : List (Instr ℕ)} (B : List (Instr ℕ)) (place : ℕ) (x : Instr ℕ) (pri : _) (back : ℕ) → length before ≡ place → Behind before B old → back ≡ length old - place - 1 → x ≡ ChooseArm pri back → m ≡ set old place x
-    → Emits m (Push (pos 0) ∷ []) new → Emits before (Push (pos 0) ∷ (B ++ ChooseArm pri (length B) ∷ [])) new
-alt_ends {before} {old} {m} {new} B place x pri back long loop_ way is e start =
+pub alt_ends : {before old m new : List (Instr ℕ)} (B : List (Instr ℕ)) (place : ℕ) (x : Instr ℕ) (line : ℕ) (pri : _) (back : ℕ) → length before ≡ place → Behind before B old → back ≡ length old - place - 1 → x ≡ ChooseArm line pri back → m ≡ set old place x
+    → Emits m (Push (pos 0) ∷ []) new → Emits before (Push (pos 0) ∷ (B ++ ChooseArm line pri (length B) ∷ [])) new
+alt_ends {before} {old} {m} {new} B place x line pri back long loop_ way is e start =
     let same : back ≡ length B = omega (arith, way, behind_length loop_, long) in
-    emits_then (emits_as (behind_set x place loop_ long e) (ap (λ i. B ++ i ∷ []) (is ∙ ap (ChooseArm pri) same))) start
+    emits_then (emits_as (behind_set x place loop_ long e) (ap (λ i. B ++ i ∷ []) (is ∙ ap (ChooseArm line pri) same))) start
 
 -- the first value of an index, and what is set again
 pub value_begins : {before old m1 m2 new : List (Instr ℕ)} (C B : List (Instr ℕ)) (index s b : ℕ) → Behind before B old → Emits old (Push (pos 0) ∷ []) m1

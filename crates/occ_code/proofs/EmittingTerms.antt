@@ -105,13 +105,13 @@ module _ {before old m1 m2 : List (Instr ℕ)} (R T D : List (Instr ℕ)) (end s
 -- ---- loops
 
 module _ {before old : List (Instr ℕ)} (B : List (Instr ℕ)) (place : ℕ) (long : length before ≡ place) (loop_ : Behind before B old) where
-  pub tested : {m1 m2 new : List (Instr ℕ)} (E : List (Instr ℕ)) (s back : ℕ) (x : Instr ℕ) → s ≡ length old - place → Emits old (Choose s ∷ []) m1 → Emits m1 E m2 → back ≡ length m2 - place - 1 → x ≡ LoopBack back → new ≡ set m2 place x
-      → Emits before (E ++ Choose (length B + 1) ∷ (B ++ LoopBack (length E + 1 + length B) ∷ [])) new
-  tested {m1} {m2} {new} E s back x skip choose test way is e =
+  pub tested : {m1 m2 new : List (Instr ℕ)} (line : ℕ) (E : List (Instr ℕ)) (s back : ℕ) (x : Instr ℕ) → s ≡ length old - place → Emits old (Choose s ∷ []) m1 → Emits m1 E m2 → back ≡ length m2 - place - 1 → x ≡ LoopBack line back → new ≡ set m2 place x
+      → Emits before (E ++ Choose (length B + 1) ∷ (B ++ LoopBack line (length E + 1 + length B) ∷ [])) new
+  tested {m1} {m2} {new} line E s back x skip choose test way is e =
       let a : s ≡ length B + 1 = omega (arith, skip, behind_length loop_, long) in
       let b : back ≡ length E + 1 + length B = omega (arith, way, emits_length test, emits_length choose, behind_length loop_, long) in
       emits_as (behind_set x place (behind_then (behind_then loop_ choose) test) long e)
-      (append_assoc E (Choose s ∷ B) (x ∷ []) ∙ ap (λ k. E ++ Choose k ∷ (B ++ x ∷ [])) a ∙ ap (λ i. E ++ Choose (length B + 1) ∷ (B ++ i ∷ [])) (is ∙ ap LoopBack b))
+      (append_assoc E (Choose s ∷ B) (x ∷ []) ∙ ap (λ k. E ++ Choose k ∷ (B ++ x ∷ [])) a ∙ ap (λ i. E ++ Choose (length B + 1) ∷ (B ++ i ∷ [])) (is ∙ ap (LoopBack line) b))
 
   pub set_back : {m1 : List (Instr ℕ)} (make : ℕ → Instr ℕ) (back : ℕ) (x : Instr ℕ) → back ≡ length old - place → x ≡ make back → m1 ≡ set old place x → Emits before (B ++ make (length B + 1) ∷ []) m1
   set_back {m1} make back x way is e =
@@ -147,12 +147,12 @@ numbers_seen (b ∷ bs) =
     let seen : branch_of b (branches_of bs) ≡ and_branch b.number (term_of b.body) (branches_of bs) = search (rules, the_lemmas) in
     ap numbers_of seen ∙ ap (λ ns. b.number ∷ ns) (numbers_seen bs)
 
-pub no_fork : (bs : List Branch) → length bs ≡ 0 → par_code (branches_of bs) ≡ []
-no_fork [] e = refl
-no_fork (b ∷ bs) e = absurd (omega (arith, e))
+pub no_fork : (line : ℕ) (bs : List Branch) → length bs ≡ 0 → par_code line (branches_of bs) ≡ []
+no_fork line [] e = refl
+no_fork line (b ∷ bs) e = absurd (omega (arith, e))
 
-pub fork_seen : (bs : List Branch) → (length bs ≡ 0 → ⊥) → Fork (map (λ b. b.number) bs) ∷ [] ≡ par_code (branches_of bs)
-fork_seen [] h = absurd (h refl)
-fork_seen (b ∷ bs) h =
+pub fork_seen : (line : ℕ) (bs : List Branch) → (length bs ≡ 0 → ⊥) → Fork line (map (λ b. b.number) bs) ∷ [] ≡ par_code line (branches_of bs)
+fork_seen line [] h = absurd (h refl)
+fork_seen line (b ∷ bs) h =
     let seen : branch_of b (branches_of bs) ≡ and_branch b.number (term_of b.body) (branches_of bs) = search (rules, the_lemmas) in
-    ap (λ ns. Fork (b.number ∷ ns) ∷ []) (sym (numbers_seen bs)) ∙ sym (ap par_code seen)
+    ap (λ ns. Fork line (b.number ∷ ns) ∷ []) (sym (numbers_seen bs)) ∙ sym (ap (par_code line) seen)

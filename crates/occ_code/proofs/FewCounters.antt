@@ -4,32 +4,32 @@ use Rattle.std.proofs.Common.{◌≡◌, ℕ, ◌+◌, ◌<◌, ◌≤◌, [], �
 use Rattle.occ_term.specs.Terms.{Term, Skip, Stop, Assign, Input, Output, VariantInput, Seq, Par, Alt, If, Case, While, Each, Clear, Local, Terms, no_terms, then_term, Arms, no_arms, skip_arm, input_arm, declared_arms, each_arm, Reception, Plain, Tagged, Variants, no_variants, or_variant, Choices, no_choices, or_choice, declared_choices, each_choice, Options, no_options, or_option, or_else}
 use Rattle.occ_term.specs.Storing.{index_of}
 use Rattle.occ_machine.specs.declared.instr.Instr.TheVariants.{ChooseArm, Choose, BackToChoice, NextChoice, Begin, Pass, LoopBack, Jump, Receive, Halt, End}
-use Rattle.occ_code.specs.Expressions.{expression_code, place_code, declaration_code, declarations_code, storing_code, counting_code, skip_opening, input_opening}
+use Rattle.occ_code.specs.Expressions.{expression_code, place_code, place_line, replicator_line, declaration_code, declarations_code, storing_code, counting_code, skip_opening, input_opening}
 use Rattle.occ_code.specs.Emitted.{counters_of, counters_of_terms, counters_of_variants, counters_of_choices, counters_of_options, counters_of_else, counters_of_arms, counters_of_list, arms_code, list_code, term_code, terms_code, variants_code, choices_code, options_code, else_code, whole_code}
 use Rattle.occ_code.proofs.CodeSizes.{arm_length, each_arm_length}
 
 mutual
   counters_short : (slot : ℕ) (t : Term) → counters_of t ≤ length (term_code slot t)
   counters_short slot Skip = omega arith
-  counters_short slot Stop = omega arith
+  counters_short slot (Stop line) = omega arith
   counters_short slot (Assign ts vs) = omega arith
   counters_short slot (Input c ts) = omega arith
   counters_short slot (Output c tag is) = omega arith
-  counters_short slot (VariantInput c vs) = omega (arith, variants_short slot vs, length-append (place_code c ++ Receive ∷ []) (variants_code slot vs))
+  counters_short slot (VariantInput c vs) = omega (arith, variants_short slot (place_line c) vs, length-append (place_code c ++ Receive (place_line c) ∷ []) (variants_code slot (place_line c) vs))
   counters_short slot (Seq ts) = omega (arith, terms_short slot ts)
-  counters_short slot (Par bs) = omega arith
-  counters_short slot (Alt pri arms) = omega (arith, arms_short slot arms 1, length-append (arms_code slot arms 1) (ChooseArm pri (length (arms_code slot arms 1)) ∷ []))
-  counters_short slot (If cs) = omega (arith, choices_short slot cs 1, length-append (choices_code slot cs 1) (Halt ∷ []))
-  counters_short slot (Case e os) =
-      omega (arith, options_short slot os (length (else_code slot os)), else_short slot os, length-append (expression_code e) (options_code slot os (length (else_code slot os)) ++ else_code slot os), length-append (options_code slot os (length (else_code slot os))) (else_code slot os))
-  counters_short slot (While e b) =
-      omega (arith, counters_short slot b, length-append (expression_code e) (Choose (length (term_code slot b) + 1) ∷ (term_code slot b ++ LoopBack (length (expression_code e) + 1 + length (term_code slot b)) ∷ [])), length-append (term_code slot b) (LoopBack (length (expression_code e) + 1 + length (term_code slot b)) ∷ []))
+  counters_short slot (Par line bs) = omega arith
+  counters_short slot (Alt line pri arms) = omega (arith, arms_short slot arms 1, length-append (arms_code slot arms 1) (ChooseArm line pri (length (arms_code slot arms 1)) ∷ []))
+  counters_short slot (If line cs) = omega (arith, choices_short slot cs 1, length-append (choices_code slot cs 1) (Halt line ∷ []))
+  counters_short slot (Case line e os) =
+      omega (arith, options_short slot os (length (else_code slot line os)), else_short slot line os, length-append (expression_code e) (options_code slot os (length (else_code slot line os)) ++ else_code slot line os), length-append (options_code slot os (length (else_code slot line os))) (else_code slot line os))
+  counters_short slot (While line e b) =
+      omega (arith, counters_short slot b, length-append (expression_code e) (Choose (length (term_code slot b) + 1) ∷ (term_code slot b ++ LoopBack line (length (expression_code e) + 1 + length (term_code slot b)) ∷ [])), length-append (term_code slot b) (LoopBack line (length (expression_code e) + 1 + length (term_code slot b)) ∷ []))
   counters_short slot (Each r b) =
       omega (
         arith,
         counters_short (slot + 2) b,
-        length-append (counting_code r) (Begin slot (index_of r) (length (term_code (slot + 2) b) + 2) ∷ Pass slot (index_of r) (length (term_code (slot + 2) b) + 1) ∷ (term_code (slot + 2) b ++ LoopBack (length (term_code (slot + 2) b) + 1) ∷ [])),
-        length-append (term_code (slot + 2) b) (LoopBack (length (term_code (slot + 2) b) + 1) ∷ []),
+        length-append (counting_code r) (Begin slot (index_of r) (length (term_code (slot + 2) b) + 2) ∷ Pass slot (index_of r) (length (term_code (slot + 2) b) + 1) ∷ (term_code (slot + 2) b ++ LoopBack (replicator_line r) (length (term_code (slot + 2) b) + 1) ∷ [])),
+        length-append (term_code (slot + 2) b) (LoopBack (replicator_line r) (length (term_code (slot + 2) b) + 1) ∷ []),
       )
   counters_short slot (Clear first count) = omega arith
   counters_short slot (Local first value) = omega arith
@@ -43,7 +43,7 @@ mutual
   arms_short slot (skip_arm e t others) after_ =
       omega (arith, counters_short slot t, arms_short slot others after_, arm_length (term_code slot t) (skip_opening e (length (arms_code slot others after_) + after_ + 1)) (arms_code slot others after_) after_)
   arms_short slot (input_arm e c list others) after_ =
-      omega (arith, list_short slot list, arms_short slot others after_, arm_length (list_code slot list) (input_opening e c (length (arms_code slot others after_) + after_ + 1)) (arms_code slot others after_) after_)
+      omega (arith, list_short slot (place_line c) list, arms_short slot others after_, arm_length (list_code slot (place_line c) list) (input_opening e c (length (arms_code slot others after_) + after_ + 1)) (arms_code slot others after_) after_)
   arms_short slot (declared_arms d within others) after_ =
       omega (
         arith,
@@ -60,21 +60,21 @@ mutual
         each_arm_length (index_of r) (counting_code r) (arms_code slot within (2 + length (arms_code slot others after_) + after_)) (arms_code slot others after_) after_,
       )
 
-  list_short : (slot : ℕ) (list : Reception) → counters_of_list list ≤ length (list_code slot list)
-  list_short slot (Plain ts t) = omega (arith, counters_short slot t, length-append (storing_code ts) (term_code slot t))
-  list_short slot (Tagged vs) = omega (arith, variants_short slot vs)
+  list_short : (slot line : ℕ) (list : Reception) → counters_of_list list ≤ length (list_code slot line list)
+  list_short slot line (Plain ts t) = omega (arith, counters_short slot t, length-append (storing_code ts) (term_code slot t))
+  list_short slot line (Tagged vs) = omega (arith, variants_short slot line vs)
 
-  variants_short : (slot : ℕ) (vs : Variants) → counters_of_variants vs ≤ length (variants_code slot vs)
-  variants_short slot no_variants = omega arith
-  variants_short slot (or_variant tag ds ts t vs) =
+  variants_short : (slot line : ℕ) (vs : Variants) → counters_of_variants vs ≤ length (variants_code slot line vs)
+  variants_short slot line no_variants = omega arith
+  variants_short slot line (or_variant tag ds ts t vs) =
       omega (
         arith,
         counters_short slot t,
-        variants_short slot vs,
-        length-append (declarations_code ds ++ (storing_code ts ++ (term_code slot t ++ Jump (length (variants_code slot vs)) ∷ []))) (variants_code slot vs),
-        length-append (declarations_code ds) (storing_code ts ++ (term_code slot t ++ Jump (length (variants_code slot vs)) ∷ [])),
-        length-append (storing_code ts) (term_code slot t ++ Jump (length (variants_code slot vs)) ∷ []),
-        length-append (term_code slot t) (Jump (length (variants_code slot vs)) ∷ []),
+        variants_short slot line vs,
+        length-append (declarations_code ds ++ (storing_code ts ++ (term_code slot t ++ Jump (length (variants_code slot line vs)) ∷ []))) (variants_code slot line vs),
+        length-append (declarations_code ds) (storing_code ts ++ (term_code slot t ++ Jump (length (variants_code slot line vs)) ∷ [])),
+        length-append (storing_code ts) (term_code slot t ++ Jump (length (variants_code slot line vs)) ∷ []),
+        length-append (term_code slot t) (Jump (length (variants_code slot line vs)) ∷ []),
       )
 
   choices_short : (slot : ℕ) (cs : Choices) (after_ : ℕ) → counters_of_choices cs ≤ length (choices_code slot cs after_)
@@ -117,10 +117,10 @@ mutual
       )
   options_short slot (or_else ds t os) after_ = options_short slot os after_
 
-  else_short : (slot : ℕ) (os : Options) → counters_of_else os ≤ length (else_code slot os)
-  else_short slot no_options = omega arith
-  else_short slot (or_option constants ds t os) = else_short slot os
-  else_short slot (or_else ds t os) = omega (arith, counters_short slot t, length-append (declarations_code ds) (term_code slot t))
+  else_short : (slot line : ℕ) (os : Options) → counters_of_else os ≤ length (else_code slot line os)
+  else_short slot line no_options = omega arith
+  else_short slot line (or_option constants ds t os) = else_short slot line os
+  else_short slot line (or_else ds t os) = omega (arith, counters_short slot t, length-append (declarations_code ds) (term_code slot t))
 
 -- so a count of them that stops at the most of a word is exact, where the code has a length in a word
 pub all_counted : (t : Term) (n : ℕ) → n ≡ min (counters_of t) 18446744073709551615 → length (whole_code t) < 18446744073709551616 → n ≡ counters_of t

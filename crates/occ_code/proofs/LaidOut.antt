@@ -7,7 +7,7 @@ use Rattle.occ_term.specs.Terms.{Term, Skip, Stop, Assign, Input, Output, Varian
 use Rattle.occ_term.specs.Storing.{index_of}
 use Rattle.occ_machine.specs.declared.instr.Instr.{Instr}
 use Rattle.occ_machine.specs.declared.instr.Instr.TheVariants.{End, IfTaken, Jump}
-use Rattle.occ_code.specs.Expressions.{expression_code, place_code, declaration_code, declarations_code, storing_code, counting_code, skip_opening, input_opening}
+use Rattle.occ_code.specs.Expressions.{expression_code, place_code, place_line, replicator_line, declaration_code, declarations_code, storing_code, counting_code, skip_opening, input_opening}
 use Rattle.occ_code.specs.Laws.{StandsAt}
 use Rattle.occ_code.specs.Layout.{Ways, stays, jumps, TermAt, TermsAt, ArmsAt, PassesArms, ListAt, VariantsAt, ChoicesAt, OptionsAt, ElseAt}
 use Rattle.occ_code.specs.Emitted.{counters_of, counters_of_terms, counters_of_variants, counters_of_choices, counters_of_options, counters_of_else, arm_code, arms_code, list_code, counters_of_arms, counters_of_list, term_code, terms_code, variants_code, choices_code, options_code, else_code, whole_code, body_of, CompiledDo}
@@ -74,14 +74,14 @@ module _ (code : List (Instr ℕ)) (loops : ℕ) (short : length code < 42949672
   mutual
     laid : (slot : ℕ) (t : Term) (pc m pc' : ℕ) → slot + counters_of t ≤ loops → StandsAt code pc (term_code slot t) m → Ways code m pc' → TermAt code loops slot pc t pc'
     laid slot Skip pc m pc' o h w = from_place pc m pc' h w
-    laid slot Stop pc m pc' o h w = h.0
+    laid slot (Stop line) pc m pc' o h w = h.0
     laid slot (Assign ts vs) pc m pc' o h w = (m, h, w)
     laid slot (Input c ts) pc m pc' o h w = let r = split code pc m (place_code c ++ _ ∷ []) (storing_code ts) h in (r.0, m, r.1, r.2, w)
     laid slot (Output c tag is) pc m pc' o h w = (m, h, w)
-    laid slot (VariantInput c vs) pc m pc' o h w = let r = split code pc m (place_code c ++ _ ∷ []) (variants_code slot vs) h in (r.0, r.1, variants_laid slot vs r.0 m pc' (omega (arith, o)) r.2 w)
+    laid slot (VariantInput c vs) pc m pc' o h w = let r = split code pc m (place_code c ++ _ ∷ []) (variants_code slot (place_line c) vs) h in (r.0, r.1, variants_laid slot (place_line c) vs r.0 m pc' (omega (arith, o)) r.2 w)
     laid slot (Seq ts) pc m pc' o h w = terms_laid slot ts pc m pc' (omega (arith, o)) h w
-    laid slot (Par bs) pc m pc' o h w = (m, h, w)
-    laid slot (Alt pri arms) pc m pc' o h w =
+    laid slot (Par line bs) pc m pc' o h w = (m, h, w)
+    laid slot (Alt line pri arms) pc m pc' o h w =
         let r = split code (pc + 1) m (arms_code slot arms 1) (_ ∷ []) h.1 in
         let x : pc + 1 + length (arms_code slot arms 1) ≡ r.0 = place_after code (pc + 1) r.0 (arms_code slot arms 1) r.1 in
         let y : r.0 + 1 ≡ m = r.2.1 in
@@ -89,15 +89,15 @@ module _ (code : List (Instr ℕ)) (loops : ℕ) (short : length code < 42949672
         let inside : r.0 < length code = there_below code r.0 _ r.2.0 in
         let fits : length (arms_code slot arms 1) + 1 < 4294967296 = omega (arith, x, inside, short) in
         (length (arms_code slot arms 1) + 1, r.0, length (arms_code slot arms 1), h.0, arms_laid slot arms 1 (pc + 1) r.0 m r.0 pc' 0 (length (arms_code slot arms 1) + 1) (omega (arith, o)) (omega arith) (omega arith) r.1 y stays w, r.2.0, back, fits)
-    laid slot (If cs) pc m pc' o h w =
+    laid slot (If line cs) pc m pc' o h w =
         let r = split code pc m (choices_code slot cs 1) (_ ∷ []) h in
         (r.0, choices_laid slot cs 1 pc r.0 m r.0 pc' (omega (arith, o)) r.1 r.2.1 stays w, r.2.0)
-    laid slot (Case e os) pc m pc' o h w =
-        let r = split code pc m (expression_code e) (options_code slot os (length (else_code slot os)) ++ else_code slot os) h in
-        let r' = split code r.0 m (options_code slot os (length (else_code slot os))) (else_code slot os) r.2 in
-        let past = place_after code r'.0 m (else_code slot os) r'.2 in
-        (r.0, r'.0, r.1, options_laid slot os (length (else_code slot os)) r.0 r'.0 m r'.0 pc' (omega (arith, o)) r'.1 past stays w, else_laid slot os r'.0 m pc' (omega (arith, o)) r'.2 w)
-    laid slot (While e b) pc m pc' o h w =
+    laid slot (Case line e os) pc m pc' o h w =
+        let r = split code pc m (expression_code e) (options_code slot os (length (else_code slot line os)) ++ else_code slot line os) h in
+        let r' = split code r.0 m (options_code slot os (length (else_code slot line os))) (else_code slot line os) r.2 in
+        let past = place_after code r'.0 m (else_code slot line os) r'.2 in
+        (r.0, r'.0, r.1, options_laid slot os (length (else_code slot line os)) r.0 r'.0 m r'.0 pc' (omega (arith, o)) r'.1 past stays w, else_laid slot line os r'.0 m pc' (omega (arith, o)) r'.2 w)
+    laid slot (While line e b) pc m pc' o h w =
         let r = split code pc m (expression_code e) _ h in
         let r' = split code (r.0 + 1) m (term_code slot b) _ r.2.1 in
         let x : pc + length (expression_code e) ≡ r.0 = place_after code pc r.0 (expression_code e) r.1 in
@@ -105,7 +105,7 @@ module _ (code : List (Instr ℕ)) (loops : ℕ) (short : length code < 42949672
         let z : r'.0 + 1 ≡ m = r'.2.1 in
         let out : r.0 + 1 + (length (term_code slot b) + 1) ≡ m = omega (arith, y, z) in
         let back : r'.0 - (length (expression_code e) + 1 + length (term_code slot b)) ≡ pc = omega (arith, x, y) in
-        (r.0, length (term_code slot b) + 1, r'.0, r.1, r.2.0, from_place (r.0 + 1 + (length (term_code slot b) + 1)) m pc' out w, laid slot b (r.0 + 1) r'.0 r'.0 (omega (arith, o)) r'.1 stays, (length (expression_code e) + 1 + length (term_code slot b), r'.2.0, back))
+        (r.0, length (term_code slot b) + 1, r'.0, r.1, r.2.0, from_place (r.0 + 1 + (length (term_code slot b) + 1)) m pc' out w, laid slot b (r.0 + 1) r'.0 r'.0 (omega (arith, o)) r'.1 stays, (length (expression_code e) + 1 + length (term_code slot b), (line, r'.2.0), back))
     laid slot (Each r b) pc m pc' o h w =
         let body = term_code (slot + 2) b in
         let a = split code pc m (counting_code r) _ h in
@@ -127,7 +127,7 @@ module _ (code : List (Instr ℕ)) (loops : ℕ) (short : length code < 42949672
             a.2.1.0,
             from_place (a.0 + 1 + 1 + (length (term_code (slot + 2) b) + 1)) m pc' out' w,
             laid (slot + 2) b (a.0 + 1 + 1) c.0 c.0 (omega (arith, o)) c.1 stays,
-            (length body + 1, c.2.0, back),
+            (length body + 1, (replicator_line r, c.2.0), back),
           ),
         )
     laid slot (Clear first count) pc m pc' o h w = (m, h, w)
@@ -154,13 +154,13 @@ module _ (code : List (Instr ℕ)) (loops : ℕ) (short : length code < 42949672
         )
     arms_laid slot (input_arm e c list others) after_ pc m out next pc' low high o lo hi h past v w =
         let rest = arms_code slot others after_ in
-        let r = arm_laid (list_code slot list) (input_opening e c (length (arms_code slot others after_) + after_ + 1)) (arms_code slot others after_) after_ pc m out pc' low high h past lo hi w in (
+        let r = arm_laid (list_code slot (place_line c) list) (input_opening e c (length (arms_code slot others after_) + after_ + 1)) (arms_code slot others after_) after_ pc m out pc' low high h past lo hi w in (
           length rest + after_,
           r.others_at,
-          length (list_code slot list) + 1,
+          length (list_code slot (place_line c) list) + 1,
           r.passes,
           r.taken,
-          list_laid slot list (pc + 1 + 1) r.ends pc' (omega (arith, o)) r.stands r.goes_on,
+          list_laid slot (place_line c) list (pc + 1 + 1) r.ends pc' (omega (arith, o)) r.stands r.goes_on,
           r.opening,
           arms_laid slot others after_ r.others_at m out next pc' low (length (arms_code slot others after_) + after_) (omega (arith, o)) lo (omega arith) r.rest past v w,
         )
@@ -213,30 +213,30 @@ module _ (code : List (Instr ℕ)) (loops : ℕ) (short : length code < 42949672
           arms_laid slot others after_ (b.0 + 1 + 1) m out next pc' low (length (arms_code slot others after_) + after_) (omega (arith, o)) lo (omega arith) b.2.1.1 past v w,
         )
 
-    list_laid : (slot : ℕ) (list : Reception) (pc m pc' : ℕ) → slot + counters_of_list list ≤ loops → StandsAt code pc (list_code slot list) m → Ways code m pc' → ListAt code loops slot pc list pc'
-    list_laid slot (Plain ts t) pc m pc' o h w = let r = split code pc m (storing_code ts) (term_code slot t) h in (r.0, r.1, laid slot t r.0 m pc' (omega (arith, o)) r.2 w)
-    list_laid slot (Tagged vs) pc m pc' o h w = variants_laid slot vs pc m pc' (omega (arith, o)) h w
+    list_laid : (slot line : ℕ) (list : Reception) (pc m pc' : ℕ) → slot + counters_of_list list ≤ loops → StandsAt code pc (list_code slot line list) m → Ways code m pc' → ListAt code loops slot pc list pc'
+    list_laid slot line (Plain ts t) pc m pc' o h w = let r = split code pc m (storing_code ts) (term_code slot t) h in (r.0, r.1, laid slot t r.0 m pc' (omega (arith, o)) r.2 w)
+    list_laid slot line (Tagged vs) pc m pc' o h w = variants_laid slot line vs pc m pc' (omega (arith, o)) h w
 
-    variants_laid : (slot : ℕ) (vs : Variants) (pc m pc' : ℕ) → slot + counters_of_variants vs ≤ loops → StandsAt code pc (variants_code slot vs) m → Ways code m pc' → VariantsAt code loops slot pc vs pc'
-    variants_laid slot no_variants pc m pc' o h w = h.0
-    variants_laid slot (or_variant tag ds ts t vs) pc m pc' o h w =
+    variants_laid : (slot line : ℕ) (vs : Variants) (pc m pc' : ℕ) → slot + counters_of_variants vs ≤ loops → StandsAt code pc (variants_code slot line vs) m → Ways code m pc' → VariantsAt code loops slot pc vs pc'
+    variants_laid slot line no_variants pc m pc' o h w = (line, h.0)
+    variants_laid slot line (or_variant tag ds ts t vs) pc m pc' o h w =
         let chosen = declarations_code ds ++ (storing_code ts ++ (term_code slot t ++ _ ∷ [])) in
-        let r = split code (pc + 1) m chosen (variants_code slot vs) h.1 in
+        let r = split code (pc + 1) m chosen (variants_code slot line vs) h.1 in
         let a = split code (pc + 1) r.0 (declarations_code ds) (storing_code ts ++ (term_code slot t ++ _ ∷ [])) r.1 in
         let b = split code a.0 r.0 (storing_code ts) (term_code slot t ++ _ ∷ []) a.2 in
         let c = split code b.0 r.0 (term_code slot t) (_ ∷ []) b.2 in
         let x = place_after code (pc + 1) r.0 chosen r.1 in
-        let y : r.0 + length (variants_code slot vs) ≡ m = place_after code r.0 m (variants_code slot vs) r.2 in
+        let y : r.0 + length (variants_code slot line vs) ≡ m = place_after code r.0 m (variants_code slot line vs) r.2 in
         let z : c.0 + 1 ≡ r.0 = c.2.1 in
-        let out : c.0 + 1 + length (variants_code slot vs) ≡ m = omega (arith, y, z) in (
+        let out : c.0 + 1 + length (variants_code slot line vs) ≡ m = omega (arith, y, z) in (
           length chosen,
           a.0,
           b.0,
           h.0,
           a.1,
           b.1,
-          laid slot t b.0 c.0 pc' (omega (arith, o)) c.1 (jumps c.2.0 (from_place (c.0 + 1 + length (variants_code slot vs)) m pc' out w)),
-          subst (λ n. VariantsAt code loops slot n vs pc') (sym x) (variants_laid slot vs r.0 m pc' (omega (arith, o)) r.2 w),
+          laid slot t b.0 c.0 pc' (omega (arith, o)) c.1 (jumps c.2.0 (from_place (c.0 + 1 + length (variants_code slot line vs)) m pc' out w)),
+          subst (λ n. VariantsAt code loops slot n vs pc') (sym x) (variants_laid slot line vs r.0 m pc' (omega (arith, o)) r.2 w),
         )
 
     choices_laid : (slot : ℕ) (cs : Choices) (after_ pc m out next pc' : ℕ) → slot + counters_of_choices cs ≤ loops → StandsAt code pc (choices_code slot cs after_) m → m + after_ ≡ out → Ways code m next → Ways code out pc' → ChoicesAt code loops slot pc cs next pc'
@@ -302,10 +302,10 @@ module _ (code : List (Instr ℕ)) (loops : ℕ) (short : length code < 42949672
         )
     options_laid slot (or_else ds t os) after_ pc m out next pc' o h past v w = options_laid slot os after_ pc m out next pc' (omega (arith, o)) h past v w
 
-    else_laid : (slot : ℕ) (os : Options) (pc m pc' : ℕ) → slot + counters_of_else os ≤ loops → StandsAt code pc (else_code slot os) m → Ways code m pc' → ElseAt code loops slot pc os pc'
-    else_laid slot no_options pc m pc' o h w = h.0
-    else_laid slot (or_option constants ds t os) pc m pc' o h w = else_laid slot os pc m pc' (omega (arith, o)) h w
-    else_laid slot (or_else ds t os) pc m pc' o h w = let r = split code (pc + 1) m (declarations_code ds) (term_code slot t) h.1 in (r.0, h.0, r.1, laid slot t r.0 m pc' (omega (arith, o)) r.2 w)
+    else_laid : (slot line : ℕ) (os : Options) (pc m pc' : ℕ) → slot + counters_of_else os ≤ loops → StandsAt code pc (else_code slot line os) m → Ways code m pc' → ElseAt code loops slot pc os pc'
+    else_laid slot line no_options pc m pc' o h w = (line, h.0)
+    else_laid slot line (or_option constants ds t os) pc m pc' o h w = else_laid slot line os pc m pc' (omega (arith, o)) h w
+    else_laid slot line (or_else ds t os) pc m pc' o h w = let r = split code (pc + 1) m (declarations_code ds) (term_code slot t) h.1 in (r.0, h.0, r.1, laid slot t r.0 m pc' (omega (arith, o)) r.2 w)
 
 pub compiled_do : CompiledDo
 compiled_do d t cells writes quantum few short typed held written h =

@@ -12,7 +12,7 @@ use Rattle.occ_machine.specs.Machine.{NamesWithin}
 use Rattle.occ_machine.specs.declared.instr.Instr.{Instr}
 use Rattle.occ_machine.specs.declared.instr.Instr.TheVariants.{End, OpenSkip, OpenInput}
 use Rattle.occ_code.specs.OperandOrder.{both_operands, comes_second}
-use Rattle.occ_code.specs.Expressions.{expression_code, place_code, subscripts_code, item_code, items_code, target_code, targets_code, declaration_code, declarations_code, storing_code, counting_code, assignment_code, par_code, opening_code, skip_opening, input_opening}
+use Rattle.occ_code.specs.Expressions.{expression_code, place_code, place_line, subscripts_code, item_code, items_code, target_code, targets_code, declaration_code, declarations_code, storing_code, counting_code, assignment_code, par_code, opening_code, skip_opening, input_opening}
 use Rattle.occ_code.specs.Emitted.{counters_of, counters_of_terms, counters_of_arms, counters_of_list, counters_of_variants, counters_of_choices, counters_of_options, counters_of_else, term_code, terms_code, arm_code, arms_code, list_code, variants_code, choices_code, options_code, else_code, whole_code}
 
 in_first : (a b : Bool) → IsTrue a → IsTrue (a || b)
@@ -157,9 +157,9 @@ module _ (cells : List ℕ) (loops : ℕ) where
   assignment_names (Into (place line c (n ∷ ns) subs) ∷ ts) vs h = parts_names (Into (place line c (n ∷ ns) subs) ∷ ts) vs h
   assignment_names (IntoCounted line n a ∷ ts) vs h = parts_names (IntoCounted line n a ∷ ts) vs h
 
-  fork_names : (bs : Branches) → Names (par_code bs)
-  fork_names no_branches = tt
-  fork_names (and_branch n t bs) = (tt, tt)
+  fork_names : (line : ℕ) (bs : Branches) → Names (par_code line bs)
+  fork_names line no_branches = tt
+  fork_names line (and_branch n t bs) = (tt, tt)
 
   channel_in : (c : Place) → UsedIn (input_place c) → In (reads_in_place c)
   channel_in c h = (right_used (inputting (named_by c)) (reading (reads_in_place c)) h).reads
@@ -177,7 +177,7 @@ module _ (cells : List ℕ) (loops : ℕ) where
   mutual
     term_names : (slot : ℕ) (t : Term) → slot + counters_of t ≤ loops → UsedIn (uses_of t) → Names (term_code slot t)
     term_names slot Skip o h = tt
-    term_names slot Stop o h = (tt, tt)
+    term_names slot (Stop line) o h = (tt, tt)
     term_names slot (Assign ts vs) o h = assignment_names ts vs h
     term_names slot (Input c ts) o h =
         both (place_code c ++ _ ∷ []) _ (both (place_code c) _ (place_names c (channel_in c (left_used (input_place c) (uses_of_targets ts) h))) (tt, tt)) (storing_names ts (right_used (input_place c) (uses_of_targets ts) h))
@@ -186,16 +186,16 @@ module _ (cells : List ℕ) (loops : ℕ) where
         (both (items_code is) _ (items_names is (right_used (output_place c) (reading (reads_of_items is)) h).reads) (tt, tt))
     term_names slot (VariantInput c vs) o h =
         both (place_code c ++ _ ∷ []) _ (both (place_code c) _ (place_names c (channel_in c (left_used (input_place c) (uses_of_variants vs) h))) (tt, tt))
-        (variants_names slot vs (omega (arith, o)) (right_used (input_place c) (uses_of_variants vs) h))
+        (variants_names slot (place_line c) vs (omega (arith, o)) (right_used (input_place c) (uses_of_variants vs) h))
     term_names slot (Seq ts) o h = terms_names slot ts (omega (arith, o)) h
-    term_names slot (Par bs) o h = fork_names bs
-    term_names slot (Alt pri arms) o h = (tt, both (arms_code slot arms 1) _ (arms_names slot arms 1 (omega (arith, o)) h) (tt, tt))
-    term_names slot (If cs) o h = both (choices_code slot cs 1) _ (choices_names slot cs 1 (omega (arith, o)) h) (tt, tt)
-    term_names slot (Case e os) o h =
+    term_names slot (Par line bs) o h = fork_names line bs
+    term_names slot (Alt line pri arms) o h = (tt, both (arms_code slot arms 1) _ (arms_names slot arms 1 (omega (arith, o)) h) (tt, tt))
+    term_names slot (If line cs) o h = both (choices_code slot cs 1) _ (choices_names slot cs 1 (omega (arith, o)) h) (tt, tt)
+    term_names slot (Case line e os) o h =
         both (expression_code e) _ (expression_names e (left_used (reading (reads_of e)) (uses_of_options os) h).reads)
-        (both (options_code slot os (length (else_code slot os))) _ (options_names slot os (length (else_code slot os)) (omega (arith, o)) (right_used (reading (reads_of e)) (uses_of_options os) h))
-        (else_names slot os (omega (arith, o)) (right_used (reading (reads_of e)) (uses_of_options os) h)))
-    term_names slot (While e b) o h =
+        (both (options_code slot os (length (else_code slot line os))) _ (options_names slot os (length (else_code slot line os)) (omega (arith, o)) (right_used (reading (reads_of e)) (uses_of_options os) h))
+        (else_names slot line os (omega (arith, o)) (right_used (reading (reads_of e)) (uses_of_options os) h)))
+    term_names slot (While line e b) o h =
         both (expression_code e) _ (expression_names e (left_used (reading (reads_of e)) (uses_of b) h).reads)
         (tt, both (term_code slot b) _ (term_names slot b (omega (arith, o)) (right_used (reading (reads_of e)) (uses_of b) h)) (tt, tt))
     term_names slot (Each r b) o h =
@@ -221,7 +221,7 @@ module _ (cells : List ℕ) (loops : ℕ) where
     arms_names slot (input_arm e c list others) after_ o h =
         let a = right_used (reading (reads_of (tested e))) (with_use (input_place c) (with_use (uses_of_reception list) (uses_of_arms others))) h in
         let b = right_used (input_place c) (with_use (uses_of_reception list) (uses_of_arms others)) a in
-        arm_names (list_code slot list) (input_opening e c (length (arms_code slot others after_) + after_ + 1)) (arms_code slot others after_) after_ (list_names slot list (omega (arith, o)) (left_used (uses_of_reception list) (uses_of_arms others) b))
+        arm_names (list_code slot (place_line c) list) (input_opening e c (length (arms_code slot others after_) + after_ + 1)) (arms_code slot others after_) after_ (list_names slot (place_line c) list (omega (arith, o)) (left_used (uses_of_reception list) (uses_of_arms others) b))
         (opening_names e (place_code c ++ OpenInput (pos (length (arms_code slot others after_) + after_ + 1)) ∷ []) (left_used (reading (reads_of (tested e))) (with_use (input_place c) (with_use (uses_of_reception list) (uses_of_arms others))) h).reads
         (both (place_code c) _ (place_names c (channel_in c (left_used (input_place c) (with_use (uses_of_reception list) (uses_of_arms others)) a))) (tt, tt)))
         (arms_names slot others after_ (omega (arith, o)) (right_used (uses_of_reception list) (uses_of_arms others) b))
@@ -249,13 +249,13 @@ module _ (cells : List ℕ) (loops : ℕ) where
           ),
         )
 
-    list_names : (slot : ℕ) (list : Reception) → slot + counters_of_list list ≤ loops → UsedIn (uses_of_reception list) → Names (list_code slot list)
-    list_names slot (Plain ts t) o h = both (storing_code ts) _ (storing_names ts (left_used (uses_of_targets ts) (uses_of t) h)) (term_names slot t (omega (arith, o)) (right_used (uses_of_targets ts) (uses_of t) h))
-    list_names slot (Tagged vs) o h = variants_names slot vs (omega (arith, o)) h
+    list_names : (slot line : ℕ) (list : Reception) → slot + counters_of_list list ≤ loops → UsedIn (uses_of_reception list) → Names (list_code slot line list)
+    list_names slot line (Plain ts t) o h = both (storing_code ts) _ (storing_names ts (left_used (uses_of_targets ts) (uses_of t) h)) (term_names slot t (omega (arith, o)) (right_used (uses_of_targets ts) (uses_of t) h))
+    list_names slot line (Tagged vs) o h = variants_names slot line vs (omega (arith, o)) h
 
-    variants_names : (slot : ℕ) (vs : Variants) → slot + counters_of_variants vs ≤ loops → UsedIn (uses_of_variants vs) → Names (variants_code slot vs)
-    variants_names slot no_variants o h = (tt, tt)
-    variants_names slot (or_variant tag ds ts t vs) o h =
+    variants_names : (slot line : ℕ) (vs : Variants) → slot + counters_of_variants vs ≤ loops → UsedIn (uses_of_variants vs) → Names (variants_code slot line vs)
+    variants_names slot line no_variants o h = (tt, tt)
+    variants_names slot line (or_variant tag ds ts t vs) o h =
         let a = right_used (uses_of_declarations ds) (with_use (uses_of_targets ts) (with_use (uses_of t) (uses_of_variants vs))) h in
         let b = right_used (uses_of_targets ts) (with_use (uses_of t) (uses_of_variants vs)) a in (
           tt,
@@ -263,7 +263,7 @@ module _ (cells : List ℕ) (loops : ℕ) where
               (both (declarations_code ds) _ (declarations_names ds (left_used (uses_of_declarations ds) (with_use (uses_of_targets ts) (with_use (uses_of t) (uses_of_variants vs))) h))
               (both (storing_code ts) _ (storing_names ts (left_used (uses_of_targets ts) (with_use (uses_of t) (uses_of_variants vs)) a))
               (both (term_code slot t) _ (term_names slot t (omega (arith, o)) (left_used (uses_of t) (uses_of_variants vs) b)) (tt, tt))))
-              (variants_names slot vs (omega (arith, o)) (right_used (uses_of t) (uses_of_variants vs) b)),
+              (variants_names slot line vs (omega (arith, o)) (right_used (uses_of t) (uses_of_variants vs) b)),
         )
 
     choices_names : (slot : ℕ) (cs : Choices) (after_ : ℕ) → slot + counters_of_choices cs ≤ loops → UsedIn (uses_of_choices cs) → Names (choices_code slot cs after_)
@@ -298,10 +298,10 @@ module _ (cells : List ℕ) (loops : ℕ) where
     options_names slot (or_else ds t os) after_ o h =
         options_names slot os after_ (omega (arith, o)) (right_used (uses_of t) (uses_of_options os) (right_used (uses_of_declarations ds) (with_use (uses_of t) (uses_of_options os)) h))
 
-    else_names : (slot : ℕ) (os : Options) → slot + counters_of_else os ≤ loops → UsedIn (uses_of_options os) → Names (else_code slot os)
-    else_names slot no_options o h = (tt, tt)
-    else_names slot (or_option constants ds t os) o h = else_names slot os (omega (arith, o)) (right_used (uses_of t) (uses_of_options os) (right_used (uses_of_declarations ds) (with_use (uses_of t) (uses_of_options os)) h))
-    else_names slot (or_else ds t os) o h =
+    else_names : (slot line : ℕ) (os : Options) → slot + counters_of_else os ≤ loops → UsedIn (uses_of_options os) → Names (else_code slot line os)
+    else_names slot line no_options o h = (tt, tt)
+    else_names slot line (or_option constants ds t os) o h = else_names slot line os (omega (arith, o)) (right_used (uses_of t) (uses_of_options os) (right_used (uses_of_declarations ds) (with_use (uses_of t) (uses_of_options os)) h))
+    else_names slot line (or_else ds t os) o h =
         let a = right_used (uses_of_declarations ds) (with_use (uses_of t) (uses_of_options os)) h in
         (tt, both (declarations_code ds) _ (declarations_names ds (left_used (uses_of_declarations ds) (with_use (uses_of t) (uses_of_options os)) h)) (term_names slot t (omega (arith, o)) (left_used (uses_of t) (uses_of_options os) a)))
 

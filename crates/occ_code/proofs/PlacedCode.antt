@@ -148,16 +148,16 @@ module _ (cells : List ℕ) (loops : ℕ) where
   act_same (Some (IfTrue skip)) pc st q sp f h k = refl
   act_same (Some (OpenSkip number)) pc st q sp f h k = refl
   act_same (Some (OpenInput number)) pc st q sp f h k = refl
-  act_same (Some (ChooseArm pri back)) pc st q sp f h k = refl
+  act_same (Some (ChooseArm line pri back)) pc st q sp f h k = refl
   act_same (Some (Begin slot c skip)) pc [] q sp f h k = refl
   act_same (Some (Begin slot c skip)) pc (n ∷ []) q sp f h k = refl
   act_same (Some (Begin slot c skip)) pc (n ∷ b ∷ st) q sp f h k = let there = is_place f c h k.0 in let room = is_slot f slot h k.1 in rw (there, room) (ap Moves (begun_same (indices b (nat_abs n)) pc slot c skip st q sp f h.0))
   act_same (Some (Pass slot c skip)) pc st q sp f h k = let there = is_place f c h k.0 in let room = is_slot f slot h k.1 in rw (there, room) (passed_same (counter_at f.left slot) pc slot c skip st q sp f h.0)
-  act_same (Some (LoopBack back)) pc st q sp f h k = refl
-  act_same (Some (Send tag)) pc st q sp f h k = refl
-  act_same (Some Receive) pc st q sp f h k = refl
-  act_same (Some (Fork ns)) pc st q sp f h k = refl
-  act_same (Some Halt) pc st q sp f h k = refl
+  act_same (Some (LoopBack line back)) pc st q sp f h k = refl
+  act_same (Some (Send line tag)) pc st q sp f h k = refl
+  act_same (Some (Receive line)) pc st q sp f h k = refl
+  act_same (Some (Fork line ns)) pc st q sp f h k = refl
+  act_same (Some (Halt line)) pc st q sp f h k = refl
   act_same (Some End) pc st q sp f h k = refl
 
   -- ---- the frame's cells stay
@@ -300,14 +300,14 @@ module _ (cells : List ℕ) (loops : ℕ) where
   act_shapes (Some (IfTrue skip)) pc st q sp f h = one_shapes st _ (λ x st'. either_shape (holds x) _ _ h h)
   act_shapes (Some (OpenSkip number)) pc st q sp f h = h
   act_shapes (Some (OpenInput number)) pc st q sp f h = one_shapes st _ (λ c st'. h)
-  act_shapes (Some (ChooseArm pri back)) pc st q sp f h = choosing_shapes pri back pc (map open_arm q) f h
+  act_shapes (Some (ChooseArm line pri back)) pc st q sp f h = choosing_shapes pri back pc (map open_arm q) f h
   act_shapes (Some (Begin slot c skip)) pc st q sp f h = two_shapes st _ (λ n b st'. begun_shape (indices b (nat_abs n)) pc slot c skip st' q sp f h)
   act_shapes (Some (Pass slot c skip)) pc st q sp f h = passed_shapes (counter_at f.left slot) pc slot c skip st q sp f h
-  act_shapes (Some (LoopBack back)) pc st q sp f h = h
-  act_shapes (Some (Send tag)) pc st q sp f h = one_shapes st _ (λ v st'. stops_shapes (is_number (nat_abs v)) (pc + 1) (Offers (nat_abs v) (message tag q)) f h)
-  act_shapes (Some Receive) pc st q sp f h = one_shapes st _ (λ v st'. stops_shapes (is_number (nat_abs v)) (pc + 1) (Awaits (nat_abs v)) f h)
-  act_shapes (Some (Fork ns)) pc st q sp f h = h
-  act_shapes (Some Halt) pc st q sp f h = h
+  act_shapes (Some (LoopBack line back)) pc st q sp f h = h
+  act_shapes (Some (Send line tag)) pc st q sp f h = one_shapes st _ (λ v st'. stops_shapes (is_number (nat_abs v)) (pc + 1) (Offers (nat_abs v) (message tag q)) f h)
+  act_shapes (Some (Receive line)) pc st q sp f h = one_shapes st _ (λ v st'. stops_shapes (is_number (nat_abs v)) (pc + 1) (Awaits (nat_abs v)) f h)
+  act_shapes (Some (Fork line ns)) pc st q sp f h = h
+  act_shapes (Some (Halt line)) pc st q sp f h = h
   act_shapes (Some End) pc st q sp f h = h
 
   -- ---- instructions in a row, to the stops of a turn

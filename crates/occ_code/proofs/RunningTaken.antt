@@ -57,7 +57,7 @@ module _ (code : List (Instr ℕ)) (loops : ℕ) (cells : List ℕ) (d : Declare
   pub list_runs : (slot : ℕ) → (list : Reception) (m : Message) (p : Protocol) (f : Variables) (pc pc' : ℕ) → ReceptionHas d p list → Fits p m → Has (uses_of_reception list).reads → ListAt code loops slot pc list pc'
       → DoesFrom code loops cells slot (point pc (tag_stack m.tag) m.items [] f) f (Taking [] (MessageTaken list m)) pc'
   list_runs slot list m p f pc pc' h fit k l =
-      outcome_result code loops cells slot (λ x. Do (or_stop x)) (λ x ks. refl) (λ x s s' ks e. take_in e) (λ e s s' q. in_take q) (list_enters slot list m p f pc pc' h fit k l) (λ x b e. entered code loops cells d few slot x b pc' e)
+      outcome_result code loops cells slot (λ x. Do (or_stop 0 x)) (λ x ks. refl) (λ x s s' ks e. take_in e) (λ e s s' q. in_take q) (list_enters slot list m p f pc pc' h fit k l) (λ x b e. entered code loops cells d few slot 0 x b pc' e)
 
   -- ---- an arm that was taken
 
@@ -82,9 +82,9 @@ module _ (code : List (Instr ℕ)) (loops : ℕ) (cells : List ℕ) (d : Declare
       → SetsAgain code n root settings b → slice_get code b ≡ Some (IfTaken skip) → TakenAt slot (b + 1) what pc'
       → DoesFrom code loops cells slot (point root (pos (suc n) ∷ (indices_in settings ++ tag_of what)) (items_of_taken what) [] f) f (Taking settings what) pc'
   arm_runs slot n root b skip settings what f pc' hs ht ks kt x h l =
-      outcome_result code loops cells slot (λ y. Do (or_stop y)) (λ y k. refl) (λ y s s' k e. take_in e) (λ e s s' q. in_take q)
+      outcome_result code loops cells slot (λ y. Do (or_stop 0 y)) (λ y k. refl) (λ y s s' k e. take_in e) (λ e s s' q. in_take q)
       (sets_then code cells d (set_again settings) b (pos (suc n) ∷ tag_of what) (items_of_taken what) [] (after_taken what)
       (again_runs code loops cells d few settings f root b n (tag_of what) (items_of_taken what) hs ks x)
       (λ g. performs_on code cells (steps_to code g b (pos (suc n) ∷ tag_of what) (items_of_taken what) [] (IfTaken skip) (point (b + 1) (tag_of what) (items_of_taken what) [] g) h refl)
       (taken_enters slot what g (b + 1) pc' ht kt l)))
-      (λ y c e. entered code loops cells d few slot y c pc' e)
+      (λ y c e. entered code loops cells d few slot 0 y c pc' e)

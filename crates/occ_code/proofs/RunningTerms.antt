@@ -27,7 +27,7 @@ use Rattle.occ_machine.specs.SameStop.{numbers_of}
 use Rattle.occ_machine.specs.Machine.{by_cell, open_arm, passed, turned, is_next, is_number, turning, Moves, Stuck, Point, point, Stops, act, effect, Walks, here, frame_with, counting}
 use Rattle.occ_machine.specs.declared.instr.Instr.{Instr}
 use Rattle.occ_machine.specs.declared.instr.Instr.TheVariants.{Push, ChooseArm, Choose, IfAmong, IfTag, DropOne, NextChoice, BackToChoice, Begin, Pass, Send, Receive, Halt}
-use Rattle.occ_code.specs.Expressions.{expression_code, place_code, items_code, declarations_code, par_code}
+use Rattle.occ_code.specs.Expressions.{expression_code, place_code, place_line, items_code, declarations_code, par_code}
 use Rattle.occ_code.specs.Laws.{StandsAt, FaultsAt}
 use Rattle.occ_code.specs.Layout.{Ways, stays, Counts, EachAt, TermAt, TermsAt, VariantsAt, ChoicesAt, OptionsAt, ElseAt, ListAt, LoopAt, LeadsBack}
 use Rattle.occ_code.proofs.Walks.{split, walks_on}
@@ -64,17 +64,17 @@ module _ (code : List (Instr ℕ)) (loops : ℕ) (cells : List ℕ) (d : Declare
     lands_skips : {X : Type 0} (x : X) (b : Point) (m pc' : ℕ) → Ways code m pc' → Lands code cells d m [] [] [] x b → Does b (frame_of b) (Do Skip) pc'
     lands_skips x b m pc' w e = subst (λ z. Does z (frame_of b) (Do Skip) pc') (sym e) (skips (frame_of b) m pc' w)
 
-    halts : (f : Variables) (pc pc' : ℕ) (st : List ℤ) (q : List Part) → slice_get code pc ≡ Some Halt → Does (point pc st q [] f) f (Do Stop) pc'
-    halts f pc pc' st q h room =
+    halts : (line there : ℕ) (f : Variables) (pc pc' : ℕ) (st : List ℤ) (q : List Part) → slice_get code pc ≡ Some (Halt there) → Does (point pc st q [] f) f (Do (Stop line)) pc'
+    halts line there f pc pc' st q h room =
         pauses pc Halted S.Halted [] f (record { last = point pc st q [] f; walks = here; stops = ap (λ o. act by_cell o pc st q [] f) h }) (keeps_all slot refl) at_halt
         (λ s hs. record { store = s; turn = λ k. single_turn none stop refl; holds = hs })
 
     -- branches begin, where there are any
-    forks : (bs : Branches) (f : Variables) (pc m pc' : ℕ) → StandsAt code pc (par_code bs) m → Ways code m pc' → Does (start pc f) f (Do (Par bs)) pc'
-    forks no_branches f pc m pc' l w =
+    forks : (line : ℕ) (bs : Branches) (f : Variables) (pc m pc' : ℕ) → StandsAt code pc (par_code line bs) m → Ways code m pc' → Does (start pc f) f (Do (Par line bs)) pc'
+    forks line no_branches f pc m pc' l w =
         result_after code loops cells slot here (keeps_all slot refl) (λ s hs. record { store = s; steps = λ k. more par_empty refl none; holds = hs })
         (skips f pc pc' (subst (λ n. Ways code n pc') (sym l) w))
-    forks (and_branch n t bs) f pc m pc' l w = λ room.
+    forks line (and_branch n t bs) f pc m pc' l w = λ room.
         pauses (pc + 1) (Joins (numbers_of (and_branch n t bs))) (Forking (and_branch n t bs)) [] f
         (record { last = point pc [] [] [] f; walks = here; stops = ap (λ o. act by_cell o pc [] [] [] f) l.0 }) (keeps_all slot refl)
         (at_fork slot (refl, subst (λ n. Ways code n pc') (sym l.1) w))
@@ -93,7 +93,7 @@ module _ (code : List (Instr ℕ)) (loops : ℕ) (cells : List ℕ) (d : Declare
     has_its_number c p f hc a e = few.channels (first_of a) p (channel_declared d (at f) c p a hc e)
 
     outputs : (c : Place) (tag : Option ℕ) (is : List Item) (p : Protocol) (types : List PartType) (f : Variables) (pc m pc' : ℕ) → ChannelHas d c p → ItemsHave d is types → Has (reads_in_place c) → Has (reads_of_items is)
-        → StandsAt code pc (place_code c ++ (items_code is ++ Send tag ∷ [])) m → Ways code m pc' → Does (start pc f) f (Do (Output c tag is)) pc'
+        → StandsAt code pc (place_code c ++ (items_code is ++ Send (place_line c) tag ∷ [])) m → Ways code m pc' → Does (start pc f) f (Do (Output c tag is)) pc'
     outputs c tag is p types f pc m pc' hc hi kc ki at_place w =
         let (a, h, r) = split code pc m (place_code c) _ at_place in
         let (b, h', l) = split code a m (items_code is) _ r in
@@ -131,7 +131,7 @@ module _ (code : List (Instr ℕ)) (loops : ℕ) (cells : List ℕ) (d : Declare
         fault_after v z = record { last = z.last; stands = z.stands; walks = walks_on v z.walks; stops = z.stops }
 
     awaits : (c : Place) (list : Reception) (x : Doing) (p : Protocol) (f : Variables) (pc n pc' : ℕ) → ChannelHas d c p → Has (reads_in_place c)
-        → StandsAt code pc (place_code c ++ Receive ∷ []) n → ListAt code loops slot n list pc'
+        → StandsAt code pc (place_code c ++ Receive (place_line c) ∷ []) n → ListAt code loops slot n list pc'
         → ((s : Store) (y : Doing) (k : List Context) → await_of c list s ≡ Value y → Step (left x k) s (left y k) s) → ((s : Store) (e : Fault) → await_of c list s ≡ Fails e → FaultsIn x s e s)
         → Does (start pc f) f x pc'
     awaits c list x p f pc n pc' hc kc at_place l step fault =
@@ -208,7 +208,7 @@ module _ (code : List (Instr ℕ)) (loops : ℕ) (cells : List ℕ) (d : Declare
     -- ---- CASE and variants: where nothing is selected there is the halt
 
     abbrev pub EntersTo : ℕ → Option Term → Point → Type 0
-    EntersTo pc' None b = Does b (frame_of b) (Do Stop) pc'
+    EntersTo pc' None b = (line : ℕ) → Does b (frame_of b) (Do (Stop line)) pc'
     EntersTo pc' (Some t) b = Does b (frame_of b) (Do t) pc'
 
     abbrev pub Enters : Variables → Point → (Store → Outcome (Option Term)) → ℕ → Type 0
@@ -218,8 +218,8 @@ module _ (code : List (Instr ℕ)) (loops : ℕ) (cells : List ℕ) (d : Declare
     enters_as o o' pc' e (performs x b w t l h) = performs x b w t l (λ s hs. let r = h s hs in record { store = r.store; gives_it = e s ∙ r.gives_it; holds = r.holds })
     enters_as o o' pc' e (refuses x g z l h) = refuses x g z l (λ s hs. let r = h s hs in record { store = r.store; faults_by = e s ∙ r.faults_by; holds = r.holds })
 
-    enters_none : (f : Variables) (pc pc' : ℕ) (st : List ℤ) (q : List Part) → slice_get code pc ≡ Some Halt → Enters f (point pc st q [] f) (λ s. Gives None s) pc'
-    enters_none f pc pc' st q h = performs None (point pc st q [] f) here (halts f pc pc' st q h) refl (λ s hs. record { store = s; gives_it = refl; holds = hs })
+    enters_none : (there : ℕ) (f : Variables) (pc pc' : ℕ) (st : List ℤ) (q : List Part) → slice_get code pc ≡ Some (Halt there) → Enters f (point pc st q [] f) (λ s. Gives None s) pc'
+    enters_none there f pc pc' st q h = performs None (point pc st q [] f) here (λ line. halts line there f pc pc' st q h) refl (λ s hs. record { store = s; gives_it = refl; holds = hs })
 
     among : (f : Variables) (pc skip pc' : ℕ) (v : ℤ) (constants : List ℤ) (ds : List Declaration) (t : Term) (others other : Option Selected) (b : Bool) → is_among v constants ≡ b → slice_get code pc ≡ Some (IfAmong constants skip)
         → Enters f (start (pc + 1) f) (enters (Some (selected ds t))) pc' → Enters f (point (pc + 1 + skip) (v ∷ []) [] [] f) (enters (either others other)) pc'
@@ -241,19 +241,19 @@ module _ (code : List (Instr ℕ)) (loops : ℕ) (cells : List ℕ) (d : Declare
         (performs_on code cells (steps_to code f pc (pos tag ∷ []) ps [] (IfTag t skip) (point (pc + 1 + skip) (pos tag ∷ []) ps [] f) h (rw e refl)) o)
 
     pub untagged_halts : (vs : Variants) (f : Variables) (pc pc' : ℕ) (ps : List Part) → VariantsAt code loops slot pc vs pc' → Enters f (point pc [] ps [] f) (λ s. Gives None s) pc'
-    untagged_halts no_variants f pc pc' ps h = enters_none f pc pc' [] ps h
+    untagged_halts no_variants f pc pc' ps h = enters_none h.0 f pc pc' [] ps h.1
     untagged_halts (or_variant tag ds ts t vs) f pc pc' ps h =
         performs_on code cells (steps_to code f pc [] ps [] (IfTag tag h.0) (point (pc + 1 + h.0) [] ps [] f) h.3 refl) (untagged_halts vs f (pc + 1 + h.0) pc' ps h.7)
 
     -- ---- ALT
 
     -- the arms are opened: it chooses among them, or halts with none
-    alts : (pri : Bool) (arms : Arms) (f : Variables) (pc n back pc' : ℕ) → slice_get code pc ≡ Some (Push (pos 0)) → slice_get code n ≡ Some (ChooseArm pri back) → n - back ≡ pc + 1
-        → Opens code loops cells d slot (pc + 1) pc' f (point (pc + 1) (pos 0 ∷ []) [] [] f) (enabled arms []) [] [] n → Does (start pc f) f (Do (Alt pri arms)) pc'
-    alts pri arms f pc n back pc' hp hc root (refuses e g z l h) =
+    alts : (line : ℕ) (pri : Bool) (arms : Arms) (f : Variables) (pc n back pc' : ℕ) → slice_get code pc ≡ Some (Push (pos 0)) → slice_get code n ≡ Some (ChooseArm line pri back) → n - back ≡ pc + 1
+        → Opens code loops cells d slot (pc + 1) pc' f (point (pc + 1) (pos 0 ∷ []) [] [] f) (enabled arms []) [] [] n → Does (start pc f) f (Do (Alt line pri arms)) pc'
+    alts line pri arms f pc n back pc' hp hc root (refuses e g z l h) =
         faulted code loops cells slot (record { last = z.last; stands = z.stands; walks = walks_on (steps_to code f pc [] [] [] (Push (pos 0)) (point (pc + 1) (pos 0 ∷ []) [] [] f) hp refl) z.walks; stops = z.stops }) l
         (λ s hs. let r = h s hs in record { store = r.store; fault_in = in_alt r.faults_by; holds = r.holds })
-    alts pri arms f pc n back pc' hp hc root (performs es b w t l h) = by_arms es t.opened t.laid t.lands h
+    alts line pri arms f pc n back pc' hp hc root (performs es b w t l h) = by_arms es t.opened t.laid t.lands h
       where
         Given : List Enabled → Type 0
         Given xs = (s : Store) → HoldsAs cells f s → GivesAs cells (enabled arms [] s) xs (frame_of b)
@@ -261,7 +261,7 @@ module _ (code : List (Instr ℕ)) (loops : ℕ) (cells : List ℕ) (d : Declare
         walk : Walks by_cell code (start pc f) b
         walk = walks_on (steps_to code f pc [] [] [] (Push (pos 0)) (point (pc + 1) (pos 0 ∷ []) [] [] f) hp refl) w
 
-        by_arms : (es : List Enabled) (ps : List Part) → ArmsLaid code loops slot (pc + 1) (map open_arm ps) es pc' → b ≡ point n (pos 0 ∷ []) ps [] (frame_of b) → Given es → Does (start pc f) f (Do (Alt pri arms)) pc'
+        by_arms : (es : List Enabled) (ps : List Part) → ArmsLaid code loops slot (pc + 1) (map open_arm ps) es pc' → b ≡ point n (pos 0 ∷ []) ps [] (frame_of b) → Given es → Does (start pc f) f (Do (Alt line pri arms)) pc'
         by_arms [] [] x lands given =
             result_after code loops cells slot walk (keeps_all slot l) (λ s hs. let r = given s hs in record { store = r.store; steps = λ ks. more (alt r.gives_it) refl none; holds = r.holds })
             (λ room'. pauses n Halted S.Halted [] (frame_of b) (record { last = b; walks = here; stops = ap (λ z. effect by_cell code z) lands ∙ ap (λ o. act by_cell o n (pos 0 ∷ []) [] [] (frame_of b)) hc }) (keeps_all slot refl) at_halt
@@ -282,7 +282,7 @@ module _ (code : List (Instr ℕ)) (loops : ℕ) (cells : List ℕ) (d : Declare
     -- ---- loops
 
     tests : (f : Variables) (pc m skip n pc' : ℕ) (e : Expression) (body : Term) → HasType d.types e Boolean → Has (reads_of e) → StandsAt code pc (expression_code e) m → slice_get code m ≡ Some (Choose skip) → Ways code (m + 1 + skip) pc'
-        → LeadsBack code n pc → TermAt code loops slot pc (While e body) pc' → Does (start (m + 1) f) f (Do body) n → Does (start pc f) f (Passing (WhileLoop e body)) pc'
+        → LeadsBack code n pc → TermAt code loops slot pc (While 0 e body) pc' → Does (start (m + 1) f) f (Do body) n → Does (start pc f) f (Passing (WhileLoop e body)) pc'
     tests f pc m skip n pc' e body he ke at_place hm w back whole r =
         comes_case code (value_of e (at f)) (expression_runs code f [] [] d.types few.cells e Boolean he pc m [] at_place)
         (λ v q walk. by_value v (holds v) refl q walk)
@@ -298,7 +298,7 @@ module _ (code : List (Instr ℕ)) (loops : ℕ) (cells : List ℕ) (d : Declare
             result_within code loops cells slot (Within (WhileLoop e body)) (λ ys kept. (slot, n, pc', refl, stays, (pc, back, whole), (refl, stays)))
             (walks_on walk (steps_to code f m (v ∷ []) [] [] (Choose skip) (start (m + 1) f) hm (rw h refl)))
             (keeps_all slot refl) (λ s hs. record { store = s; steps = λ k. more (passes_again (passed_as v true h q s hs)) refl none; holds = hs }) r
-            (λ g kept walk' t room. pauses pc Ready (Again (WhileLoop e body)) [] g (record { last = start n g; walks = walk'; stops = ap (λ o. act by_cell o n [] [] [] g) back.1 ∙ ap (λ x. Stops x g Ready) back.2 }) kept (at_loop slot pc' whole (refl, stays))
+            (λ g kept walk' t room. pauses pc Ready (Again (WhileLoop e body)) [] g (record { last = start n g; walks = walk'; stops = ap (λ o. act by_cell o n [] [] [] g) back.1.1 ∙ ap (λ x. Stops x g Ready) back.2 }) kept (at_loop slot pc' whole (refl, stays))
             (λ s hs. let u = t s hs in record { store = u.store; turn = λ k. single_turn (u.steps k) body_ends refl; holds = u.holds }))
         by_value v false h q walk =
             result_after code loops cells slot (walks_on walk (steps_to code f m (v ∷ []) [] [] (Choose skip) (start (m + 1 + skip) f) hm (rw h refl)))
@@ -313,7 +313,7 @@ module _ (code : List (Instr ℕ)) (loops : ℕ) (cells : List ℕ) (d : Declare
         result_within code loops cells slot (Within (EachLoop index (v +ℤ pos 1) n b)) (λ ys kept. (slot, l.1, pc', refl, stays, (pc, l.6, (again_at ys kept, l)), (refl, stays))) walk (turning_keeps f slot index n v)
         (λ s hs. record { store = store_with s index v; steps = λ k. more (passes_again refl) refl none; holds = turning_held f slot index n v cells s hs }) (r (turning by_cell f slot index n v))
         (λ g kept walk' t room'. pauses pc Ready (Again (EachLoop index (v +ℤ pos 1) n b)) [] g
-        (record { last = start l.1 g; walks = walk'; stops = ap (λ o. act by_cell o l.1 [] [] [] g) l.6.1 ∙ ap (λ x. Stops x g Ready) l.6.2 })
+        (record { last = start l.1 g; walks = walk'; stops = ap (λ o. act by_cell o l.1 [] [] [] g) l.6.1.1 ∙ ap (λ x. Stops x g Ready) l.6.2 })
         (keeps_on slot (turning_keeps f slot index n v) (keeps_less slot (slot + 2) (omega arith) kept))
         (at_loop slot pc' (again_at g.left kept, l) (refl, stays))
         (λ s hs. let u = t s hs in record { store = u.store; turn = λ k. single_turn (u.steps k) body_ends refl; holds = u.holds })) room
@@ -351,13 +351,13 @@ module _ (code : List (Instr ℕ)) (loops : ℕ) (cells : List ℕ) (d : Declare
         → Enters f (start pc f) (enters (Some (selected ds t))) pc'
     selected_runs ds t f pc m pc' h k l r = sets_then code cells d (all_declared ds) m [] [] [] (λ s. Gives (Some t) s) (declarations_run code cells d few ds f pc m [] [] h k l) (λ g. enters_body t g m pc' (r g))
 
-    pub entered : (x : Option Term) (b : Point) (pc' : ℕ) → EntersTo pc' x b → Does b (frame_of b) (Do (or_stop x)) pc'
-    entered None b pc' h = h
-    entered (Some t) b pc' h = h
+    pub entered : (line : ℕ) (x : Option Term) (b : Point) (pc' : ℕ) → EntersTo pc' x b → Does b (frame_of b) (Do (or_stop line x)) pc'
+    entered line None b pc' h = h line
+    entered line (Some t) b pc' h = h
 
-    chosen_runs : (x : Option Term) (b : Point) (next pc' : ℕ) → slice_get code next ≡ Some Halt → ChoiceTo [] next pc' x b → Does b (frame_of b) (Do (or_stop x)) pc'
-    chosen_runs None b next pc' h e = subst (λ z. Does z (frame_of b) (Do Stop) pc') (sym e) (halts (frame_of b) next pc' [] [] h)
-    chosen_runs (Some t) b next pc' h r = r
+    chosen_runs : (line : ℕ) (x : Option Term) (b : Point) (next pc' : ℕ) → slice_get code next ≡ Some (Halt line) → ChoiceTo [] next pc' x b → Does b (frame_of b) (Do (or_stop line x)) pc'
+    chosen_runs line None b next pc' h e = subst (λ z. Does z (frame_of b) (Do (Stop line)) pc') (sym e) (halts line line (frame_of b) next pc' [] [] h)
+    chosen_runs line (Some t) b next pc' h r = r
 
     counted_runs : (is : Indices) (select : Store → Outcome (Option Term)) (index m skip back n : ℕ) (st : List ℤ) (pc' : ℕ) → slice_get code m ≡ Some (NextChoice index skip) → slice_get code n ≡ Some (BackToChoice back) → n - back ≡ m
         → ((g : Variables) (st' : List ℤ) → Chooses g (point (m + 1) st' [] [] g) select st' n pc') → (f : Variables)
@@ -367,7 +367,7 @@ module _ (code : List (Instr ℕ)) (loops : ℕ) (cells : List ℕ) (d : Declare
   mutual
     pub term_runs : (slot : ℕ) → (t : Term) (f : Variables) (pc pc' : ℕ) → TermHas d t → Has (uses_of t).reads → TermAt code loops slot pc t pc' → DoesFrom code loops cells slot (start pc f) f (Do t) pc'
     term_runs slot Skip f pc pc' h k l = skips slot f pc pc' l
-    term_runs slot Stop f pc pc' h k l = halts slot f pc pc' [] [] l
+    term_runs slot (Stop line) f pc pc' h k l = halts slot line line f pc pc' [] [] l
     term_runs slot (Assign ts vs) f pc pc' h k l =
         outcome_result code loops cells slot (λ x. Do Skip) (λ x ks. refl) (λ x s s' ks e. assign (only_nothing slot x e)) (λ e s s' q. in_assign q)
         (assigns code cells d few ts vs (value_parts h.0) f pc l.0 h.1 h.2 (held_left code cells d (reads_of_items vs) (uses_of_targets ts).reads k) (held_right code cells d (reads_of_items vs) (uses_of_targets ts).reads k) l.1)
@@ -379,21 +379,21 @@ module _ (code : List (Instr ℕ)) (loops : ℕ) (cells : List ℕ) (d : Declare
     term_runs slot (VariantInput c vs) f pc pc' h k l =
         awaits slot c (Tagged vs) (Do (VariantInput c vs)) h.0 f pc l.0 pc' h.1 (held_left code cells d (reads_in_place c) (uses_of_variants vs).reads k) l.1 l.2 (λ s y ks e. variant e) (λ s e q. in_variant q)
     term_runs slot (Seq ts) f pc pc' h k l = terms_run slot ts f pc pc' h k l
-    term_runs slot (Par bs) f pc pc' h k l = forks slot bs f pc l.0 pc' l.1 l.2
-    term_runs slot (Alt pri arms) f pc pc' h k l =
-        alts slot pri arms f pc l.1 l.2 pc' l.3 l.5 l.6
+    term_runs slot (Par line bs) f pc pc' h k l = forks slot line bs f pc l.0 pc' l.1 l.2
+    term_runs slot (Alt line pri arms) f pc pc' h k l =
+        alts slot line pri arms f pc l.1 l.2 pc' l.3 l.5 l.6
         (arms_run code loops cells d slot (pc + 1) pc' few arms [] f (pc + 1) 0 l.0 l.1 [] [] l.7 h k l.4 refl (λ n a b. arrives))
-    term_runs slot (If cs) f pc pc' h k l =
-        outcome_result code loops cells slot (λ t. Do (or_stop t)) (λ x ks. refl) (λ x s s' ks e. if_step e) (λ e s s' q. in_if q) (choices_run slot cs f pc l.0 pc' [] h k l.1)
-        (λ x b e. chosen_runs slot x b l.0 pc' l.2 e)
-    term_runs slot (Case e os) f pc pc' h k l =
-        outcome_result code loops cells slot (λ t. Do (or_stop t)) (λ x ks. refl) (λ x s s' ks q. case q) (λ x s s' q. in_case q)
+    term_runs slot (If line cs) f pc pc' h k l =
+        outcome_result code loops cells slot (λ t. Do (or_stop line t)) (λ x ks. refl) (λ x s s' ks e. if_step e) (λ e s s' q. in_if q) (choices_run slot cs f pc l.0 pc' [] h k l.1)
+        (λ x b e. chosen_runs slot line x b l.0 pc' l.2 e)
+    term_runs slot (Case line e os) f pc pc' h k l =
+        outcome_result code loops cells slot (λ t. Do (or_stop line t)) (λ x ks. refl) (λ x s s' ks q. case q) (λ x s s' q. in_case q)
         (performs_by code cells (value_of e) (value_of e (at f)) (λ v. point l.0 (v ∷ []) [] [] f) (λ v s'. enters (either (matching v os) (else_of os)) s') (expression_runs code f [] [] d.types few.cells e h.0 h.2 pc l.0 [] l.2)
         (value_agrees slot e h.0 f h.2 (held_left code cells d (reads_of e) (uses_of_options os).reads k))
         (λ v q. options_run slot os f v l.0 l.1 pc' h.0 (else_of os) h.3 (held_right code cells d (reads_of e) (uses_of_options os).reads k) l.3
         (λ g. else_runs slot os g v l.1 pc' h.0 h.3 (held_right code cells d (reads_of e) (uses_of_options os).reads k) l.4)))
-        (λ x b q. entered slot x b pc' q)
-    term_runs slot (While e b) f pc pc' h k l =
+        (λ x b q. entered slot line x b pc' q)
+    term_runs slot (While line e b) f pc pc' h k l =
         result_after code loops cells slot here (keeps_all slot refl) (λ s hs. record { store = s; steps = λ ks. more while refl none; holds = hs })
         (tests slot f pc l.0 l.1 l.2 pc' e b h.0 (held_left code cells d (reads_of e) (uses_of b).reads k) l.3 l.4 l.5 l.7 l
         (term_runs slot b f (l.0 + 1) l.2 h.1 (held_right code cells d (reads_of e) (uses_of b).reads k) l.6))
@@ -460,7 +460,7 @@ module _ (code : List (Instr ℕ)) (loops : ℕ) (cells : List ℕ) (d : Declare
         options_run slot os f v pc next pc' type other h.2 (held_right code cells d (uses_of t).reads (uses_of_options os).reads (held_right code cells d (uses_of_declarations ds).reads (with_use (uses_of t) (uses_of_options os)).reads k)) l r
 
     else_runs : (slot : ℕ) → (os : Options) (f : Variables) (v : ℤ) (pc pc' : ℕ) (type : Primitive) → OptionsHave d type os → Has (uses_of_options os).reads → ElseAt code loops slot pc os pc' → Enters slot f (point pc (v ∷ []) [] [] f) (enters (else_of os)) pc'
-    else_runs slot no_options f v pc pc' type h k l = enters_none slot f pc pc' (v ∷ []) [] l
+    else_runs slot no_options f v pc pc' type h k l = enters_none slot l.0 f pc pc' (v ∷ []) [] l.1
     else_runs slot (or_option constants ds t os) f v pc pc' type h k l =
         else_runs slot os f v pc pc' type h.3 (held_right code cells d (uses_of t).reads (uses_of_options os).reads (held_right code cells d (uses_of_declarations ds).reads (with_use (uses_of t) (uses_of_options os)).reads k)) l
     else_runs slot (or_else ds t os) f v pc pc' type h k l =
@@ -470,7 +470,7 @@ module _ (code : List (Instr ℕ)) (loops : ℕ) (cells : List ℕ) (d : Declare
         (selected_runs slot ds t f (pc + 1) l.0 pc' h.0 kd l.2 (λ g. term_runs slot t g l.0 pc' h.1 (held_left code cells d (uses_of t).reads (uses_of_options os).reads kr) l.3))
 
     pub variants_run : (slot : ℕ) → (vs : Variants) (f : Variables) (tag pc pc' : ℕ) (ps : List Part) (p : Protocol) → VariantsHave d p vs → Has (uses_of_variants vs).reads → VariantsAt code loops slot pc vs pc' → Enters slot f (point pc (pos tag ∷ []) ps [] f) (variant_taken tag ps vs) pc'
-    variants_run slot no_variants f tag pc pc' ps p h k l = enters_none slot f pc pc' (pos tag ∷ []) ps l
+    variants_run slot no_variants f tag pc pc' ps p h k l = enters_none slot l.0 f pc pc' (pos tag ∷ []) ps l.1
     variants_run slot (or_variant t ds ts body vs) f tag pc pc' ps p h k l =
         let kd = held_left code cells d (uses_of_declarations ds).reads (with_use (uses_of_targets ts) (with_use (uses_of body) (uses_of_variants vs))).reads k in
         let kr = held_right code cells d (uses_of_declarations ds).reads (with_use (uses_of_targets ts) (with_use (uses_of body) (uses_of_variants vs))).reads k in

@@ -211,7 +211,7 @@ module _ (d : Declared) (few : AreNumbered d) (code : List (Instr ℕ)) (loops :
         frame = f;
         room = room;
         rests = stands_again k inner b at_l.2 (record { last = e.last; codes = others; ends_there = e.ends_there });
-        stops_at = record { last = point a [] [] [] f; walks = ways_walk code [] [] [] f way; stops = ap (λ o. act by_cell o a [] [] [] f) back.1 ∙ ap (λ x. Stops x f Ready) back.2 };
+        stops_at = record { last = point a [] [] [] f; walks = ways_walk code [] [] [] f way; stops = ap (λ o. act by_cell o a [] [] [] f) back.1.1 ∙ ap (λ x. Stops x f Ready) back.2 };
         turn = λ s hs. record { store = s; turn = single_turn none body_ends refl; holds = hs };
       }
 

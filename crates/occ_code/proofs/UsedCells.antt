@@ -198,18 +198,18 @@ module _ (d : Declared) (known : (c : ℕ) (t : Primitive) → d.types c ≡ Som
   mutual
     term_within : (t : Term) → TermHas d t → UsesWithin (uses_of t)
     term_within Skip h = nothing_within
-    term_within Stop h = nothing_within
+    term_within (Stop line) h = nothing_within
     term_within (Assign ts vs) h =
         with_within (reading (reads_of_items vs)) (uses_of_targets ts) (read_within (reads_of_items vs) (items_within vs (value_parts h.0) h.1)) (targets_within ts (value_parts h.0) h.2)
     term_within (Input c ts) h = with_within (input_place c) (uses_of_targets ts) (input_within c h.0 h.2) (targets_within ts h.1 h.4)
     term_within (Output c tag is) h = with_within (output_place c) (reading (reads_of_items is)) (output_within c h.0 h.2) (read_within (reads_of_items is) (items_within is h.1 h.4))
     term_within (VariantInput c vs) h = with_within (input_place c) (uses_of_variants vs) (input_within c h.0 h.1) (variants_within h.0 vs h.2)
     term_within (Seq ts) h = terms_within ts h
-    term_within (Par bs) h = branches_within bs h
-    term_within (Alt pri arms) h = arms_within arms h
-    term_within (If cs) h = choices_within cs h
-    term_within (Case e os) h = with_within (reading (reads_of e)) (uses_of_options os) (read_within (reads_of e) (expression_within e h.0 h.2)) (options_within h.0 os h.3)
-    term_within (While e b) h = with_within (reading (reads_of e)) (uses_of b) (read_within (reads_of e) (expression_within e Boolean h.0)) (term_within b h.1)
+    term_within (Par line bs) h = branches_within bs h
+    term_within (Alt line pri arms) h = arms_within arms h
+    term_within (If line cs) h = choices_within cs h
+    term_within (Case line e os) h = with_within (reading (reads_of e)) (uses_of_options os) (read_within (reads_of e) (expression_within e h.0 h.2)) (options_within h.0 os h.3)
+    term_within (While line e b) h = with_within (reading (reads_of e)) (uses_of b) (read_within (reads_of e) (expression_within e Boolean h.0)) (term_within b h.1)
     term_within (Each r b) h = with_within (uses_of_replicator r) (uses_of b) (replicator_within r h.0) (term_within b h.2)
     term_within (Clear first count) h = declaration_within (Clearing first count) h
     term_within (Local first value) h = declaration_within (Naming first value) h

@@ -11,22 +11,22 @@ use Rattle.occ_machine.specs.SameStop.{Lists, used_by}
 use Rattle.occ_machine.specs.Machine.{Body, placed}
 use Rattle.occ_machine.specs.declared.instr.Instr.{Instr}
 use Rattle.occ_machine.specs.declared.instr.Instr.TheVariants.{Push, Jump, Choose, IfAmong, IfTag, DropOne, NextChoice, BackToChoice, PassArms, IfTaken, SetAgain, ChooseArm, Begin, Pass, LoopBack, Send, Receive, Halt, End}
-use Rattle.occ_code.specs.Expressions.{expression_code, place_code, items_code, declaration_code, declarations_code, storing_code, counting_code, assignment_code, par_code, skip_opening, input_opening}
+use Rattle.occ_code.specs.Expressions.{expression_code, place_code, place_line, replicator_line, items_code, declaration_code, declarations_code, storing_code, counting_code, assignment_code, par_code, skip_opening, input_opening}
 use Rattle.occ_machine.specs.Alike.{DoesAs}
 use Rattle.occ_code.specs.Within.{AreNumbered}
 
--- a loop with this test, round this body
-abbrev pub while_code : List (Instr ℕ) → List (Instr ℕ) → List (Instr ℕ)
-while_code test body = test ++ Choose (length body + 1) ∷ (body ++ LoopBack (length test + 1 + length body) ∷ [])
+-- a loop in this line with this test, round this body
+abbrev pub while_code : (line : ℕ) → List (Instr ℕ) → List (Instr ℕ) → List (Instr ℕ)
+while_code line test body = test ++ Choose (length body + 1) ∷ (body ++ LoopBack line (length test + 1 + length body) ∷ [])
 
--- a replicated SEQ with its two counters from this slot on
-abbrev pub each_code : ℕ → ℕ → List (Instr ℕ) → List (Instr ℕ) → List (Instr ℕ)
-each_code slot index counts body =
-    counts ++ Begin slot index (length body + 2) ∷ Pass slot index (length body + 1) ∷ (body ++ LoopBack (length body + 1) ∷ [])
+-- a replicated SEQ in this line with its two counters from this slot on
+abbrev pub each_code : (line slot index : ℕ) → List (Instr ℕ) → List (Instr ℕ) → List (Instr ℕ)
+each_code line slot index counts body =
+    counts ++ Begin slot index (length body + 2) ∷ Pass slot index (length body + 1) ∷ (body ++ LoopBack line (length body + 1) ∷ [])
 
--- an ALT with these arms
-abbrev pub alt_code : Bool → List (Instr ℕ) → List (Instr ℕ)
-alt_code pri arms = Push (pos 0) ∷ (arms ++ ChooseArm pri (length arms) ∷ [])
+-- an ALT in this line with these arms
+abbrev pub alt_code : (line : ℕ) → Bool → List (Instr ℕ) → List (Instr ℕ)
+alt_code line pri arms = Push (pos 0) ∷ (arms ++ ChooseArm line pri (length arms) ∷ [])
 
 -- choices for each value of an index, before others
 abbrev pub each_choice_code : ℕ → List (Instr ℕ) → List (Instr ℕ) → List (Instr ℕ) → List (Instr ℕ)
@@ -63,18 +63,18 @@ each_arm_code index counts within others after =
 abbrev mutual
   pub term_code : ℕ → Term → List (Instr ℕ)
   term_code slot Skip = []
-  term_code slot Stop = Halt ∷ []
+  term_code slot (Stop line) = Halt line ∷ []
   term_code slot (Assign ts vs) = assignment_code ts vs
-  term_code slot (Input c ts) = (place_code c ++ Receive ∷ []) ++ storing_code ts
-  term_code slot (Output c tag is) = place_code c ++ (items_code is ++ Send tag ∷ [])
-  term_code slot (VariantInput c vs) = (place_code c ++ Receive ∷ []) ++ variants_code slot vs
+  term_code slot (Input c ts) = (place_code c ++ Receive (place_line c) ∷ []) ++ storing_code ts
+  term_code slot (Output c tag is) = place_code c ++ (items_code is ++ Send (place_line c) tag ∷ [])
+  term_code slot (VariantInput c vs) = (place_code c ++ Receive (place_line c) ∷ []) ++ variants_code slot (place_line c) vs
   term_code slot (Seq ts) = terms_code slot ts
-  term_code slot (Par bs) = par_code bs
-  term_code slot (Alt pri arms) = alt_code pri (arms_code slot arms 1)
-  term_code slot (If cs) = choices_code slot cs 1 ++ Halt ∷ []
-  term_code slot (Case e os) = expression_code e ++ (options_code slot os (length (else_code slot os)) ++ else_code slot os)
-  term_code slot (While e b) = while_code (expression_code e) (term_code slot b)
-  term_code slot (Each r b) = each_code slot (index_of r) (counting_code r) (term_code (slot + 2) b)
+  term_code slot (Par line bs) = par_code line bs
+  term_code slot (Alt line pri arms) = alt_code line pri (arms_code slot arms 1)
+  term_code slot (If line cs) = choices_code slot cs 1 ++ Halt line ∷ []
+  term_code slot (Case line e os) = expression_code e ++ (options_code slot os (length (else_code slot line os)) ++ else_code slot line os)
+  term_code slot (While line e b) = while_code line (expression_code e) (term_code slot b)
+  term_code slot (Each r b) = each_code (replicator_line r) slot (index_of r) (counting_code r) (term_code (slot + 2) b)
   term_code slot (Clear first count) = declaration_code (Clearing first count)
   term_code slot (Local first value) = declaration_code (Naming first value)
 
@@ -87,21 +87,22 @@ abbrev mutual
   arms_code slot (skip_arm e t others) after =
       arm_code (term_code slot t) (skip_opening e (length (arms_code slot others after) + after + 1)) (arms_code slot others after) after
   arms_code slot (input_arm e c list others) after =
-      arm_code (list_code slot list) (input_opening e c (length (arms_code slot others after) + after + 1)) (arms_code slot others after) after
+      arm_code (list_code slot (place_line c) list) (input_opening e c (length (arms_code slot others after) + after + 1)) (arms_code slot others after) after
   arms_code slot (declared_arms d within others) after =
       declared_arms_code (declaration_code d) (arms_code slot within (length (arms_code slot others after) + after)) (arms_code slot others after) after
   arms_code slot (each_arm r within others) after =
       each_arm_code (index_of r) (counting_code r) (arms_code slot within (2 + length (arms_code slot others after) + after)) (arms_code slot others after) after
 
-  pub list_code : ℕ → Reception → List (Instr ℕ)
-  list_code slot (Plain ts t) = storing_code ts ++ term_code slot t
-  list_code slot (Tagged vs) = variants_code slot vs
+  -- the line is that of the channel: so is a halt at a tag that is not listed
+  pub list_code : (slot line : ℕ) → Reception → List (Instr ℕ)
+  list_code slot line (Plain ts t) = storing_code ts ++ term_code slot t
+  list_code slot line (Tagged vs) = variants_code slot line vs
 
-  pub variants_code : ℕ → Variants → List (Instr ℕ)
-  variants_code slot no_variants = Halt ∷ []
-  variants_code slot (or_variant tag ds ts t vs) =
-      IfTag tag (length (declarations_code ds ++ (storing_code ts ++ (term_code slot t ++ Jump (length (variants_code slot vs)) ∷ []))))
-      ∷ ((declarations_code ds ++ (storing_code ts ++ (term_code slot t ++ Jump (length (variants_code slot vs)) ∷ []))) ++ variants_code slot vs)
+  pub variants_code : (slot line : ℕ) → Variants → List (Instr ℕ)
+  variants_code slot line no_variants = Halt line ∷ []
+  variants_code slot line (or_variant tag ds ts t vs) =
+      IfTag tag (length (declarations_code ds ++ (storing_code ts ++ (term_code slot t ++ Jump (length (variants_code slot line vs)) ∷ []))))
+      ∷ ((declarations_code ds ++ (storing_code ts ++ (term_code slot t ++ Jump (length (variants_code slot line vs)) ∷ []))) ++ variants_code slot line vs)
 
   pub choices_code : ℕ → Choices → ℕ → List (Instr ℕ)
   choices_code slot no_choices after = []
@@ -119,26 +120,26 @@ abbrev mutual
       ∷ ((declarations_code ds ++ (term_code slot t ++ Jump (length (options_code slot os after) + after) ∷ [])) ++ options_code slot os after)
   options_code slot (or_else ds t os) after = options_code slot os after
 
-  pub else_code : ℕ → Options → List (Instr ℕ)
-  else_code slot no_options = Halt ∷ []
-  else_code slot (or_option constants ds t os) = else_code slot os
-  else_code slot (or_else ds t os) = DropOne ∷ (declarations_code ds ++ term_code slot t)
+  pub else_code : (slot line : ℕ) → Options → List (Instr ℕ)
+  else_code slot line no_options = Halt line ∷ []
+  else_code slot line (or_option constants ds t os) = else_code slot line os
+  else_code slot line (or_else ds t os) = DropOne ∷ (declarations_code ds ++ term_code slot t)
 
 -- how many counters the replicated SEQs of a term have, within one another; those of a PAR's branches are their own
 abbrev mutual
   pub counters_of : Term → ℕ
   counters_of Skip = 0
-  counters_of Stop = 0
+  counters_of (Stop line) = 0
   counters_of (Assign ts vs) = 0
   counters_of (Input c ts) = 0
   counters_of (Output c tag is) = 0
   counters_of (VariantInput c vs) = counters_of_variants vs
   counters_of (Seq ts) = counters_of_terms ts
-  counters_of (Par bs) = 0
-  counters_of (Alt pri arms) = counters_of_arms arms
-  counters_of (If cs) = counters_of_choices cs
-  counters_of (Case e os) = max (counters_of_options os) (counters_of_else os)
-  counters_of (While e b) = counters_of b
+  counters_of (Par line bs) = 0
+  counters_of (Alt line pri arms) = counters_of_arms arms
+  counters_of (If line cs) = counters_of_choices cs
+  counters_of (Case line e os) = max (counters_of_options os) (counters_of_else os)
+  counters_of (While line e b) = counters_of b
   counters_of (Each r b) = counters_of b + 2
   counters_of (Clear first count) = 0
   counters_of (Local first value) = 0

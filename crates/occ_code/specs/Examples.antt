@@ -12,7 +12,7 @@ use Rattle.occ_machine.specs.Alike.{DoesAs}
 --   n := n + 1
 abbrev pub counts : Term
 counts =
-    While (Binary Less Int 1 (Cell 0) (Constant (pos 10)))
+    While 1 (Binary Less Int 1 (Cell 0) (Constant (pos 10)))
     (Assign (Into (place 2 0 [] no_subscripts) ∷ []) (OfOne Int (Binary Add Int 2 (Cell 0) (Constant (pos 1))) ∷ []))
 
 -- three cells are of INT
@@ -35,7 +35,7 @@ TwiceAsCompiled = DoesAs whole_numbers (body_of twice (0 ∷ []) (0 ∷ []) 1) t
 --     SKIP
 --     SKIP
 abbrev pub twice_two : Term
-twice_two = Each (replicator 1 0 (Constant (pos 0)) (Constant (pos 2))) (Par (and_branch 1 Skip (and_branch 2 Skip no_branches)))
+twice_two = Each (replicator 1 0 (Constant (pos 0)) (Constant (pos 2))) (Par 2 (and_branch 1 Skip (and_branch 2 Skip no_branches)))
 
 abbrev pub TwiceTwoAsCompiled : Type 0
 TwiceTwoAsCompiled = DoesAs whole_numbers (body_of twice_two (0 ∷ []) (0 ∷ []) 1) twice_two
@@ -46,7 +46,7 @@ TwiceTwoAsCompiled = DoesAs whole_numbers (body_of twice_two (0 ∷ []) (0 ∷ [
 --     n := b
 abbrev pub first_of_two : Term
 first_of_two =
-    Alt true
+    Alt 1 true
     (each_arm (replicator 1 0 (Constant (pos 0)) (Constant (pos 2)))
     (declared_arms (Naming 1 (OfOne Int (Cell 0))) (skip_arm (Constant (pos 1)) (Assign (Into (place 4 2 [] no_subscripts) ∷ []) (OfOne Int (Cell 1) ∷ [])) no_arms) no_arms) no_arms)
 

@@ -31,6 +31,13 @@ abbrev mutual
   subscripts_code (then_subscript e es) line [] = []
   subscripts_code (then_subscript e es) line (n ∷ ns) = expression_code e ++ Subscript line n (product ns) ∷ subscripts_code es line ns
 
+-- the line of a place, and that of a replicator
+abbrev pub place_line : Place → ℕ
+place_line (place line first sizes subs) = line
+
+abbrev pub replicator_line : Replicator → ℕ
+replicator_line (replicator line index base count) = line
+
 -- how many cells or channels a place names
 abbrev pub components_at : Place → ℕ
 components_at (place line first sizes subs) = components subs sizes
@@ -99,6 +106,6 @@ abbrev pub assignment_code : List Target → List Item → List (Instr ℕ)
 assignment_code ts vs = storing_one (single_target ts) (single_value vs) (items_code vs ++ storing_code ts)
 
 -- the code of the branches does not stand here: each has a body of its own
-abbrev pub par_code : Branches → List (Instr ℕ)
-par_code no_branches = []
-par_code (and_branch n t bs) = Fork (numbers_of (and_branch n t bs)) ∷ []
+abbrev pub par_code : (line : ℕ) → Branches → List (Instr ℕ)
+par_code line no_branches = []
+par_code line (and_branch n t bs) = Fork line (numbers_of (and_branch n t bs)) ∷ []

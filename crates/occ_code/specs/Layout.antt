@@ -11,7 +11,7 @@ use Rattle.occ_machine.specs.SameStop.{Lists, used_by}
 use Rattle.occ_machine.specs.Machine.{Body, NamesWithin, placed, counter_at, kept_value}
 use Rattle.occ_machine.specs.declared.instr.Instr.{Instr}
 use Rattle.occ_machine.specs.declared.instr.Instr.TheVariants.{End, Push, Jump, Choose, IfAmong, IfTag, DropOne, NextChoice, BackToChoice, PassArms, IfTaken, SetAgain, ChooseArm, Begin, Pass, LoopBack, Send, Receive, Halt}
-use Rattle.occ_code.specs.Expressions.{expression_code, place_code, items_code, declaration_code, declarations_code, storing_code, counting_code, assignment_code, par_code, skip_opening, input_opening}
+use Rattle.occ_code.specs.Expressions.{expression_code, place_code, place_line, items_code, declaration_code, declarations_code, storing_code, counting_code, assignment_code, par_code, skip_opening, input_opening}
 use Rattle.occ_code.specs.Laws.{StandsAt}
 use Rattle.occ_code.specs.Within.{AreNumbered}
 
@@ -20,9 +20,9 @@ pub data Ways (code : List (Instr ℕ)) : ℕ → ℕ → Type 0 where
   stays : {a : ℕ} → Ways code a a
   jumps : {a b skip : ℕ} → slice_get code a ≡ Some (Jump skip) → Ways code (a + 1 + skip) b → Ways code a b
 
--- A jump at the end of a body leads back to the head of its loop.
+-- A jump at the end of a body, in whatever line, leads back to the head of its loop.
 abbrev pub LeadsBack : List (Instr ℕ) → ℕ → ℕ → Type 0
-LeadsBack code pc head = (back : ℕ) × (slice_get code pc ≡ Some (LoopBack back)) × (pc - back ≡ head)
+LeadsBack code pc head = (back : ℕ) × ((line : ℕ) × (slice_get code pc ≡ Some (LoopBack line back))) × (pc - back ≡ head)
 
 -- Numbers above the low one, up to the last one, pass on to the place of other arms; those above it, up to the high one, go in.
 abbrev pub PassesArms : List (Instr ℕ) → ℕ → ℕ → ℕ → ℕ → ℕ → Type 0
@@ -33,20 +33,20 @@ abbrev mutual
   -- from the slot on, of which there are `loops`; what stands in it has later ones.
   pub TermAt : List (Instr ℕ) → ℕ → ℕ → ℕ → Term → ℕ → Type 0
   TermAt code loops slot pc Skip pc' = Ways code pc pc'
-  TermAt code loops slot pc Stop pc' = slice_get code pc ≡ Some Halt
+  TermAt code loops slot pc (Stop line) pc' = slice_get code pc ≡ Some (Halt line)
   TermAt code loops slot pc (Assign ts vs) pc' = (m : ℕ) × StandsAt code pc (assignment_code ts vs) m × Ways code m pc'
   TermAt code loops slot pc (Input c ts) pc' =
-      (n : ℕ) × (m : ℕ) × StandsAt code pc (place_code c ++ Receive ∷ []) n × StandsAt code n (storing_code ts) m × Ways code m pc'
-  TermAt code loops slot pc (Output c tag is) pc' = (m : ℕ) × StandsAt code pc (place_code c ++ (items_code is ++ Send tag ∷ [])) m × Ways code m pc'
-  TermAt code loops slot pc (VariantInput c vs) pc' = (n : ℕ) × StandsAt code pc (place_code c ++ Receive ∷ []) n × VariantsAt code loops slot n vs pc'
+      (n : ℕ) × (m : ℕ) × StandsAt code pc (place_code c ++ Receive (place_line c) ∷ []) n × StandsAt code n (storing_code ts) m × Ways code m pc'
+  TermAt code loops slot pc (Output c tag is) pc' = (m : ℕ) × StandsAt code pc (place_code c ++ (items_code is ++ Send (place_line c) tag ∷ [])) m × Ways code m pc'
+  TermAt code loops slot pc (VariantInput c vs) pc' = (n : ℕ) × StandsAt code pc (place_code c ++ Receive (place_line c) ∷ []) n × VariantsAt code loops slot n vs pc'
   TermAt code loops slot pc (Seq ts) pc' = TermsAt code loops slot pc ts pc'
-  TermAt code loops slot pc (Par bs) pc' = (m : ℕ) × StandsAt code pc (par_code bs) m × Ways code m pc'
-  TermAt code loops slot pc (Alt pri arms) pc' =
+  TermAt code loops slot pc (Par line bs) pc' = (m : ℕ) × StandsAt code pc (par_code line bs) m × Ways code m pc'
+  TermAt code loops slot pc (Alt line pri arms) pc' =
       (high : ℕ) × (n : ℕ) × (back : ℕ) × (slice_get code pc ≡ Some (Push (pos 0))) × ArmsAt code loops slot (pc + 1) 0 high arms n pc'
-      × (slice_get code n ≡ Some (ChooseArm pri back)) × (n - back ≡ pc + 1) × (high < 4294967296)
-  TermAt code loops slot pc (If cs) pc' = (m : ℕ) × ChoicesAt code loops slot pc cs m pc' × (slice_get code m ≡ Some Halt)
-  TermAt code loops slot pc (Case e os) pc' = (m : ℕ) × (n : ℕ) × StandsAt code pc (expression_code e) m × OptionsAt code loops slot m os n pc' × ElseAt code loops slot n os pc'
-  TermAt code loops slot pc (While e b) pc' =
+      × (slice_get code n ≡ Some (ChooseArm line pri back)) × (n - back ≡ pc + 1) × (high < 4294967296)
+  TermAt code loops slot pc (If line cs) pc' = (m : ℕ) × ChoicesAt code loops slot pc cs m pc' × (slice_get code m ≡ Some (Halt line))
+  TermAt code loops slot pc (Case line e os) pc' = (m : ℕ) × (n : ℕ) × StandsAt code pc (expression_code e) m × OptionsAt code loops slot m os n pc' × ElseAt code loops slot n os pc'
+  TermAt code loops slot pc (While line e b) pc' =
       (m : ℕ) × (skip : ℕ) × (n : ℕ) × StandsAt code pc (expression_code e) m × (slice_get code m ≡ Some (Choose skip)) × Ways code (m + 1 + skip) pc'
       × TermAt code loops slot (m + 1) b n × LeadsBack code n pc
   TermAt code loops slot pc (Each r b) pc' =
@@ -89,7 +89,7 @@ abbrev mutual
 
   -- a tag that is listed goes on with its variant, another one comes to the halt at the end
   pub VariantsAt : List (Instr ℕ) → ℕ → ℕ → ℕ → Variants → ℕ → Type 0
-  VariantsAt code loops slot pc no_variants pc' = slice_get code pc ≡ Some Halt
+  VariantsAt code loops slot pc no_variants pc' = (line : ℕ) × (slice_get code pc ≡ Some (Halt line))
   VariantsAt code loops slot pc (or_variant tag ds ts t vs) pc' =
       (skip : ℕ) × (m : ℕ) × (n : ℕ) × (slice_get code pc ≡ Some (IfTag tag skip)) × StandsAt code (pc + 1) (declarations_code ds) m × StandsAt code m (storing_code ts) n
       × TermAt code loops slot n t pc' × VariantsAt code loops slot (pc + 1 + skip) vs pc'
@@ -116,7 +116,7 @@ abbrev mutual
 
   -- the first ELSE, or the halt
   pub ElseAt : List (Instr ℕ) → ℕ → ℕ → ℕ → Options → ℕ → Type 0
-  ElseAt code loops slot pc no_options pc' = slice_get code pc ≡ Some Halt
+  ElseAt code loops slot pc no_options pc' = (line : ℕ) × (slice_get code pc ≡ Some (Halt line))
   ElseAt code loops slot pc (or_option constants ds t os) pc' = ElseAt code loops slot pc os pc'
   ElseAt code loops slot pc (or_else ds t os) pc' = (m : ℕ) × (slice_get code pc ≡ Some DropOne) × StandsAt code (pc + 1) (declarations_code ds) m × TermAt code loops slot m t pc'
 
@@ -130,9 +130,9 @@ EachAt code loops slot pc index b pc' =
 abbrev pub Counts : List ℕ → ℕ → ℤ → ℕ → Type 0
 Counts left slot v n = (counter_at left slot ≡ n) × (kept_value (counter_at left (slot + 1)) +ℤ pos 1 ≡ v)
 
--- a loop that stands again, with these counters
+-- a loop that stands again, with these counters, in whatever line
 abbrev pub LoopAt : List (Instr ℕ) → ℕ → List ℕ → ℕ → ℕ → Loop → ℕ → Type 0
-LoopAt code loops left slot pc (WhileLoop e b) pc' = TermAt code loops slot pc (While e b) pc'
+LoopAt code loops left slot pc (WhileLoop e b) pc' = TermAt code loops slot pc (While 0 e b) pc'
 LoopAt code loops left slot pc (EachLoop index v n b) pc' = Counts left slot v n × EachAt code loops slot pc index b pc'
 
 -- the slot of what stands within it

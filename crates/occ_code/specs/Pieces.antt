@@ -20,7 +20,7 @@ use Rattle.occ_code.specs.Within.{AllWithin}
 use Rattle.occ_code.specs.declared.compiling.CodeFault.{CodeFault}
 use Rattle.occ_code.specs.Emits.{AddsCode, Emits, EmitsAround}
 use Rattle.occ_code.specs.Emitted.{each_choice_code, each_code, each_value_code}
-use Rattle.occ_code.specs.Expressions.{counting_code, declarations_code, expression_code, input_opening, items_code, place_code, storing_code}
+use Rattle.occ_code.specs.Expressions.{counting_code, declarations_code, expression_code, input_opening, items_code, place_code, place_line, replicator_line, storing_code}
 
 -- where memory was not refused, a piece was emitted
 abbrev pub AddsPiece : {X E A : Type 0} → Result X E → Vec (Instr ℕ) A → Vec (Instr ℕ) A → List (Instr ℕ) → Type 0
@@ -63,10 +63,10 @@ abbrev pub target_of_counted : ℕ → Place → Place → Target
 target_of_counted line count array = IntoCounted line (place_of count) (place_of array)
 
 abbrev pub input_code : PlaceTerm → List Target → List (Instr ℕ)
-input_code channel targets = (place_code channel ++ Receive ∷ []) ++ storing_code targets
+input_code channel targets = (place_code channel ++ Receive (place_line channel) ∷ []) ++ storing_code targets
 
 abbrev pub output_code : PlaceTerm → Option ℕ → List Item → List (Instr ℕ)
-output_code channel tag items = place_code channel ++ (items_code items ++ Send tag ∷ [])
+output_code channel tag items = place_code channel ++ (items_code items ++ Send (place_line channel) tag ∷ [])
 
 -- the test of a choice whose body has so many instructions
 abbrev pub choosing_code : Expression → ℕ → List (Instr ℕ)
@@ -94,7 +94,7 @@ abbrev pub values_over : Replicator → List (Instr ℕ) → List (Instr ℕ)
 values_over over body = each_value_code (index_of (replicator_of over)) (counting_code (replicator_of over)) body
 
 abbrev pub rounds_over : ℕ → Replicator → List (Instr ℕ) → List (Instr ℕ)
-rounds_over slot over body = each_code slot (index_of (replicator_of over)) (counting_code (replicator_of over)) body
+rounds_over slot over body = each_code (replicator_line (replicator_of over)) slot (index_of (replicator_of over)) (counting_code (replicator_of over)) body
 
 -- such a refusal is right where no cell is past the limit
 abbrev pub RefusedIfWithin : Term → CodeFault → Type 0

@@ -23,7 +23,7 @@ pub(crate) fn emit_input(
         (input_code (place_of channel.now) (targets_of targets.now)) }
 {
     emit_storing(alloc, targets, code)?;
-    emit_place_before(alloc, channel, Instr::Receive, code)?;
+    emit_place_before(alloc, channel, Instr::Receive(channel.line), code)?;
     Ok(())
 }
 
@@ -38,25 +38,26 @@ pub(crate) fn emit_output(
     ensures { AddsPiece result code.old code.new
         (output_code (place_of channel.now) tag (items_of items.now)) }
 {
-    put(code, Instr::Send(tag))?;
+    put(code, Instr::Send(channel.line, tag))?;
     emit_items(alloc, items, code)?;
     emit_place(alloc, channel, code)?;
     Ok(())
 }
 
-/// The start of the branches of a PAR, where there are any.
+/// The start of the branches of a PAR in this line, where there are any.
 pub(crate) fn emit_par(
     alloc: Global,
+    line: u32,
     branches: &[Branch],
     code: &mut Vec<Instr<u32>>,
 ) -> Result<(), AllocError>
-    ensures { AddsPiece result code.old code.new (par_code (branches_of branches.now)) }
+    ensures { AddsPiece result code.old code.new (par_code line (branches_of branches.now)) }
 {
     if branches.is_empty() {
         return Ok(());
     }
     let numbers = branch_numbers(alloc, branches)?;
-    put(code, Instr::Fork(numbers))?;
+    put(code, Instr::Fork(line, numbers))?;
     Ok(())
 }
 

@@ -124,17 +124,18 @@ pub(crate) fn emit_each_value(
     Ok(())
 }
 
-/// The start and the end of an ALT whose arms were emitted behind the choice at the place.
+/// The start and the end of an ALT in this line, whose arms were emitted behind the choice at the place.
 pub(crate) fn emit_alt(
+    line: u32,
     pri: bool,
     place: usize,
     code: &mut Vec<Instr<u32>>,
 ) -> Result<(), AllocError>
     requires { place < length code.old.items }
-    ensures { AddsAround result place code.old code.new (alt_code pri) }
+    ensures { AddsAround result place code.old code.new (alt_code line pri) }
 {
     let back = since(code, place).saturating_sub(1);
-    put_at(code, place, Instr::ChooseArm(pri, back));
+    put_at(code, place, Instr::ChooseArm(line, pri, back));
     put(code, Instr::Push(0))?;
     Ok(())
 }

@@ -13,21 +13,21 @@ pub(crate) fn counters_in(term: &Term) -> u64
 {
     match term {
         Term::Skip => 0,
-        Term::Stop => 0,
+        Term::Stop(_) => 0,
         Term::Assign(_, _) => 0,
         Term::Input(_, _) => 0,
         Term::Output(_, _, _) => 0,
         Term::VariantInput(_, variants) => counters_in_variants(variants.as_slice()),
         Term::Seq(parts) => counters_in_terms(parts.as_slice()),
-        Term::Par(_) => 0,
-        Term::Alt(_, arms) => counters_in_arms(arms.as_slice()),
-        Term::If(choices) => counters_in_choices(choices.as_slice()),
-        Term::Case(_, options) => {
+        Term::Par(_, _) => 0,
+        Term::Alt(_, _, arms) => counters_in_arms(arms.as_slice()),
+        Term::If(_, choices) => counters_in_choices(choices.as_slice()),
+        Term::Case(_, _, options) => {
             let chosen = counters_in_options(options.as_slice());
             let otherwise = counters_in_else(options.as_slice());
             larger(chosen, otherwise)
         }
-        Term::While(_, body) => counters_in(body.get()),
+        Term::While(_, _, body) => counters_in(body.get()),
         Term::Each(_, body) => {
             let inner = counters_in(body.get());
             two_more(inner)

@@ -85,7 +85,7 @@ fn add_branches(
 {
     match term {
         Term::Skip => Ok(()),
-        Term::Stop => Ok(()),
+        Term::Stop(_) => Ok(()),
         Term::Assign(_, _) => Ok(()),
         Term::Input(_, _) => Ok(()),
         Term::Output(_, _, _) => Ok(()),
@@ -93,11 +93,11 @@ fn add_branches(
             add_in_variants(alloc, quantum, variants.as_slice(), bodies)
         }
         Term::Seq(parts) => add_in_terms(alloc, quantum, parts.as_slice(), bodies),
-        Term::Par(branches) => add_each(alloc, quantum, branches.as_slice(), bodies),
-        Term::Alt(_, arms) => add_in_arms(alloc, quantum, arms.as_slice(), bodies),
-        Term::If(choices) => add_in_choices(alloc, quantum, choices.as_slice(), bodies),
-        Term::Case(_, options) => add_in_options(alloc, quantum, options.as_slice(), bodies),
-        Term::While(_, body) => add_branches(alloc, quantum, body.get(), bodies),
+        Term::Par(_, branches) => add_each(alloc, quantum, branches.as_slice(), bodies),
+        Term::Alt(_, _, arms) => add_in_arms(alloc, quantum, arms.as_slice(), bodies),
+        Term::If(_, choices) => add_in_choices(alloc, quantum, choices.as_slice(), bodies),
+        Term::Case(_, _, options) => add_in_options(alloc, quantum, options.as_slice(), bodies),
+        Term::While(_, _, body) => add_branches(alloc, quantum, body.get(), bodies),
         Term::Each(_, body) => add_branches(alloc, quantum, body.get(), bodies),
         Term::Clear(_, _, _) => Ok(()),
         Term::Local(_, _, _) => Ok(()),

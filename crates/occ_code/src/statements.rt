@@ -1,5 +1,5 @@
 //! The code of terms.
-ghost use Rattle.std.specs.Prelude.{◌≡◌, ◌-◌, ◌+◌, ◌*◌, ◌≤◌, ◌<◌, OnOk, length};
+ghost use Rattle.std.specs.Prelude.{◌≡◌, ◌-◌, ◌+◌, ◌*◌, ◌≤◌, ◌<◌, OnOk, length, ℕ};
 ghost use Rattle.occ_term.specs.Terms as terms;
 ghost use Rattle.occ_term.specs.View.{arm_of, arms_of, choice_of, choices_of, expression_of, option_of, options_of, reception_of, term_of, terms_of, variant_of, variants_of};
 ghost use Rattle.occ_machine.specs.declared.instr.Instr.TheVariants as instructions;
@@ -39,7 +39,7 @@ pub(crate) fn emit_term(
 {
     match term {
         Term::Skip => Ok(()),
-        Term::Stop => put(code, Instr::Halt),
+        Term::Stop(line) => put(code, Instr::Halt(*line)),
         Term::Assign(targets, values) => {
             emit_assignment(alloc, targets.as_slice(), values.as_slice(), code)
         }
@@ -48,42 +48,42 @@ pub(crate) fn emit_term(
             emit_output(alloc, channel, *tag, items.as_slice(), code)
         }
         Term::VariantInput(channel, variants) => {
-            emit_variants(alloc, slot, variants.as_slice(), code)?;
-            emit_place_before(alloc, channel, Instr::Receive, code)?;
+            emit_variants(alloc, slot, channel.line, variants.as_slice(), code)?;
+            emit_place_before(alloc, channel, Instr::Receive(channel.line), code)?;
             Ok(())
         }
         Term::Seq(parts) => emit_terms(alloc, slot, parts.as_slice(), code),
-        Term::Par(branches) => emit_par(alloc, branches.as_slice(), code),
-        Term::Alt(pri, arms) => {
+        Term::Par(line, branches) => emit_par(alloc, *line, branches.as_slice(), code),
+        Term::Alt(line, pri, arms) => {
             let end = emitted(code);
-            put(code, Instr::ChooseArm(*pri, 0))?;
+            put(code, Instr::ChooseArm(*line, *pri, 0))?;
             emit_arms(alloc, slot, arms.as_slice(), end, code)?;
-            emit_alt(*pri, end, code)?;
+            emit_alt(*line, *pri, end, code)?;
             Ok(())
         }
-        Term::If(choices) => {
+        Term::If(line, choices) => {
             let end = emitted(code);
-            put(code, Instr::Halt)?;
+            put(code, Instr::Halt(*line))?;
             emit_choices(alloc, slot, choices.as_slice(), end, code)?;
             Ok(())
         }
-        Term::Case(selector, options) => {
+        Term::Case(line, selector, options) => {
             let end = emitted(code);
-            emit_else(alloc, slot, options.as_slice(), code)?;
+            emit_else(alloc, slot, *line, options.as_slice(), code)?;
             emit_options(alloc, slot, options.as_slice(), end, code)?;
             emit_expression(alloc, selector, code)?;
             Ok(())
         }
-        Term::While(test, body) => {
+        Term::While(line, test, body) => {
             let place = emitted(code);
-            put(code, Instr::LoopBack(0))?;
+            put(code, Instr::LoopBack(*line, 0))?;
             emit_term(alloc, slot, body.get(), code)?;
-            emit_test(alloc, test, place, code)?;
+            emit_test(alloc, *line, test, place, code)?;
             Ok(())
         }
         Term::Each(over, body) => {
             let place = emitted(code);
-            put(code, Instr::LoopBack(0))?;
+            put(code, Instr::LoopBack(over.line, 0))?;
             emit_term(alloc, slot + 2, body.get(), code)?;
             emit_passes(alloc, slot, over, place, code)?;
             Ok(())
@@ -112,21 +112,22 @@ fn emit_terms(
     Ok(())
 }
 
-/// The test of a loop whose body was emitted behind the jump back at the place.
+/// The test of a loop in this line, whose body was emitted behind the jump back at the place.
 fn emit_test(
     alloc: Global,
+    line: u32,
     test: &TermExpr,
     place: usize,
     code: &mut Vec<Instr<u32>>,
 ) -> Result<(), AllocError>
     requires { place < length code.old.items }
     ensures { AddsAround result place code.old code.new
-        (while_code (expression_code (expression_of test.now))) }
+        (while_code line (expression_code (expression_of test.now))) }
 {
     put(code, Instr::Choose(since(code, place)))?;
     emit_expression(alloc, test, code)?;
     let start = since(code, place).saturating_sub(1);
-    put_at(code, place, Instr::LoopBack(start));
+    put_at(code, place, Instr::LoopBack(line, start));
     Ok(())
 }
 
@@ -142,7 +143,7 @@ fn emit_passes(
     ensures { AddsAround result place code.old code.new (rounds_over slot over.now) }
 {
     let back = since(code, place);
-    put_at(code, place, Instr::LoopBack(back));
+    put_at(code, place, Instr::LoopBack(over.line, back));
     put(code, Instr::Pass(slot, over.index, back))?;
     put(code, Instr::Begin(slot, over.index, since(code, place)))?;
     emit_counting(alloc, over, code)?;
@@ -273,7 +274,7 @@ fn emit_arm(
             emit_input_opening(alloc, test, channel, end, code)?;
             let opened = emitted(code);
             put(code, Instr::Jump(since(code, end)))?;
-            emit_list(alloc, slot, list, code)?;
+            emit_list(alloc, slot, channel.line, list, code)?;
             emit_taken(before, opened, end, code)?;
             Ok(())
         }
@@ -294,16 +295,17 @@ fn emit_arm(
     }
 }
 
-/// What takes a message, and what is done then.
+/// What takes a message from a channel in this line, and what is done then.
 #[cycle(terms)]
 fn emit_list(
     alloc: Global,
     slot: u64,
+    line: u32,
     list: &Reception,
     code: &mut Vec<Instr<u32>>,
 ) -> Result<(), AllocError>
     requires room { slot + 2 ≤ 2 * length code.old.items }
-    ensures { AddsPiece result code.old code.new (list_code slot (reception_of list.now)) }
+    ensures { AddsPiece result code.old code.new (list_code slot line (reception_of list.now)) }
 {
     match list {
         Reception::Plain(targets, body) => {
@@ -311,7 +313,7 @@ fn emit_list(
             emit_storing(alloc, targets.as_slice(), code)?;
             Ok(())
         }
-        Reception::Tagged(variants) => emit_variants(alloc, slot, variants.as_slice(), code),
+        Reception::Tagged(variants) => emit_variants(alloc, slot, line, variants.as_slice(), code),
     }
 }
 
@@ -380,16 +382,17 @@ fn emit_among(
     Ok(())
 }
 
-/// The first ELSE, or the halt where there is none.
+/// The first ELSE of a CASE in this line, or the halt where there is none.
 #[cycle(terms)]
 fn emit_else(
     alloc: Global,
     slot: u64,
+    line: u32,
     options: &[Selection],
     code: &mut Vec<Instr<u32>>,
 ) -> Result<(), AllocError>
     requires room { slot + 2 ≤ 2 * length code.old.items }
-    ensures { AddsPiece result code.old code.new (else_code slot (options_of options.now)) }
+    ensures { AddsPiece result code.old code.new (else_code slot line (options_of options.now)) }
 {
     for option in options {
         match option {
@@ -402,23 +405,25 @@ fn emit_else(
             }
         }
     }
-    put(code, Instr::Halt)?;
+    put(code, Instr::Halt(line))?;
     Ok(())
 }
 
-/// Variants in order, and the halt behind them.
+/// Variants in order, and the halt behind them, in the line of the channel.
 #[cycle(terms)]
 fn emit_variants(
     alloc: Global,
     slot: u64,
+    line: u32,
     variants: &[Variant],
     code: &mut Vec<Instr<u32>>,
 ) -> Result<(), AllocError>
     requires room { slot + 2 ≤ 2 * length code.old.items }
-    ensures { AddsPiece result code.old code.new (variants_code slot (variants_of variants.now)) }
+    ensures { AddsPiece result code.old code.new
+        (variants_code slot line (variants_of variants.now)) }
 {
     let end = emitted(code);
-    put(code, Instr::Halt)?;
+    put(code, Instr::Halt(line))?;
     let mut count = variants.len();
     while count > 0 {
         count -= 1;
@@ -437,8 +442,8 @@ fn emit_variant(
     code: &mut Vec<Instr<u32>>,
 ) -> Result<(), AllocError>
     requires room { slot + 2 ≤ 2 * length code.old.items }
-    ensures { OnOk result
-        (EmitsOne (variants_code slot) (variant_of variant.now) end code.old code.new) }
+    ensures { OnOk result ((line : ℕ)
+        → EmitsOne (variants_code slot line) (variant_of variant.now) end code.old code.new) }
 {
     let before = emitted(code);
     put(code, Instr::Jump(since(code, end)))?;

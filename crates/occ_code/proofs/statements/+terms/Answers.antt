@@ -3,10 +3,10 @@ use Rattle.occ_term.specs.Storing.{index_of}
 use Rattle.occ_term.specs.View.{arm_of, arms_of, branches_of, choice_of, choices_of, declaration_of, declarations_of, expression_of, items_of, option_of, options_of, place_of, reception_of, replicator_of, targets_of, term_of, terms_of, test_of, variant_of, variants_of}
 use Rattle.occ_term.specs.declared.term.Term.{the_lemmas}
 use Rattle.occ_machine.specs.declared.instr.Instr.TheVariants.{BackToChoice, Begin, Choose, ChooseArm, DropOne, Halt, IfAmong, IfTag, Jump, LoopBack, NextChoice, Pass, Push, Receive}
-use Rattle.occ_code.specs.Expressions.{assignment_code, counting_code, declaration_code, declarations_code, expression_code, input_opening, par_code, place_code, skip_opening, storing_code}
+use Rattle.occ_code.specs.Expressions.{assignment_code, counting_code, declaration_code, declarations_code, expression_code, input_opening, par_code, place_code, place_line, replicator_line, skip_opening, storing_code}
 use Rattle.occ_code.specs.Emitted.{arm_code, arms_code, choices_code, declared_arms_code, each_arm_code, else_code, list_code, options_code, term_code, terms_code, variants_code}
 use Rattle.occ_code.specs.Pieces.{AddsPiece, input_code, output_code}
-use Rattle.occ_code.proofs.Emitting.{emits_then, emits_as, emits_from, emits_length, emits_none, drop_all}
+use Rattle.occ_code.proofs.Emitting.{emits_then, emits_as, emits_from, emits_length, emits_none, drop_all, line_seen}
 use Rattle.occ_code.proofs.EmittingArms.{declared_arms, each_arms, number_is, one_arm}
 use Rattle.occ_code.proofs.EmittingTerms.{among_others, behind, beyond, chosen, guarded, options_next, tagged}
 use Rattle.occ_code.proofs.statements.+terms.Goals as goal
@@ -16,21 +16,21 @@ use Rattle.occ_code.proofs.statements.+terms.Goals as goal
 pub emit_else-loop-option-preserved : goal.emit_else-loop-option-preserved
 emit_else-loop-option-preserved t c =
     let left = options_next c.args.options.now c.loop-option.option-index (c.loop-option.option-index + 1) c.option-item.result refl c.loop-option-test.true c.option-item.is in
-    let seen : else_code c.args.slot (options_of (drop (c.loop-option.option-index + 1) c.args.options.now)) ≡ else_code c.args.slot (option_of c.option-item.result (options_of (drop (c.loop-option.option-index + 1) c.args.options.now))) = search (rules, the_lemmas) in
-    (c.loop-option.invariant.0, seen ∙ sym (ap (λ os. else_code c.args.slot os) left) ∙ c.loop-option.invariant.1)
+    let seen : else_code c.args.slot c.args.line (options_of (drop (c.loop-option.option-index + 1) c.args.options.now)) ≡ else_code c.args.slot c.args.line (option_of c.option-item.result (options_of (drop (c.loop-option.option-index + 1) c.args.options.now))) = search (rules, the_lemmas) in
+    (c.loop-option.invariant.0, seen ∙ sym (ap (λ os. else_code c.args.slot c.args.line os) left) ∙ c.loop-option.invariant.1)
 
 pub emit_else-returns-in-Otherwise : goal.emit_else-returns-in-Otherwise
 emit_else-returns-in-Otherwise t c =
     let left = options_next c.args.options.now c.loop-option.option-index (c.loop-option.option-index + 1) c.option-item.result refl c.loop-option-test.true c.option-item.is in
-    let seen : DropOne ∷ (declarations_code (declarations_of c.as_slice.result.now) ++ term_code c.args.slot (term_of c.in-Otherwise.body)) ≡ else_code c.args.slot (option_of c.option-item.result (options_of (drop (c.loop-option.option-index + 1) c.args.options.now))) =
+    let seen : DropOne ∷ (declarations_code (declarations_of c.as_slice.result.now) ++ term_code c.args.slot (term_of c.in-Otherwise.body)) ≡ else_code c.args.slot c.args.line (option_of c.option-item.result (options_of (drop (c.loop-option.option-index + 1) c.args.options.now))) =
     search (rules, the_lemmas) in
     emits_from (sym c.loop-option.invariant.0)
-    (emits_as (emits_then (emits_then c.in_ok-emit_term-in-Otherwise.ensures c.in_ok-emit_declarations-in-Otherwise.ensures) c.in_ok-put-in-Otherwise.ensures) (seen ∙ sym (ap (λ os. else_code c.args.slot os) left) ∙ c.loop-option.invariant.1))
+    (emits_as (emits_then (emits_then c.in_ok-emit_term-in-Otherwise.ensures c.in_ok-emit_declarations-in-Otherwise.ensures) c.in_ok-put-in-Otherwise.ensures) (seen ∙ sym (ap (λ os. else_code c.args.slot c.args.line os) left) ∙ c.loop-option.invariant.1))
 
 pub emit_else-returns : goal.emit_else-returns
 emit_else-returns t c =
     let none = drop_all c.args.options.now c.loop-option.option-index c.loop-option-test.false in
-    emits_from (sym c.loop-option.invariant.0) (emits_as c.in_ok-put.ensures (sym (ap (λ os. else_code c.args.slot (options_of os)) none) ∙ c.loop-option.invariant.1))
+    emits_from (sym c.loop-option.invariant.0) (emits_as c.in_ok-put.ensures (sym (ap (λ os. else_code c.args.slot c.args.line (options_of os)) none) ∙ c.loop-option.invariant.1))
 
 -- ---- options and variants
 
@@ -40,14 +40,14 @@ emit_option-returns-in-Otherwise t c = λ before others h e.
     emits_as e seen
 
 pub emit_variant-returns : goal.emit_variant-returns
-emit_variant-returns t c = λ before others long e.
-    let R = variants_code c.args.slot others in
+emit_variant-returns t c = λ line before others long e.
+    let R = variants_code c.args.slot line others in
     let D = declarations_code (declarations_of c.as_slice-2.result.now) in
     let S = storing_code (targets_of c.as_slice.result.now) in
     let T = term_code c.args.slot (term_of c.args.variant.now.body) in
-    let seen : IfTag c.args.variant.now.tag (length (declarations_code (declarations_of c.as_slice-2.result.now) ++ (storing_code (targets_of c.as_slice.result.now) ++ (term_code c.args.slot (term_of c.args.variant.now.body) ++ Jump (length (variants_code c.args.slot others)) ∷ []))))
-    ∷ ((declarations_code (declarations_of c.as_slice-2.result.now) ++ (storing_code (targets_of c.as_slice.result.now) ++ (term_code c.args.slot (term_of c.args.variant.now.body) ++ Jump (length (variants_code c.args.slot others)) ∷ []))) ++ variants_code c.args.slot others)
-    ≡ variants_code c.args.slot (variant_of c.args.variant.now others) = search (rules, the_lemmas) in
+    let seen : IfTag c.args.variant.now.tag (length (declarations_code (declarations_of c.as_slice-2.result.now) ++ (storing_code (targets_of c.as_slice.result.now) ++ (term_code c.args.slot (term_of c.args.variant.now.body) ++ Jump (length (variants_code c.args.slot line others)) ∷ []))))
+    ∷ ((declarations_code (declarations_of c.as_slice-2.result.now) ++ (storing_code (targets_of c.as_slice.result.now) ++ (term_code c.args.slot (term_of c.args.variant.now.body) ++ Jump (length (variants_code c.args.slot line others)) ∷ []))) ++ variants_code c.args.slot line others)
+    ≡ variants_code c.args.slot line (variant_of c.args.variant.now others) = search (rules, the_lemmas) in
     let skip = c.since.ensures ∙ ap (λ n. length c.args.code.now.items - n) (sym long) in
     emits_as (tagged R T S D (IfTag c.args.variant.now.tag) c.since.result c.emitted-before.result c.since-2.result e skip c.in_ok-put.ensures c.in_ok-emit_term.ensures c.in_ok-emit_storing.ensures c.in_ok-emit_declarations.ensures c.emitted-before.ensures c.since-2.ensures c.in_ok-put-2.ensures) seen
 
@@ -111,12 +111,13 @@ emit_arm-returns-in_ok-emit_taken-in-SkipArm t c = λ before others h e.
 pub emit_arm-returns-in_ok-emit_taken-in-InputArm : goal.emit_arm-returns-in_ok-emit_taken-in-InputArm
 emit_arm-returns-in_ok-emit_taken-in-InputArm t c = λ before others h e.
     let R = arms_code c.args.slot others (length before - c.args.end) in
-    let B = list_code c.args.slot (reception_of c.in-InputArm.list) in
+    let B = list_code c.args.slot c.in-InputArm.channel.line (reception_of c.in-InputArm.list) in
     let O = input_opening (test_of c.in-InputArm.test) (place_of c.in-InputArm.channel) (length (arms_code c.args.slot others (length before - c.args.end)) + (length before - c.args.end) + 1) in
     let opens = emits_as c.in_ok-emit_input_opening-in-InputArm.ensures (ap (λ n. input_opening (test_of c.in-InputArm.test) (place_of c.in-InputArm.channel) n) (number_is R c.args.end e h)) in
-    let seen : arm_code (list_code c.args.slot (reception_of c.in-InputArm.list)) (input_opening (test_of c.in-InputArm.test) (place_of c.in-InputArm.channel) (length (arms_code c.args.slot others (length before - c.args.end)) + (length before - c.args.end) + 1)) (arms_code c.args.slot others (length before - c.args.end)) (length before - c.args.end)
+    let seen : arm_code (list_code c.args.slot (place_line (place_of c.in-InputArm.channel)) (reception_of c.in-InputArm.list)) (input_opening (test_of c.in-InputArm.test) (place_of c.in-InputArm.channel) (length (arms_code c.args.slot others (length before - c.args.end)) + (length before - c.args.end) + 1)) (arms_code c.args.slot others (length before - c.args.end)) (length before - c.args.end)
     ≡ arms_code c.args.slot (arm_of c.args.arm.now others) (length before - c.args.end) = search (rules, the_lemmas) in
-    emits_as (one_arm R c.args.end e h O B c.since-in-InputArm.result c.emitted-before.result c.emitted-opened-in-InputArm.result opens c.since-in-InputArm.ensures c.in_ok-put-in-InputArm.ensures c.in_ok-emit_list-in-InputArm.ensures c.emitted-before.ensures c.emitted-opened-in-InputArm.ensures c.in_ok-emit_taken-in-InputArm.ensures) seen
+    emits_as (one_arm R c.args.end e h O B c.since-in-InputArm.result c.emitted-before.result c.emitted-opened-in-InputArm.result opens c.since-in-InputArm.ensures c.in_ok-put-in-InputArm.ensures c.in_ok-emit_list-in-InputArm.ensures c.emitted-before.ensures c.emitted-opened-in-InputArm.ensures c.in_ok-emit_taken-in-InputArm.ensures)
+    (ap (λ n. arm_code (list_code c.args.slot n (reception_of c.in-InputArm.list)) O R (length before - c.args.end)) (sym (line_seen c.in-InputArm.channel)) ∙ seen)
 
 pub emit_arm-returns-in_ok-emit_passing-in-DeclaredArms : goal.emit_arm-returns-in_ok-emit_passing-in-DeclaredArms
 emit_arm-returns-in_ok-emit_passing-in-DeclaredArms t c = λ before others h e.
@@ -151,14 +152,14 @@ emit_term-returns-in_ok-emit_alt-in-Alt t c =
     let one : length c.put-in-Alt.new.code.items - c.emitted-end.result ≡ 1 = omega (arith, emits_length c.in_ok-put-in-Alt.ensures, c.emitted-end.ensures) in
     let inner = emits_as c.in_ok-emit_arms-in-Alt.ensures (ap (λ n. arms_code c.args.slot (arms_of c.as_slice-in-Alt.result.now) n) one) in
     let B = arms_code c.args.slot (arms_of c.as_slice-in-Alt.result.now) 1 in
-    let seen : Push (pos 0) ∷ (arms_code c.args.slot (arms_of c.as_slice-in-Alt.result.now) 1 ++ ChooseArm c.in-Alt.pri (length (arms_code c.args.slot (arms_of c.as_slice-in-Alt.result.now) 1)) ∷ []) ≡ term_code c.args.slot (term_of c.args.term.now) = search (rules, the_lemmas) in
+    let seen : Push (pos 0) ∷ (arms_code c.args.slot (arms_of c.as_slice-in-Alt.result.now) 1 ++ ChooseArm c.in-Alt.line c.in-Alt.pri (length (arms_code c.args.slot (arms_of c.as_slice-in-Alt.result.now) 1)) ∷ []) ≡ term_code c.args.slot (term_of c.args.term.now) = search (rules, the_lemmas) in
     emits_as (c.in_ok-emit_alt-in-Alt.ensures c.args.code.now.items B (sym c.emitted-end.ensures) (behind c.in_ok-put-in-Alt.ensures inner)) seen
 
 pub emit_term-returns-in_ok-emit_test-in-While : goal.emit_term-returns-in_ok-emit_test-in-While
 emit_term-returns-in_ok-emit_test-in-While t c =
     let B = term_code c.args.slot (term_of c.get.result.now) in
     let seen : expression_code (expression_of c.in-While.test) ++ Choose (length (term_code c.args.slot (term_of c.get.result.now)) + 1)
-    ∷ (term_code c.args.slot (term_of c.get.result.now) ++ LoopBack (length (expression_code (expression_of c.in-While.test)) + 1 + length (term_code c.args.slot (term_of c.get.result.now))) ∷ []) ≡ term_code c.args.slot (term_of c.args.term.now) = search (rules, the_lemmas) in
+    ∷ (term_code c.args.slot (term_of c.get.result.now) ++ LoopBack c.in-While.line (length (expression_code (expression_of c.in-While.test)) + 1 + length (term_code c.args.slot (term_of c.get.result.now))) ∷ []) ≡ term_code c.args.slot (term_of c.args.term.now) = search (rules, the_lemmas) in
     emits_as (c.in_ok-emit_test-in-While.ensures c.args.code.now.items B (sym c.emitted-place.ensures) (behind c.in_ok-put-in-While.ensures c.in_ok-emit_term-in-While.ensures)) seen
 
 pub emit_term-returns-in_ok-emit_passes-in-Each : goal.emit_term-returns-in_ok-emit_passes-in-Each
@@ -166,7 +167,7 @@ emit_term-returns-in_ok-emit_passes-in-Each t c =
     let B = term_code (c.args.slot + 2) (term_of c.get-in-Each.result.now) in
     let seen : counting_code (replicator_of c.in-Each.over) ++ Begin c.args.slot (index_of (replicator_of c.in-Each.over)) (length (term_code (c.args.slot + 2) (term_of c.get-in-Each.result.now)) + 2)
     ∷ Pass c.args.slot (index_of (replicator_of c.in-Each.over)) (length (term_code (c.args.slot + 2) (term_of c.get-in-Each.result.now)) + 1)
-    ∷ (term_code (c.args.slot + 2) (term_of c.get-in-Each.result.now) ++ LoopBack (length (term_code (c.args.slot + 2) (term_of c.get-in-Each.result.now)) + 1) ∷ []) ≡ term_code c.args.slot (term_of c.args.term.now) = search (rules, the_lemmas) in
+    ∷ (term_code (c.args.slot + 2) (term_of c.get-in-Each.result.now) ++ LoopBack (replicator_line (replicator_of c.in-Each.over)) (length (term_code (c.args.slot + 2) (term_of c.get-in-Each.result.now)) + 1) ∷ []) ≡ term_code c.args.slot (term_of c.args.term.now) = search (rules, the_lemmas) in
     emits_as (c.in_ok-emit_passes-in-Each.ensures c.args.code.now.items B (sym c.emitted-place-in-Each.ensures) (behind c.in_ok-put-in-Each.ensures c.in_ok-emit_term-in-Each.ensures)) seen
 
 -- ---- what each call asks for
@@ -195,7 +196,7 @@ emit_term-returns-in-Skip t c =
 
 pub emit_term-returns-in-Stop : goal.emit_term-returns-in-Stop
 emit_term-returns-in-Stop t c =
-    let seen : Halt ∷ [] ≡ term_code c.args.slot (term_of c.args.term.now) = search (rules, the_lemmas) in
+    let seen : Halt c.in-Stop.line ∷ [] ≡ term_code c.args.slot (term_of c.args.term.now) = search (rules, the_lemmas) in
     subst (λ p. AddsPiece c.put.result c.args.code.now c.put.new.code p) seen c.put.ensures
 
 pub emit_term-returns-in-Assign : goal.emit_term-returns-in-Assign
@@ -215,8 +216,9 @@ emit_term-returns-in-Output t c =
 
 pub emit_term-returns-in_ok-emit_place_before-in-VariantInput : goal.emit_term-returns-in_ok-emit_place_before-in-VariantInput
 emit_term-returns-in_ok-emit_place_before-in-VariantInput t c =
-    let seen : (place_code (place_of c.in-VariantInput.channel) ++ Receive ∷ []) ++ variants_code c.args.slot (variants_of c.as_slice-in-VariantInput.result.now) ≡ term_code c.args.slot (term_of c.args.term.now) = search (rules, the_lemmas) in
-    emits_as (emits_then c.in_ok-emit_variants-in-VariantInput.ensures c.in_ok-emit_place_before-in-VariantInput.ensures) seen
+    let seen : (place_code (place_of c.in-VariantInput.channel) ++ Receive (place_line (place_of c.in-VariantInput.channel)) ∷ []) ++ variants_code c.args.slot (place_line (place_of c.in-VariantInput.channel)) (variants_of c.as_slice-in-VariantInput.result.now) ≡ term_code c.args.slot (term_of c.args.term.now) = search (rules, the_lemmas) in
+    emits_as (emits_then c.in_ok-emit_variants-in-VariantInput.ensures c.in_ok-emit_place_before-in-VariantInput.ensures)
+    (ap (λ n. (place_code (place_of c.in-VariantInput.channel) ++ Receive n ∷ []) ++ variants_code c.args.slot n (variants_of c.as_slice-in-VariantInput.result.now)) (sym (line_seen c.in-VariantInput.channel)) ∙ seen)
 
 pub emit_term-returns-in-Seq : goal.emit_term-returns-in-Seq
 emit_term-returns-in-Seq t c =
@@ -225,24 +227,24 @@ emit_term-returns-in-Seq t c =
 
 pub emit_term-returns-in-Par : goal.emit_term-returns-in-Par
 emit_term-returns-in-Par t c =
-    let seen : par_code (branches_of c.as_slice-in-Par.result.now) ≡ term_code c.args.slot (term_of c.args.term.now) = search (rules, the_lemmas) in
+    let seen : par_code c.in-Par.line (branches_of c.as_slice-in-Par.result.now) ≡ term_code c.args.slot (term_of c.args.term.now) = search (rules, the_lemmas) in
     subst (λ p. AddsPiece c.emit_par.result c.args.code.now c.emit_par.new.code p) seen c.emit_par.ensures
 
 pub emit_term-returns-in_ok-emit_choices-in-If : goal.emit_term-returns-in_ok-emit_choices-in-If
 emit_term-returns-in_ok-emit_choices-in-If t c =
     let one : length c.put-in-If.new.code.items - c.emitted-end-in-If.result ≡ 1 = omega (arith, emits_length c.in_ok-put-in-If.ensures, c.emitted-end-in-If.ensures) in
     let inner = emits_as c.in_ok-emit_choices-in-If.ensures (ap (λ n. choices_code c.args.slot (choices_of c.as_slice-in-If.result.now) n) one) in
-    let seen : choices_code c.args.slot (choices_of c.as_slice-in-If.result.now) 1 ++ Halt ∷ [] ≡ term_code c.args.slot (term_of c.args.term.now) = search (rules, the_lemmas) in
+    let seen : choices_code c.args.slot (choices_of c.as_slice-in-If.result.now) 1 ++ Halt c.in-If.line ∷ [] ≡ term_code c.args.slot (term_of c.args.term.now) = search (rules, the_lemmas) in
     emits_as (emits_then c.in_ok-put-in-If.ensures inner) seen
 
 pub emit_list-returns-in_ok-emit_storing-in-Plain : goal.emit_list-returns-in_ok-emit_storing-in-Plain
 emit_list-returns-in_ok-emit_storing-in-Plain t c =
-    let seen : storing_code (targets_of c.as_slice.result.now) ++ term_code c.args.slot (term_of c.in-Plain.body) ≡ list_code c.args.slot (reception_of c.args.list.now) = search (rules, the_lemmas) in
+    let seen : storing_code (targets_of c.as_slice.result.now) ++ term_code c.args.slot (term_of c.in-Plain.body) ≡ list_code c.args.slot c.args.line (reception_of c.args.list.now) = search (rules, the_lemmas) in
     emits_as (emits_then c.in_ok-emit_term-in-Plain.ensures c.in_ok-emit_storing-in-Plain.ensures) seen
 
 pub emit_list-returns-in-Tagged : goal.emit_list-returns-in-Tagged
 emit_list-returns-in-Tagged t c =
-    let seen : variants_code c.args.slot (variants_of c.as_slice-in-Tagged.result.now) ≡ list_code c.args.slot (reception_of c.args.list.now) = search (rules, the_lemmas) in
+    let seen : variants_code c.args.slot c.args.line (variants_of c.as_slice-in-Tagged.result.now) ≡ list_code c.args.slot c.args.line (reception_of c.args.list.now) = search (rules, the_lemmas) in
     subst (λ p. AddsPiece c.emit_variants.result c.args.code.now c.emit_variants.new.code p) seen c.emit_variants.ensures
 
 -- ---- lists

@@ -32,11 +32,11 @@ abbrev pub decreases-emit_options-loop-count : goal.decreases-emit_options-loop-
 decreases-emit_options-loop-count l = l.count
 
 abbrev pub invariant-emit_else-loop-option : goal.invariant-emit_else-loop-option
-invariant-emit_else-loop-option l = (l.code.items ≡ l.fn.code.items) × (else_code l.slot (options_of (drop l.option-index l.options)) ≡ else_code l.slot (options_of l.options))
+invariant-emit_else-loop-option l = (l.code.items ≡ l.fn.code.items) × (else_code l.slot l.line (options_of (drop l.option-index l.options)) ≡ else_code l.slot l.line (options_of l.options))
 
 abbrev pub invariant-emit_variants-loop-count : goal.invariant-emit_variants-loop-count
 invariant-emit_variants-loop-count l =
-    (l.count ≤ length l.variants) × (l.end ≡ length l.fn.code.items) × Emits l.fn.code.items (variants_code l.slot (variants_of (drop l.count l.variants))) l.code.items
+    (l.count ≤ length l.variants) × (l.end ≡ length l.fn.code.items) × Emits l.fn.code.items (variants_code l.slot l.line (variants_of (drop l.count l.variants))) l.code.items
 
 abbrev pub decreases-emit_variants-loop-count : goal.decreases-emit_variants-loop-count
 decreases-emit_variants-loop-count l = l.count
