@@ -58,14 +58,14 @@ not_halted (both_go x) = elim x [ ]
 not_done : AtStop W.Ready Done → ⊥
 not_done (both_go x) = elim x [ ]
 
-not_taking : AtStop W.Ready (Taking [] (SkipTaken Stop)) → ⊥
+not_taking : AtStop W.Ready (Taking [] (SkipTaken (Stop 0))) → ⊥
 not_taking (both_go x) = elim x [ ]
 
 -- a term is begun by a task that is ready
 is_ready : {w : Wait} {t : Term} → ProceedsBy w (Do t) → w ≡ W.Ready
 is_ready by_term = refl
 
-not_taken : AtStop (W.Took 10 [] None) (Do Stop) → ⊥
+not_taken : AtStop (W.Took 10 [] None) (Do (Stop 0)) → ⊥
 not_taken (both_go x) = let e = is_ready x in absurd cc
 
 -- what was taken, and with which indices
@@ -142,7 +142,7 @@ either_arm_rows = (meets_skip refl (passes_skip (change_here (arm_skips 0 refl))
 
 -- ---- the code ahead
 
-halts_next : {q : ℕ} {rest : Left} {s s' : Store} → Turn q (left (Taking [] (SkipTaken Stop)) []) s rest s' → rest ≡ left Halted []
+halts_next : {q : ℕ} {rest : Left} {s s' : Store} → Turn q (left (Taking [] (SkipTaken (Stop 0))) []) s rest s' → rest ≡ left Halted []
 halts_next {q = zero} t = elim t [ ]
 halts_next {q = suc q} t = (one_turn _ _ _ _ _ _ _ t (stops (single_turn (more (take_in refl) refl none) stop refl) (inr refl))).0
 
@@ -154,13 +154,13 @@ no_body u p empty m =
     let both : Some goes.0 ≡ None = sym goes.1 ∙ nothing in absurd cc
 
 other_arm : (u : UnfoldedProgram) (p : Program) (b : Body) (t : Task)
-    → slice_get p.bodies 0 ≡ Some b → Stopping b has_taken_skip t → t.wait ≡ W.Done → IsMoment u p (net_of [] (Some has_taken_skip ∷ [])) (alone_at (Taking [] (SkipTaken Stop)) 0) → ⊥
+    → slice_get p.bodies 0 ≡ Some b → Stopping b has_taken_skip t → t.wait ≡ W.Done → IsMoment u p (net_of [] (Some has_taken_skip ∷ [])) (alone_at (Taking [] (SkipTaken (Stop 0))) 0) → ⊥
 other_arm u p b t code turn ends m =
     let few : 1 + 0 < 2 ^ 64 = omega arith in
     let goes = m.ahead 0 _ _ no_processes has_taken_skip 1 here (is_going refl) refl refl few in
     let same : goes.0 ≡ b = one_body (sym goes.1 ∙ code) in
-    let s = store_of (alone_at (Taking [] (SkipTaken Stop)) 0) in
-    let ahead = subst (λ (x : Body). Agrees (declared u) x.cells has_taken_skip.frame s × Alike 1 (declared u) x has_taken_skip (left (Taking [] (SkipTaken Stop)) [])) same (goes.2, goes.3) in
+    let s = store_of (alone_at (Taking [] (SkipTaken (Stop 0))) 0) in
+    let ahead = subst (λ (x : Body). Agrees (declared u) x.cells has_taken_skip.frame s × Alike 1 (declared u) x has_taken_skip (left (Taking [] (SkipTaken (Stop 0))) [])) same (goes.2, goes.3) in
     let y = ahead.1 s ahead.0 in
     let once : y.after ≡ t = stopping_once b has_taken_skip y.after t y.stops turn in
     let x : SameStop (declared u) (Alike 0 (declared u) b) y.after y.rest W.Done = subst (SameStop (declared u) (Alike 0 (declared u) b) y.after y.rest) (ap (λ (z : Task). z.wait) once ∙ ends) y.same in

@@ -23,17 +23,17 @@ size t = length (branches_in t)
 abbrev mutual
   pub Placed : List Numbered → ℕ → ℕ → Term → Type 0
   Placed p lo hi Skip = ⊤
-  Placed p lo hi Stop = ⊤
+  Placed p lo hi (Stop line) = ⊤
   Placed p lo hi (Assign ts vs) = ⊤
   Placed p lo hi (Input c ts) = ⊤
   Placed p lo hi (Output c tag is) = ⊤
   Placed p lo hi (VariantInput c vs) = VariantsPlaced p lo hi vs
   Placed p lo hi (Seq ts) = TermsPlaced p lo hi ts
-  Placed p lo hi (Par bs) = BranchesPlaced p lo hi bs
-  Placed p lo hi (Alt pri arms) = ArmsPlaced p lo hi arms
-  Placed p lo hi (If cs) = ChoicesPlaced p lo hi cs
-  Placed p lo hi (Case e os) = OptionsPlaced p lo hi os
-  Placed p lo hi (While e b) = Placed p lo hi b
+  Placed p lo hi (Par line bs) = BranchesPlaced p lo hi bs
+  Placed p lo hi (Alt line pri arms) = ArmsPlaced p lo hi arms
+  Placed p lo hi (If line cs) = ChoicesPlaced p lo hi cs
+  Placed p lo hi (Case line e os) = OptionsPlaced p lo hi os
+  Placed p lo hi (While line e b) = Placed p lo hi b
   Placed p lo hi (Each r b) = Placed p lo hi b
   Placed p lo hi (Clear first count) = ⊤
   Placed p lo hi (Local first value) = ⊤
@@ -259,9 +259,9 @@ module _ (p : List Numbered) (lo hi : ℕ) where
       (then_any Open (in_store (indices_of over s) s) _ (λ is s'. arms_placed (enabled within) (λ es s''. enabled_placed within es s'' h.0) (index_of over) is ds s'))
       (λ s'. enabled_placed others ds s' h.1)
 
-  choosing_placed : (pri : Bool) (arms : List Enabled) → Open arms → DoingPlaced p lo hi (choosing pri arms)
-  choosing_placed pri [] h = tt
-  choosing_placed pri (a ∷ arms) h = h
+  choosing_placed : (line : ℕ) (pri : Bool) (arms : List Enabled) → Open arms → DoingPlaced p lo hi (choosing line pri arms)
+  choosing_placed line pri [] h = tt
+  choosing_placed line pri (a ∷ arms) h = h
 
   -- ---- loops
 
@@ -281,9 +281,9 @@ module _ (p : List Numbered) (lo hi : ℕ) where
   each_loop_placed : (b : Term) (r : ℕ) (is : Indices) → Placed p lo hi b → LoopPlaced p lo hi (each_loop b r is)
   each_loop_placed b r (indices base count) h = h
 
-  or_stop_placed : (t : Option Term) → Of t → Placed p lo hi (or_stop t)
-  or_stop_placed None h = tt
-  or_stop_placed (Some t) h = h
+  or_stop_placed : (line : ℕ) (t : Option Term) → Of t → Placed p lo hi (or_stop line t)
+  or_stop_placed line None h = tt
+  or_stop_placed line (Some t) h = h
 
   abbrev OfDoing : Evaluated Doing → Type 0
   OfDoing (Value d) = DoingPlaced p lo hi d
@@ -309,15 +309,15 @@ module _ (p : List Numbered) (lo hi : ℕ) where
   step_placed {s = s} (output {c = c} {tag = tag} {is = is} q) h = (subst OfDoing q (offer_placed (span_of c s) (parts_of is s) tag), h.1)
   step_placed {s = s} (input {c = c} {ts = ts} q) h = (subst OfDoing q (await_placed (span_of c s) (Plain ts Skip) tt), h.1)
   step_placed {s = s} (variant {c = c} {vs = vs} q) h = (subst OfDoing q (await_placed (span_of c s) (Tagged vs) h.0), h.1)
-  step_placed {s = s} {s' = s'} (alt {pri = pri} {arms = arms} {open_arms = xs} q) h = (choosing_placed pri xs (given Open (enabled arms [] s) xs s' q (enabled_placed arms [] s h.0)), h.1)
-  step_placed {s = s} {s' = s'} (take_in {again = xs} {what = what} {t = t} q) h = (or_stop_placed t (given Of (taken_by xs what s) t s' q (taking_placed xs what s h.0)), h.1)
+  step_placed {s = s} {s' = s'} (alt {line = line} {pri = pri} {arms = arms} {open_arms = xs} q) h = (choosing_placed line pri xs (given Open (enabled arms [] s) xs s' q (enabled_placed arms [] s h.0)), h.1)
+  step_placed {s = s} {s' = s'} (take_in {again = xs} {what = what} {t = t} q) h = (or_stop_placed 0 t (given Of (taken_by xs what s) t s' q (taking_placed xs what s h.0)), h.1)
   step_placed seq_empty h = (tt, h.1)
   step_placed seq h = (h.0.0, (h.0.1, h.1))
   step_placed drops h = (h.1.0, h.1.1)
   step_placed par_empty h = (tt, h.1)
   step_placed par h = ((h.0, tt), h.1)
-  step_placed {s = s} {s' = s'} (if_step {cs = cs} {t = t} q) h = (or_stop_placed t (given Of (choice_of cs s) t s' q (choice_placed cs s h.0)), h.1)
-  step_placed {s = s} {s' = s'} (case {x = x} {os = os} {t = t} q) h = (or_stop_placed t (given Of (option_of x os s) t s' q (option_placed x os s h.0)), h.1)
+  step_placed {s = s} {s' = s'} (if_step {line = line} {cs = cs} {t = t} q) h = (or_stop_placed line t (given Of (choice_of cs s) t s' q (choice_placed cs s h.0)), h.1)
+  step_placed {s = s} {s' = s'} (case {line = line} {x = x} {os = os} {t = t} q) h = (or_stop_placed line t (given Of (option_of x os s) t s' q (option_placed x os s h.0)), h.1)
   step_placed while h = h
   step_placed (each {r = r} {b = b} {is = is} q) h = (each_loop_placed b (index_of r) is h.0, h.1)
   step_placed {s = s} {s' = s'} (passes_again {l = l} {l' = l'} {b = b} q) h = let x = given OfPass (pass_of l s) (Some (pass b l')) s' q (pass_placed l s h.0) in (x.0, (x.1, h.1))

@@ -69,17 +69,17 @@ module _ (p : List Numbered) where
   mutual
     place : (t : Term) (lo hi a : ℕ) → Room lo hi a (branches_in t) → LawfulTerm t → Placed p lo hi t
     place Skip lo hi a r l = tt
-    place Stop lo hi a r l = tt
+    place (Stop line) lo hi a r l = tt
     place (Assign ts vs) lo hi a r l = tt
     place (Input c ts) lo hi a r l = tt
     place (Output c tag is) lo hi a r l = tt
     place (VariantInput c vs) lo hi a r l = place_variants vs lo hi a r l
     place (Seq ts) lo hi a r l = place_terms ts lo hi a r l
-    place (Par bs) lo hi a r l = place_branches bs lo hi a r l
-    place (Alt pri arms) lo hi a r l = place_arms arms lo hi a r l
-    place (If cs) lo hi a r l = place_choices cs lo hi a r l
-    place (Case e os) lo hi a r l = place_options os lo hi a r l
-    place (While e b) lo hi a r l = place b lo hi a r l
+    place (Par line bs) lo hi a r l = place_branches bs lo hi a r l
+    place (Alt line pri arms) lo hi a r l = place_arms arms lo hi a r l
+    place (If line cs) lo hi a r l = place_choices cs lo hi a r l
+    place (Case line e os) lo hi a r l = place_options os lo hi a r l
+    place (While line e b) lo hi a r l = place b lo hi a r l
     place (Each x b) lo hi a r l = place b lo hi a r l
     place (Clear first count) lo hi a r l = tt
     place (Local first value) lo hi a r l = tt

@@ -37,9 +37,9 @@ SameStopRows =
     AtStop W.Ready (Do Skip)
     × AtStop (W.Offers 3 (whole_number 5)) (Offering 3 (whole_number 5))
     × AtStop (W.Awaits 3) (Awaiting 3 (Plain [] Skip))
-    × AtStop (W.Chooses true (arm 10 (Some 3) ∷ arm 20 None ∷ [])) (Choosing true (taking_in 3 ∷ SkipArm [] Stop ∷ []))
+    × AtStop (W.Chooses true (arm 10 (Some 3) ∷ arm 20 None ∷ [])) (Choosing true (taking_in 3 ∷ SkipArm [] (Stop 0) ∷ []))
     × AtFork (4 ∷ []) (one_branch 4)
-    × AtStop (W.Took 10 [] None) (Taking [] (SkipTaken Stop))
+    × AtStop (W.Took 10 [] None) (Taking [] (SkipTaken (Stop 0)))
     × AtStop (W.Took 20 (pos 2 ∷ []) (Some (whole_number 5))) (Taking (IndexTo 7 (pos 2) ∷ []) (MessageTaken (Plain [] Skip) (whole_number 5)))
 
 -- another channel, another message, other arms, other branches, another end; something else that was taken
@@ -51,7 +51,7 @@ OtherStopRows =
     × (AtStop (W.Chooses true (arm 10 (Some 3) ∷ [])) (Choosing false (taking_in 3 ∷ [])) → ⊥)
     × (AtStop (W.Chooses true (arm 10 (Some 3) ∷ [])) (Choosing true (taking_in 4 ∷ [])) → ⊥)
     × (AtStop (W.Chooses true (arm 10 None ∷ [])) (Choosing true (taking_in 3 ∷ [])) → ⊥)
-    × (AtStop (W.Chooses true (arm 10 (Some 3) ∷ [])) (Choosing true (taking_in 3 ∷ SkipArm [] Stop ∷ [])) → ⊥)
+    × (AtStop (W.Chooses true (arm 10 (Some 3) ∷ [])) (Choosing true (taking_in 3 ∷ SkipArm [] (Stop 0) ∷ [])) → ⊥)
     × (AtStop (W.Chooses true (arm 10 (Some 3) ∷ arm 20 None ∷ [])) (Choosing true (taking_in 3 ∷ [])) → ⊥)
     × (AtFork (5 ∷ []) (one_branch 4) → ⊥)
     × (AtFork (4 ∷ []) no_processes → ⊥)
@@ -59,11 +59,11 @@ OtherStopRows =
     × (AtStop (W.Faulted (fault Arith 4)) (Faulted (fault Arith 5)) → ⊥)
     × (AtStop W.Done Halted → ⊥)
     × (AtStop W.Ready Done → ⊥)
-    × (AtStop W.Ready (Taking [] (SkipTaken Stop)) → ⊥)
-    × (AtStop (W.Took 10 [] None) (Do Stop) → ⊥)
+    × (AtStop W.Ready (Taking [] (SkipTaken (Stop 0))) → ⊥)
+    × (AtStop (W.Took 10 [] None) (Do (Stop 0)) → ⊥)
     × (AtStop (W.Took 10 [] None) (Taking [] (MessageTaken (Plain [] Skip) (whole_number 5))) → ⊥)
     × (AtStop (W.Took 20 [] (Some (whole_number 6))) (Taking [] (MessageTaken (Plain [] Skip) (whole_number 5))) → ⊥)
-    × (AtStop (W.Took 20 (pos 3 ∷ []) None) (Taking (IndexTo 7 (pos 2) ∷ []) (SkipTaken Stop)) → ⊥)
+    × (AtStop (W.Took 20 (pos 3 ∷ []) None) (Taking (IndexTo 7 (pos 2) ∷ []) (SkipTaken (Stop 0))) → ⊥)
 
 -- a process without a task, and a task that is not done and has no process
 abbrev pub MissingRows : Type 0
@@ -95,12 +95,12 @@ OtherStoreRows =
     × ((u : UnfoldedProgram) (p : Program) → IsMoment u p (net_of [] (task 0 W.Ready ∷ [])) (alone_at (Offering 3 (whole_number 5)) 0) → ⊥)
 
 abbrev pub two_skips : List Enabled
-two_skips = SkipArm [] Stop ∷ SkipArm [] Skip ∷ []
+two_skips = SkipArm [] (Stop 0) ∷ SkipArm [] Skip ∷ []
 
 -- After one turn, with one event, a run may take either of two arms with SKIP: the events alone do not say which run it is.
 abbrev pub EitherArmRows : Type 0
 EitherArmRows =
-    MeetsAtMost on_fault.Halt 0 (alone_at (Choosing false two_skips) 0) None (alone_at (Taking [] (SkipTaken Stop)) 0)
+    MeetsAtMost on_fault.Halt 0 (alone_at (Choosing false two_skips) 0) None (alone_at (Taking [] (SkipTaken (Stop 0))) 0)
     × MeetsAtMost on_fault.Halt 0 (alone_at (Choosing false two_skips) 0) None (alone_at (Taking [] (SkipTaken Skip)) 0)
 
 -- a task that has taken an arm with SKIP
@@ -114,4 +114,4 @@ OtherArmRows =
     ((u : UnfoldedProgram) (p : Program) → p.bodies ≡ [] → IsMoment u p (net_of [] (Some has_taken_skip ∷ [])) (alone_at (Taking [] (SkipTaken Skip)) 0) → ⊥)
     × ((u : UnfoldedProgram) (p : Program) (b : Body) (t : Task)
     → slice_get p.bodies 0 ≡ Some b → Stopping b has_taken_skip t → t.wait ≡ W.Done
-    → IsMoment u p (net_of [] (Some has_taken_skip ∷ [])) (alone_at (Taking [] (SkipTaken Stop)) 0) → ⊥)
+    → IsMoment u p (net_of [] (Some has_taken_skip ∷ [])) (alone_at (Taking [] (SkipTaken (Stop 0))) 0) → ⊥)
