@@ -15,9 +15,10 @@ use Rattle.occ_net_tables.specs.declared.tables.Tables.{Tables}
 
 -- A loop of a code jumps back from one place, its condition is the constant TRUE, and its body has the other place.
 pub record IsEndlessLoop (code : List (Instr ℕ)) (place last : ℕ) : Type 0 where
+  pub line : ℕ
   pub back : ℕ
   pub skip : ℕ
-  pub jumps : slice_get code last ≡ Some (LoopBack back)
+  pub jumps : slice_get code last ≡ Some (LoopBack line back)
   pub condition : slice_get code (last - back) ≡ Some (Push (pos 1))
   pub chooses : slice_get code (last - back + 1) ≡ Some (Choose skip)
   pub behind : last - back < place

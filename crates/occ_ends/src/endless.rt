@@ -33,11 +33,11 @@ fn chooses(instr: &Instr<Slot>) -> bool
 
 /// How far an instruction jumps back at the end of a loop's body.
 fn jumps_back(instr: &Instr<Slot>) -> Option<usize>
-    ensures some { IfSome result (λ back. instr.now ≡ LoopBack back) }
-    ensures none { IfNone result ((back : ℕ) → instr.now ≡ LoopBack back → ⊥) }
+    ensures some { IfSome result (λ back. (line : ℕ) × (instr.now ≡ LoopBack line back)) }
+    ensures none { IfNone result ((line back : ℕ) → instr.now ≡ LoopBack line back → ⊥) }
 {
     match instr {
-        Instr::LoopBack(back) => Some(*back),
+        Instr::LoopBack(_, back) => Some(*back),
         _ => None,
     }
 }

@@ -65,17 +65,17 @@ fn add_branches(alloc: Global, term: &Term, list: &mut Vec<ProcessUses>) -> Resu
 {
     match term {
         Term::Skip => Ok(()),
-        Term::Stop => Ok(()),
+        Term::Stop(_) => Ok(()),
         Term::Assign(_, _) => Ok(()),
         Term::Input(_, _) => Ok(()),
         Term::Output(_, _, _) => Ok(()),
         Term::VariantInput(_, variants) => { add_in_variants(alloc, variants.as_slice(), list) }
         Term::Seq(parts) => add_in_terms(alloc, parts.as_slice(), list),
-        Term::Par(branches) => add_each(alloc, branches.as_slice(), list),
-        Term::Alt(_, arms) => add_in_arms(alloc, arms.as_slice(), list),
-        Term::If(choices) => add_in_choices(alloc, choices.as_slice(), list),
-        Term::Case(_, options) => add_in_options(alloc, options.as_slice(), list),
-        Term::While(_, body) => add_branches(alloc, body.get(), list),
+        Term::Par(_, branches) => add_each(alloc, branches.as_slice(), list),
+        Term::Alt(_, _, arms) => add_in_arms(alloc, arms.as_slice(), list),
+        Term::If(_, choices) => add_in_choices(alloc, choices.as_slice(), list),
+        Term::Case(_, _, options) => add_in_options(alloc, options.as_slice(), list),
+        Term::While(_, _, body) => add_branches(alloc, body.get(), list),
         Term::Each(_, body) => add_branches(alloc, body.get(), list),
         Term::Clear(_, _, _) => Ok(()),
         Term::Local(_, _, _) => Ok(()),

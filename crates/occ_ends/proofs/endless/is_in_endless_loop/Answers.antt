@@ -8,5 +8,5 @@ loop-last-preserved c = below_more _ _ c.loop-last.invariant (c.is_endless_loop.
 
 pub returns-clause-no : goal.returns-clause-no
 returns-clause-no c = λ none x.
-    let inside = get_inside c.args.code.now x.0 (LoopBack x.1.back) x.1.jumps in
+    let inside = get_inside c.args.code.now x.0 (LoopBack x.1.line x.1.back) x.1.jumps in
     c.loop-last.invariant x.0 (omega (arith, inside, c.loop-last-test.false)) x.1
