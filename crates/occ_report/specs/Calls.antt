@@ -66,12 +66,12 @@ lines_of_calls calls (n ∷ ns) = text_of_call (call_at calls n) ++ lines_of_cal
 abbrev pub is_last : Instr ℕ → Bool
 is_last StoreParts = true
 is_last (StoreOne cell) = true
-is_last (Send tag) = true
-is_last Receive = true
-is_last (ChooseArm pri back) = true
-is_last (Fork branches) = true
-is_last (LoopBack back) = true
-is_last Halt = true
+is_last (Send line tag) = true
+is_last (Receive line) = true
+is_last (ChooseArm line pri back) = true
+is_last (Fork line branches) = true
+is_last (LoopBack line back) = true
+is_last (Halt line) = true
 is_last instruction = false
 
 abbrev pub parts_done : List (Instr ℕ) → ℕ

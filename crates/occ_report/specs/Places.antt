@@ -29,16 +29,16 @@ pub record Known : Type 0 where
 
 -- Where a process goes on that has stopped at an instruction of this place, if what stands in the source can be this instruction.
 abbrev pub next_place : Kind → Instr ℕ → ℕ → Option ℕ
-next_place kinds.Output (Send tag) p = Some (p + 1)
-next_place kinds.Input Receive p = Some (p + 1)
-next_place kinds.Alt (ChooseArm pri back) p = Some (p - back)
+next_place kinds.Output (Send line tag) p = Some (p + 1)
+next_place kinds.Input (Receive line) p = Some (p + 1)
+next_place kinds.Alt (ChooseArm line pri back) p = Some (p - back)
 next_place kinds.Arm (OpenInput number) p = Some (p + 1)
-next_place kinds.Par (Fork branches) p = Some (p + 1)
-next_place kinds.Loop (LoopBack back) p = Some (p - back)
-next_place kinds.Stop Halt p = Some p
-next_place kinds.If Halt p = Some p
-next_place kinds.Case Halt p = Some p
-next_place kinds.Variants Halt p = Some p
+next_place kinds.Par (Fork line branches) p = Some (p + 1)
+next_place kinds.Loop (LoopBack line back) p = Some (p - back)
+next_place kinds.Stop (Halt line) p = Some p
+next_place kinds.If (Halt line) p = Some p
+next_place kinds.Case (Halt line) p = Some p
+next_place kinds.Variants (Halt line) p = Some p
 next_place kind instruction p = None
 
 -- Whether a line with this word may have what stands in the source.
@@ -99,13 +99,13 @@ IsNameOf lines proc = (proc ≡ []) ⊎ IsProcOf lines proc
 
 -- whether a process stops at an instruction, but for its end, or opens an arm that inputs
 abbrev pub is_stop : Instr ℕ → Bool
-is_stop (Send tag) = true
-is_stop Receive = true
+is_stop (Send line tag) = true
+is_stop (Receive line) = true
 is_stop (OpenInput number) = true
-is_stop (ChooseArm pri back) = true
-is_stop (Fork branches) = true
-is_stop (LoopBack back) = true
-is_stop Halt = true
+is_stop (ChooseArm line pri back) = true
+is_stop (Fork line branches) = true
+is_stop (LoopBack line back) = true
+is_stop (Halt line) = true
 is_stop instruction = false
 
 -- the places of these in a code that begins at a place

@@ -92,7 +92,7 @@ pub(crate) fn stops_in(
 pub(crate) fn forks_in(code: &[Instr<Slot>]) -> usize {
     let mut forks: usize = 0;
     for instruction in code {
-        if let Instr::Fork(_) = instruction {
+        if let Instr::Fork(_, _) = instruction {
             forks = forks.saturating_add(1);
         }
     }

@@ -153,12 +153,12 @@ fn is_last(instruction: &Instr<Slot>) -> bool
         instruction,
         Instr::StoreParts
             | Instr::StoreOne(_)
-            | Instr::Send(_)
-            | Instr::Receive
-            | Instr::ChooseArm(_, _)
-            | Instr::Fork(_)
-            | Instr::LoopBack(_)
-            | Instr::Halt
+            | Instr::Send(_, _)
+            | Instr::Receive(_)
+            | Instr::ChooseArm(_, _, _)
+            | Instr::Fork(_, _)
+            | Instr::LoopBack(_, _)
+            | Instr::Halt(_)
     )
 }
 

@@ -127,7 +127,7 @@ fn begin_all<'t>(
     marks: &[Mark<'t>],
 ) {
     for (stop, mark) in stops.iter().zip(marks) {
-        if let Some(Instr::Fork(numbers)) = code.get(stop.place as usize) {
+        if let Some(Instr::Fork(_, numbers)) = code.get(stop.place as usize) {
             begin_branches(starts, numbers.as_slice(), mark, parent);
         }
     }

@@ -162,13 +162,13 @@ pub(crate) fn next_place(kind: Kind, instruction: &Instr<Slot>, place: u32) -> O
     ensures { IfSome result (λ next. next_place kind instruction.now place ≡ Some next) }
 {
     match (kind, instruction) {
-        (Kind::Output, Instr::Send(_)) => behind(place),
-        (Kind::Input, Instr::Receive) => behind(place),
-        (Kind::Alt, Instr::ChooseArm(_, back)) => before(place, *back),
+        (Kind::Output, Instr::Send(_, _)) => behind(place),
+        (Kind::Input, Instr::Receive(_)) => behind(place),
+        (Kind::Alt, Instr::ChooseArm(_, _, back)) => before(place, *back),
         (Kind::Arm, Instr::OpenInput(_)) => behind(place),
-        (Kind::Par, Instr::Fork(_)) => behind(place),
-        (Kind::Loop, Instr::LoopBack(back)) => before(place, *back),
-        (Kind::Stop | Kind::If | Kind::Case | Kind::Variants, Instr::Halt) => Some(place),
+        (Kind::Par, Instr::Fork(_, _)) => behind(place),
+        (Kind::Loop, Instr::LoopBack(_, back)) => before(place, *back),
+        (Kind::Stop | Kind::If | Kind::Case | Kind::Variants, Instr::Halt(_)) => Some(place),
         _ => None,
     }
 }
@@ -179,12 +179,12 @@ pub(crate) fn is_stop(instruction: &Instr<Slot>) -> bool
 {
     matches!(
         instruction,
-        Instr::Send(_)
-            | Instr::Receive
+        Instr::Send(_, _)
+            | Instr::Receive(_)
             | Instr::OpenInput(_)
-            | Instr::ChooseArm(_, _)
-            | Instr::Fork(_)
-            | Instr::LoopBack(_)
-            | Instr::Halt
+            | Instr::ChooseArm(_, _, _)
+            | Instr::Fork(_, _)
+            | Instr::LoopBack(_, _)
+            | Instr::Halt(_)
     )
 }

@@ -22,13 +22,13 @@ fn stops_in(code: &[Instr<Slot>]) -> usize {
     for instruction in code {
         if matches!(
             instruction,
-            Instr::Send(_)
-                | Instr::Receive
+            Instr::Send(_, _)
+                | Instr::Receive(_)
                 | Instr::OpenInput(_)
-                | Instr::ChooseArm(_, _)
-                | Instr::Fork(_)
-                | Instr::LoopBack(_)
-                | Instr::Halt
+                | Instr::ChooseArm(_, _, _)
+                | Instr::Fork(_, _)
+                | Instr::LoopBack(_, _)
+                | Instr::Halt(_)
         ) {
             stops = stops.saturating_add(1);
         }
