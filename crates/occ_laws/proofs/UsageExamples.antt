@@ -15,7 +15,7 @@ lawful_a = record {
   beside_error = record { first_writes = λ c x y. cc; second_writes = λ c x y. cc; inputs = λ c x y. cc; outputs = λ c x y. cc };
 }
 
-lawful_three : Lawful (Par (three true))
+lawful_three : Lawful (Par 2 (three true))
 lawful_three = record {
   branches = (tt, (record { first_writes = λ c x y. grind arith; second_writes = λ c x y. grind arith; inputs = λ c x y. grind arith; outputs = λ c x y. grind arith }, (record { first_writes = λ c x y. grind arith; second_writes = λ c x y. grind arith; inputs = λ c x y. grind arith; outputs = λ c x y. grind arith }, tt)), (tt, (record { first_writes = λ c x y. grind arith; second_writes = λ c x y. grind arith; inputs = λ c x y. grind arith; outputs = λ c x y. grind arith }, tt), ((tt, (((tt, (tt, tt)), (tt, tt)), tt)), tt, tt)));
   beside_keyboard = record { first_writes = λ c x y. grind arith; second_writes = λ c x y. grind arith; inputs = λ c x y. grind arith; outputs = λ c x y. grind arith };

@@ -55,7 +55,7 @@ second_first = fault Arith 5 ∷ fault Arith 4 ∷ []
 
 abbrev pub StopsBoth : Type 0
 StopsBoth =
-    Run on_fault.Stop 1 (start (Par both_divide) []) (event 0 None ∷ event 2 None ∷ event 1 None ∷ []) (both_faulted second_first)
+    Run on_fault.Stop 1 (start (Par 3 both_divide) []) (event 0 None ∷ event 2 None ∷ event 1 None ∷ []) (both_faulted second_first)
     × EndsBy on_fault.Stop (both_faulted second_first) (StoppedBy (fault Arith 5))
 
 -- `5::buf` of four components: a fault at the output.
@@ -76,7 +76,7 @@ abbrev pub faulting : Term
 faulting =
     in_order (
     Clear 0 1
-    ∷ Par (and_branch 1 (Assign (into 4 0 ∷ []) (one_int (Binary Divide Int 4 (number (pos 1)) (Cell 0))))
+    ∷ Par 3 (and_branch 1 (Assign (into 4 0 ∷ []) (one_int (Binary Divide Int 4 (number (pos 1)) (Cell 0))))
     (and_branch 2 (shows 5 (number (pos 97))) no_branches))
     ∷ [])
 
@@ -127,7 +127,7 @@ NoBytePlays = Plays no_byte [] no_byte_events (FaultEnds (fault Convert 2))
 
 -- A negative count is a fault.
 abbrev pub negative_count : Term
-negative_count = in_order (Clear 0 1 ∷ in_order (Assign (into 4 0 ∷ []) (one_int (minus_one 4)) ∷ Each (replicator 5 1 (number (pos 0)) (Cell 0)) Stop ∷ []) ∷ [])
+negative_count = in_order (Clear 0 1 ∷ in_order (Assign (into 4 0 ∷ []) (one_int (minus_one 4)) ∷ Each (replicator 5 1 (number (pos 0)) (Cell 0)) (Stop 6) ∷ []) ∷ [])
 
 abbrev pub negative_count_events : List Event
 negative_count_events =

@@ -32,7 +32,7 @@ abbrev pub both_arms : Arms
 both_arms = input_arm (Some (number (pos 1))) (single 9 3) into_x (input_arm None (single 11 4) into_x no_arms)
 
 abbrev pub chooser : Bool → Term
-chooser pri = Seq (then_term (Clear 0 1) (then_term (Seq (then_term (Alt pri both_arms) (then_term writes_x no_terms))) no_terms))
+chooser pri = Seq (then_term (Clear 0 1) (then_term (Seq (then_term (Alt 8 pri both_arms) (then_term writes_x no_terms))) no_terms))
 
 abbrev pub three : Bool → Branches
 three pri = and_branch 1 (sends 3 (pos 1)) (and_branch 2 (sends 4 (pos 2)) (and_branch 3 (chooser pri) no_branches))
@@ -49,7 +49,7 @@ events_of_three n c v =
     ∷ event n None ∷ event 3 (Some (to_screen 3 (byte_message (v +ℤ pos 48)))) ∷ event 3 None ∷ []
 
 abbrev pub RunsTo : Bool → ℕ → ℕ → ℤ → Type 0
-RunsTo pri n c v = (b : System) × Run on_fault.Halt 1 (start (Par (three pri)) []) (events_of_three n c v) b
+RunsTo pri n c v = (b : System) × Run on_fault.Halt 1 (start (Par 2 (three pri)) []) (events_of_three n c v) b
 
 abbrev pub ThreeRun : Type 0
 ThreeRun = RunsTo true 1 3 (pos 1) × RunsTo false 1 3 (pos 1) × RunsTo false 2 4 (pos 2)
@@ -59,7 +59,7 @@ ThreeRun = RunsTo true 1 3 (pos 1) × RunsTo false 1 3 (pos 1) × RunsTo false 2
 abbrev pub LaterOffer : Type 0
 LaterOffer =
     (b : System)
-    × Run on_fault.Halt 1 (start (Par (three true)) [])
+    × Run on_fault.Halt 1 (start (Par 2 (three true)) [])
     (event 0 None ∷ event 3 None ∷ event 2 (Some (communication 4 (OfProcess 2) (OfProcess 3) (int_message (pos 2)))) ∷ []) b
 
 -- ---- PAR SKIP SKIP: the parent goes on when both branches have ended, and not before
@@ -76,7 +76,7 @@ one_ended =
 
 abbrev pub Joins : Type 0
 Joins =
-    Run on_fault.Halt 1 (start (Par two_skips) []) (event 0 None ∷ event 1 None ∷ []) one_ended
+    Run on_fault.Halt 1 (start (Par 1 two_skips) []) (event 0 None ∷ event 1 None ∷ []) one_ended
     × ((b : System) → SystemTurn on_fault.Halt 1 0 one_ended b → ⊥)
     × ((b : System) × Run on_fault.Halt 1 one_ended (event 2 None ∷ event 0 None ∷ []) b × EndsBy on_fault.Halt b Ended)
 
@@ -100,8 +100,8 @@ three_copies = and_branch 3 (passes_on 0 0) (and_branch 4 (passes_on 1 1) (and_b
 
 abbrev pub pipeline : Term
 pipeline =
-    Par (and_branch 1 (Output (component 4 3 4 0) None (one_int (number (pos 1))))
-    (and_branch 2 (Par three_copies)
+    Par 3 (and_branch 1 (Output (component 4 3 4 0) None (one_int (number (pos 1))))
+    (and_branch 2 (Par 7 three_copies)
     (and_branch 6 writes_last no_branches)))
 
 abbrev pub pipeline_events : List Event
@@ -143,8 +143,8 @@ merge =
     ∷ Clear 2 1
     ∷ in_order (
     Assign (into 5 2 ∷ []) (one_int (number (pos 0)))
-    ∷ While (Binary Less Int 6 (Cell 2) (number (pos 2)))
-    (in_order (Par two_counts ∷ Assign (into 11 2 ∷ []) (one_int (plus 11 (Cell 2) (number (pos 1)))) ∷ []))
+    ∷ While 6 (Binary Less Int 6 (Cell 2) (number (pos 2)))
+    (in_order (Par 8 two_counts ∷ Assign (into 11 2 ∷ []) (one_int (plus 11 (Cell 2) (number (pos 1)))) ∷ []))
     ∷ shows_digit 12 (plus 12 (Component (component 12 0 2 0)) (Component (component 12 0 2 1)))
     ∷ [])
     ∷ [])
@@ -176,7 +176,7 @@ takes_data line = VariantInput (single line 3) (or_variant 0 [] (into line 0 ∷
 
 abbrev pub tagged : Term
 tagged =
-    Par (and_branch 1 sends_both
+    Par 9 (and_branch 1 sends_both
     (and_branch 2 (in_order (Clear 0 1 ∷ in_order (takes_data 14 ∷ shows_digit 15 (Cell 0) ∷ takes_data 16 ∷ []) ∷ []))
     no_branches))
 
@@ -212,7 +212,7 @@ abbrev pub sends_counted : ℕ → Term
 sends_counted n =
     in_order (
     Clear 0 4
-    ∷ Par (and_branch 1 (Output (single 5 3) None (OfCounted Byte 5 (number (pos n)) (Cells (place 5 0 (4 ∷ []) no_subscripts)) ∷ []))
+    ∷ Par 4 (and_branch 1 (Output (single 5 3) None (OfCounted Byte 5 (number (pos n)) (Cells (place 5 0 (4 ∷ []) no_subscripts)) ∷ []))
     (and_branch 2 takes_counted no_branches))
     ∷ [])
 
@@ -255,7 +255,7 @@ EchoPlays = Plays echo (104 ∷ 105 ∷ []) echo_events Stopped
 
 -- Two branches that read one variable.
 abbrev pub readers : Term
-readers = in_order (Clear 0 1 ∷ Clear 1 1 ∷ Clear 2 1 ∷ Par (and_branch 1 (Assign (into 4 1 ∷ []) (one_int (Cell 0))) (and_branch 2 (Assign (into 5 2 ∷ []) (one_int (Cell 0))) no_branches)) ∷ [])
+readers = in_order (Clear 0 1 ∷ Clear 1 1 ∷ Clear 2 1 ∷ Par 3 (and_branch 1 (Assign (into 4 1 ∷ []) (one_int (Cell 0))) (and_branch 2 (Assign (into 5 2 ∷ []) (one_int (Cell 0))) no_branches)) ∷ [])
 
 abbrev pub readers_events : List Event
 readers_events =
@@ -270,7 +270,7 @@ ReadersPlays = Plays readers [] readers_events Ended
 
 -- Two branches, each with a component of its own.
 abbrev pub both_counted : Term
-both_counted = in_order (Clear 0 2 ∷ Par (and_branch 1 (adds_to 2 0 (number (pos 1))) (and_branch 2 (adds_to 2 1 (number (pos 1))) no_branches)) ∷ [])
+both_counted = in_order (Clear 0 2 ∷ Par 1 (and_branch 1 (adds_to 2 0 (number (pos 1))) (and_branch 2 (adds_to 2 1 (number (pos 1))) no_branches)) ∷ [])
 
 abbrev pub both_counted_events : List Event
 both_counted_events =

@@ -25,12 +25,12 @@ halted_in s = system [] (process 0 (left Halted []) no_processes) s []
 -- an ALT whose arms are closed has set their declarations, and then behaves like STOP
 abbrev pub Halts : Type 0
 Halts =
-    Run on_fault.Halt 1 (start (Alt true closed_arms) []) (event 0 None ∷ []) (halted_in (store_with zeros 7 (pos 9)))
+    Run on_fault.Halt 1 (start (Alt 1 true closed_arms) []) (event 0 None ∷ []) (halted_in (store_with zeros 7 (pos 9)))
     × EndsBy on_fault.Halt (halted_in (store_with zeros 7 (pos 9))) Stopped
 
 -- IF without a true choice behaves like STOP.
 abbrev pub no_choice : Term
-no_choice = If (or_choice (number (pos 0)) Skip no_choices)
+no_choice = If 1 (or_choice (number (pos 0)) Skip no_choices)
 
 abbrev pub no_choice_events : List Event
 no_choice_events =
@@ -42,7 +42,7 @@ NoChoicePlays = Plays no_choice [] no_choice_events Stopped
 
 -- CASE without the selector's value behaves like STOP.
 abbrev pub no_option : Term
-no_option = Case (number (pos 3)) (or_option (pos 1 ∷ []) [] Skip no_options)
+no_option = Case 1 (number (pos 3)) (or_option (pos 1 ∷ []) [] Skip no_options)
 
 abbrev pub no_option_events : List Event
 no_option_events =
@@ -54,7 +54,7 @@ NoOptionPlays = Plays no_option [] no_option_events Stopped
 
 -- A line feed, and then STOP.
 abbrev pub line_then_stop : Term
-line_then_stop = in_order (shows 3 (number (pos 10)) ∷ Stop ∷ [])
+line_then_stop = in_order (shows 3 (number (pos 10)) ∷ Stop 4 ∷ [])
 
 abbrev pub line_then_stop_events : List Event
 line_then_stop_events =
@@ -67,7 +67,7 @@ LineThenStopPlays = Plays line_then_stop [] line_then_stop_events Stopped
 
 -- A loop that never ends goes on after ten turns.
 abbrev pub for_ever : Term
-for_ever = While (number (pos 1)) Skip
+for_ever = While 1 (number (pos 1)) Skip
 
 abbrev pub for_ever_events : List Event
 for_ever_events =
@@ -88,7 +88,7 @@ ForEverPlays = Plays for_ever [] for_ever_events Limit
 
 -- A replicated SEQ of no values.
 abbrev pub no_time : Term
-no_time = in_order (Clear 0 1 ∷ in_order (Assign (into 4 0 ∷ []) (one_int (number (pos 0))) ∷ Each (replicator 5 1 (number (pos 0)) (Cell 0)) Stop ∷ []) ∷ [])
+no_time = in_order (Clear 0 1 ∷ in_order (Assign (into 4 0 ∷ []) (one_int (number (pos 0))) ∷ Each (replicator 5 1 (number (pos 0)) (Cell 0)) (Stop 6) ∷ []) ∷ [])
 
 abbrev pub no_time_events : List Event
 no_time_events =
@@ -113,7 +113,7 @@ OwnVariablePlays = Plays own_variable [] own_variable_events Ended
 
 -- The first true choice of a replicated IF.
 abbrev pub third_choice : Term
-third_choice = in_order (Clear 0 1 ∷ in_order (Assign (into 4 0 ∷ []) (one_int (number (pos 3))) ∷ If (each_choice (replicator 5 1 (number (pos 0)) (Cell 0)) (or_choice (Binary Equal Int 6 (Cell 1) (number (pos 2))) (shows_digit 7 (Cell 1)) no_choices) no_choices) ∷ []) ∷ [])
+third_choice = in_order (Clear 0 1 ∷ in_order (Assign (into 4 0 ∷ []) (one_int (number (pos 3))) ∷ If 5 (each_choice (replicator 5 1 (number (pos 0)) (Cell 0)) (or_choice (Binary Equal Int 6 (Cell 1) (number (pos 2))) (shows_digit 7 (Cell 1)) no_choices) no_choices) ∷ []) ∷ [])
 
 abbrev pub third_choice_events : List Event
 third_choice_events =

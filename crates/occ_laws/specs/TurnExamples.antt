@@ -42,7 +42,7 @@ turns_for_ever = WhileLoop (number (pos 1)) Skip
 
 abbrev pub LongTurns : Type 0
 LongTurns =
-    Run on_fault.Halt 4 (start (While (number (pos 1)) Skip) []) (event 0 None ∷ [])
+    Run on_fault.Halt 4 (start (While 1 (number (pos 1)) Skip) []) (event 0 None ∷ [])
     (system [] (process 0 (left (Again turns_for_ever) []) no_processes) (λ c. pos 0) [])
 
 -- ---- SEQ i = 0 FOR 2 SKIP: the loop stands at the end of each body, the last one too

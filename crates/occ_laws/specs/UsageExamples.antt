@@ -42,11 +42,11 @@ UseRows =
     × (cell_in 6 (declared (Naming 5 two_of_three) zeros) ≡ pos 8)
     × (cell_in 7 (declared (Naming 5 two_of_three) zeros) ≡ pos 0)
     × ((size_of (Each two_values Skip)).nodes ≡ 4)
-    × ((size_of (If (each_choice two_values no_choices no_choices))).nodes ≡ 3)
-    × ((size_of (Alt false (each_arm two_values no_arms no_arms))).depth ≡ 2)
-    × ((size_of (Alt false (input_arm None (single 3 3) (Plain [] Skip) no_arms))).nodes ≡ 3)
-    × ((size_of (Alt false (input_arm (Some (number (pos 1))) (single 3 3) (Plain [] Skip) no_arms))).nodes ≡ 4)
-    × ((size_of (Case (number (pos 1)) (or_option (pos 1 ∷ pos 2 ∷ []) [] Skip no_options))).nodes ≡ 6)
+    × ((size_of (If 2 (each_choice two_values no_choices no_choices))).nodes ≡ 3)
+    × ((size_of (Alt 2 false (each_arm two_values no_arms no_arms))).depth ≡ 2)
+    × ((size_of (Alt 2 false (input_arm None (single 3 3) (Plain [] Skip) no_arms))).nodes ≡ 3)
+    × ((size_of (Alt 2 false (input_arm (Some (number (pos 1))) (single 3 3) (Plain [] Skip) no_arms))).nodes ≡ 4)
+    × ((size_of (Case 1 (number (pos 1)) (or_option (pos 1 ∷ pos 2 ∷ []) [] Skip no_options))).nodes ≡ 6)
     × ((size_of (Input (single 1 3) count_and_two)).nodes ≡ 2)
 
 -- ---- what is not lawful: a shared variable, two outputs on a channel, an input from the screen
@@ -55,7 +55,7 @@ abbrev pub sets : ℕ → Term
 sets c = Assign (Into (single 4 c) ∷ []) (OfOne Int (number (pos 1)) ∷ [])
 
 abbrev pub beside_each_other : Term → Term → Term
-beside_each_other a b = Par (and_branch 1 a (and_branch 2 b no_branches))
+beside_each_other a b = Par 1 (and_branch 1 a (and_branch 2 b no_branches))
 
 abbrev pub Unlawful : Type 0
 Unlawful =
@@ -68,15 +68,15 @@ Unlawful =
 
 abbrev pub reading_terms : List Term
 reading_terms =
-    While (Cell 0) Skip
+    While 1 (Cell 0) Skip
     ∷ Each (replicator 2 9 (Cell 0) (number (pos 1))) Skip
     ∷ Each (replicator 2 9 (number (pos 1)) (Cell 0)) Skip
-    ∷ Case (Cell 0) no_options
-    ∷ If (or_choice (Cell 0) Skip no_choices)
-    ∷ If (each_choice (replicator 2 9 (number (pos 1)) (Cell 0)) no_choices no_choices)
-    ∷ Alt false (skip_arm (Cell 0) Skip no_arms)
-    ∷ Alt false (input_arm (Some (Cell 0)) (single 3 3) (Plain [] Skip) no_arms)
-    ∷ Alt false (each_arm (replicator 2 9 (Cell 0) (number (pos 1))) no_arms no_arms)
+    ∷ Case 1 (Cell 0) no_options
+    ∷ If 1 (or_choice (Cell 0) Skip no_choices)
+    ∷ If 2 (each_choice (replicator 2 9 (number (pos 1)) (Cell 0)) no_choices no_choices)
+    ∷ Alt 1 false (skip_arm (Cell 0) Skip no_arms)
+    ∷ Alt 1 false (input_arm (Some (Cell 0)) (single 3 3) (Plain [] Skip) no_arms)
+    ∷ Alt 2 false (each_arm (replicator 2 9 (Cell 0) (number (pos 1))) no_arms no_arms)
     ∷ Output (single 4 1) None (OfOne Int (Cell 0) ∷ [])
     ∷ Output (place 4 3 (2 ∷ []) (then_subscript (Cell 0) no_subscripts)) None []
     ∷ Input (place 4 3 (2 ∷ []) (then_subscript (Cell 0) no_subscripts)) []
@@ -96,4 +96,4 @@ ReadsClash = NoneBeside (sets 0) reading_terms
 
 -- what lawfulness accepts
 abbrev pub Accepts : Type 0
-Accepts = Lawful writes_a × Lawful (beside_each_other (sets 0) (sets 1)) × Lawful (Par (three true))
+Accepts = Lawful writes_a × Lawful (beside_each_other (sets 0) (sets 1)) × Lawful (Par 2 (three true))
