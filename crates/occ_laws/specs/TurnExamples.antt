@@ -82,7 +82,7 @@ abbrev pub LetterEnds : Type 0
 LetterEnds = RunsAs (writes 2 65) (shows 65 ∷ alone ∷ []) (65 ∷ []) Ended
 
 abbrev pub StopStops : Type 0
-StopStops = RunsAs Stop (alone ∷ []) [] Stopped
+StopStops = RunsAs (Stop 2) (alone ∷ []) [] Stopped
 
 -- SEQ of screen ! 'A' and screen ! 'B'
 abbrev pub TwoLetters : Type 0
